@@ -1,0 +1,216 @@
+-- Sections of small units, read by the grammar, and some that it doesn't read.
+use Rattle.std.proofs.Common.{◌≡◌, ℕ, List, [], ◌∷◌, Some, None, true, false, refl}
+use Rattle.std.specs.Prelude.{pos, negsuc}
+use Rattle.dw_base.specs.Numbers.{bytes_at, number_at, initial_length_at}
+use Rattle.dw_base.specs.Leb128.{uleb_at, groups_at, sleb_at, signed_groups_at}
+use Rattle.dw_base.specs.Forms.{Absent, Number, Signed, form_at, kind_of, direct_at, text_at}
+use Rattle.dw_base.specs.Abbreviations.{table_at, declarations_at, shape_at, specifications_at, shape_of_code}
+use Rattle.dw_base.specs.Headers.{header_at}
+use Rattle.dw_base.specs.Entries.{Open, Close, rows_at, mark_at, attributes_at, closes, is_one_tree}
+use Rattle.dw_base.specs.Info.{units_at, read_info}
+use Rattle.dw_base.specs.declared.common.Format.TheVariants.{Dwarf32, Dwarf64}
+
+-- A unit of version 5 that is only its root.
+bare_info : List ℕ
+bare_info =
+    0x09 ∷ 0x00 ∷ 0x00 ∷ 0x00 ∷ 0x05 ∷ 0x00 ∷ 0x01 ∷ 0x08 ∷ 0x00 ∷ 0x00 ∷ 0x00 ∷ 0x00 ∷ 0x01 ∷ []
+
+bare_abbrev : List ℕ
+bare_abbrev =
+    0x01 ∷ 0x11 ∷ 0x00 ∷ 0x00 ∷ 0x00 ∷ 0x00 ∷ []
+
+bare-read : read_info false bare_info bare_abbrev ≡ Some (
+    record {
+      from = 0;
+      header = record { encoding = record { address_size = 8; format = Dwarf32; version = 5 }; unit_type = Some 1; table_offset = 0; identity = None; type_offset = None };
+      table =
+          record { code = 1; shape = record { tag = 0x11; has_children = false; attributes = [] } } ∷ [];
+      rows =
+          record { from = 12; depth = 0; mark = Open (record { code = 1; tag = 0x11; has_children = false; attributes = [] }); to = 13 } ∷ [];
+    } ∷ [])
+unfolding bare_info bare_abbrev read_info units_at header_at bytes_at number_at initial_length_at table_at declarations_at shape_at specifications_at shape_of_code rows_at mark_at attributes_at form_at kind_of direct_at text_at uleb_at groups_at sleb_at signed_groups_at closes is_one_tree
+bare-read = refl
+
+-- A subprogram of version 4 that names a base type, which stands before it.
+typed_info : List ℕ
+typed_info =
+    0x10 ∷ 0x00 ∷ 0x00 ∷ 0x00 ∷ 0x04 ∷ 0x00 ∷ 0x00 ∷ 0x00 ∷ 0x00 ∷ 0x00 ∷ 0x04 ∷ 0x01 ∷ 0x02 ∷ 0x04 ∷ 0x03 ∷ 0x0c ∷ 0x00 ∷ 0x00 ∷ 0x00 ∷ 0x00 ∷ []
+
+typed_abbrev : List ℕ
+typed_abbrev =
+    0x01 ∷ 0x11 ∷ 0x01 ∷ 0x00 ∷ 0x00 ∷ 0x02 ∷ 0x24 ∷ 0x00 ∷ 0x0b ∷ 0x0b ∷ 0x00 ∷ 0x00 ∷ 0x03 ∷ 0x2e ∷ 0x00 ∷ 0x49 ∷ 0x13 ∷ 0x00 ∷ 0x00 ∷ 0x00 ∷ []
+
+typed-read : read_info false typed_info typed_abbrev ≡ Some (
+    record {
+      from = 0;
+      header = record { encoding = record { address_size = 4; format = Dwarf32; version = 4 }; unit_type = None; table_offset = 0; identity = None; type_offset = None };
+      table =
+          record { code = 1; shape = record { tag = 0x11; has_children = true; attributes = [] } }
+          ∷ record { code = 2; shape = record { tag = 0x24; has_children = false; attributes = record { name = 0x0b; form = 0x0b; constant = None } ∷ [] } }
+          ∷ record { code = 3; shape = record { tag = 0x2e; has_children = false; attributes = record { name = 0x49; form = 0x13; constant = None } ∷ [] } } ∷ [];
+      rows =
+          record { from = 11; depth = 0; mark = Open (record { code = 1; tag = 0x11; has_children = true; attributes = [] }); to = 12 }
+          ∷ record { from = 12; depth = 1; mark = Open (record { code = 2; tag = 0x24; has_children = false; attributes = record { name = 0x0b; form = 0x0b; constant = None; operand = Number 4 } ∷ [] }); to = 14 }
+          ∷ record { from = 14; depth = 1; mark = Open (record { code = 3; tag = 0x2e; has_children = false; attributes = record { name = 0x49; form = 0x13; constant = None; operand = Number 12 } ∷ [] }); to = 19 }
+          ∷ record { from = 19; depth = 1; mark = Close; to = 20 } ∷ [];
+    } ∷ [])
+unfolding typed_info typed_abbrev read_info units_at header_at bytes_at number_at initial_length_at table_at declarations_at shape_at specifications_at shape_of_code rows_at mark_at attributes_at form_at kind_of direct_at text_at uleb_at groups_at sleb_at signed_groups_at closes is_one_tree
+typed-read = refl
+
+-- A subprogram with a child and a sibling attribute, which holds the place past the child's closing zero.
+sibling_info : List ℕ
+sibling_info =
+    0x11 ∷ 0x00 ∷ 0x00 ∷ 0x00 ∷ 0x05 ∷ 0x00 ∷ 0x01 ∷ 0x08 ∷ 0x00 ∷ 0x00 ∷ 0x00 ∷ 0x00 ∷ 0x01 ∷ 0x02 ∷ 0x14 ∷ 0x00 ∷ 0x00 ∷ 0x00 ∷ 0x03 ∷ 0x00 ∷ 0x00 ∷ []
+
+sibling_abbrev : List ℕ
+sibling_abbrev =
+    0x01 ∷ 0x11 ∷ 0x01 ∷ 0x00 ∷ 0x00 ∷ 0x02 ∷ 0x2e ∷ 0x01 ∷ 0x01 ∷ 0x13 ∷ 0x00 ∷ 0x00 ∷ 0x03 ∷ 0x34 ∷ 0x00 ∷ 0x00 ∷ 0x00 ∷ 0x00 ∷ []
+
+sibling-read : read_info false sibling_info sibling_abbrev ≡ Some (
+    record {
+      from = 0;
+      header = record { encoding = record { address_size = 8; format = Dwarf32; version = 5 }; unit_type = Some 1; table_offset = 0; identity = None; type_offset = None };
+      table =
+          record { code = 1; shape = record { tag = 0x11; has_children = true; attributes = [] } }
+          ∷ record { code = 2; shape = record { tag = 0x2e; has_children = true; attributes = record { name = 0x01; form = 0x13; constant = None } ∷ [] } }
+          ∷ record { code = 3; shape = record { tag = 0x34; has_children = false; attributes = [] } } ∷ [];
+      rows =
+          record { from = 12; depth = 0; mark = Open (record { code = 1; tag = 0x11; has_children = true; attributes = [] }); to = 13 }
+          ∷ record { from = 13; depth = 1; mark = Open (record { code = 2; tag = 0x2e; has_children = true; attributes = record { name = 0x01; form = 0x13; constant = None; operand = Number 20 } ∷ [] }); to = 18 }
+          ∷ record { from = 18; depth = 2; mark = Open (record { code = 3; tag = 0x34; has_children = false; attributes = [] }); to = 19 }
+          ∷ record { from = 19; depth = 2; mark = Close; to = 20 }
+          ∷ record { from = 20; depth = 1; mark = Close; to = 21 } ∷ [];
+    } ∷ [])
+unfolding sibling_info sibling_abbrev read_info units_at header_at bytes_at number_at initial_length_at table_at declarations_at shape_at specifications_at shape_of_code rows_at mark_at attributes_at form_at kind_of direct_at text_at uleb_at groups_at sleb_at signed_groups_at closes is_one_tree
+sibling-read = refl
+
+-- Two units, of which the first names the second one's root by its place in the section.
+across_info : List ℕ
+across_info =
+    0x0d ∷ 0x00 ∷ 0x00 ∷ 0x00 ∷ 0x05 ∷ 0x00 ∷ 0x01 ∷ 0x08 ∷ 0x00 ∷ 0x00 ∷ 0x00 ∷ 0x00 ∷ 0x01 ∷ 0x1d ∷ 0x00 ∷ 0x00 ∷ 0x00 ∷ 0x09 ∷ 0x00 ∷ 0x00 ∷ 0x00 ∷ 0x05 ∷ 0x00 ∷ 0x01 ∷ 0x08 ∷ 0x08 ∷ 0x00 ∷ 0x00 ∷ 0x00 ∷ 0x01 ∷ []
+
+across_abbrev : List ℕ
+across_abbrev =
+    0x01 ∷ 0x11 ∷ 0x00 ∷ 0x49 ∷ 0x10 ∷ 0x00 ∷ 0x00 ∷ 0x00 ∷ 0x01 ∷ 0x11 ∷ 0x00 ∷ 0x00 ∷ 0x00 ∷ 0x00 ∷ []
+
+across-read : read_info false across_info across_abbrev ≡ Some (
+    record {
+      from = 0;
+      header = record { encoding = record { address_size = 8; format = Dwarf32; version = 5 }; unit_type = Some 1; table_offset = 0; identity = None; type_offset = None };
+      table =
+          record { code = 1; shape = record { tag = 0x11; has_children = false; attributes = record { name = 0x49; form = 0x10; constant = None } ∷ [] } } ∷ [];
+      rows =
+          record { from = 12; depth = 0; mark = Open (record { code = 1; tag = 0x11; has_children = false; attributes = record { name = 0x49; form = 0x10; constant = None; operand = Number 0x1d } ∷ [] }); to = 17 } ∷ [];
+    }
+    ∷ record {
+      from = 17;
+      header = record { encoding = record { address_size = 8; format = Dwarf32; version = 5 }; unit_type = Some 1; table_offset = 8; identity = None; type_offset = None };
+      table =
+          record { code = 1; shape = record { tag = 0x11; has_children = false; attributes = [] } } ∷ [];
+      rows =
+          record { from = 12; depth = 0; mark = Open (record { code = 1; tag = 0x11; has_children = false; attributes = [] }); to = 13 } ∷ [];
+    } ∷ [])
+unfolding across_info across_abbrev read_info units_at header_at bytes_at number_at initial_length_at table_at declarations_at shape_at specifications_at shape_of_code rows_at mark_at attributes_at form_at kind_of direct_at text_at uleb_at groups_at sleb_at signed_groups_at closes is_one_tree
+across-read = refl
+
+-- Two variables with constants that stand in their declarations.
+constant_info : List ℕ
+constant_info =
+    0x0c ∷ 0x00 ∷ 0x00 ∷ 0x00 ∷ 0x05 ∷ 0x00 ∷ 0x01 ∷ 0x08 ∷ 0x00 ∷ 0x00 ∷ 0x00 ∷ 0x00 ∷ 0x01 ∷ 0x02 ∷ 0x03 ∷ 0x00 ∷ []
+
+constant_abbrev : List ℕ
+constant_abbrev =
+    0x01 ∷ 0x11 ∷ 0x01 ∷ 0x00 ∷ 0x00 ∷ 0x02 ∷ 0x34 ∷ 0x00 ∷ 0x0b ∷ 0x21 ∷ 0x7f ∷ 0x00 ∷ 0x00 ∷ 0x03 ∷ 0x34 ∷ 0x00 ∷ 0x0b ∷ 0x21 ∷ 0x01 ∷ 0x00 ∷ 0x00 ∷ 0x00 ∷ []
+
+constant-read : read_info false constant_info constant_abbrev ≡ Some (
+    record {
+      from = 0;
+      header = record { encoding = record { address_size = 8; format = Dwarf32; version = 5 }; unit_type = Some 1; table_offset = 0; identity = None; type_offset = None };
+      table =
+          record { code = 1; shape = record { tag = 0x11; has_children = true; attributes = [] } }
+          ∷ record { code = 2; shape = record { tag = 0x34; has_children = false; attributes = record { name = 0x0b; form = 0x21; constant = Some (negsuc 0) } ∷ [] } }
+          ∷ record { code = 3; shape = record { tag = 0x34; has_children = false; attributes = record { name = 0x0b; form = 0x21; constant = Some (pos 1) } ∷ [] } } ∷ [];
+      rows =
+          record { from = 12; depth = 0; mark = Open (record { code = 1; tag = 0x11; has_children = true; attributes = [] }); to = 13 }
+          ∷ record { from = 13; depth = 1; mark = Open (record { code = 2; tag = 0x34; has_children = false; attributes = record { name = 0x0b; form = 0x21; constant = Some (negsuc 0); operand = Absent } ∷ [] }); to = 14 }
+          ∷ record { from = 14; depth = 1; mark = Open (record { code = 3; tag = 0x34; has_children = false; attributes = record { name = 0x0b; form = 0x21; constant = Some (pos 1); operand = Absent } ∷ [] }); to = 15 }
+          ∷ record { from = 15; depth = 1; mark = Close; to = 16 } ∷ [];
+    } ∷ [])
+unfolding constant_info constant_abbrev read_info units_at header_at bytes_at number_at initial_length_at table_at declarations_at shape_at specifications_at shape_of_code rows_at mark_at attributes_at form_at kind_of direct_at text_at uleb_at groups_at sleb_at signed_groups_at closes is_one_tree
+constant-read = refl
+
+-- The same two in version 4, with signed operands and one declaration.
+signed_info : List ℕ
+signed_info =
+    0x0d ∷ 0x00 ∷ 0x00 ∷ 0x00 ∷ 0x04 ∷ 0x00 ∷ 0x00 ∷ 0x00 ∷ 0x00 ∷ 0x00 ∷ 0x08 ∷ 0x01 ∷ 0x02 ∷ 0x7f ∷ 0x02 ∷ 0x01 ∷ 0x00 ∷ []
+
+signed_abbrev : List ℕ
+signed_abbrev =
+    0x01 ∷ 0x11 ∷ 0x01 ∷ 0x00 ∷ 0x00 ∷ 0x02 ∷ 0x34 ∷ 0x00 ∷ 0x0b ∷ 0x0d ∷ 0x00 ∷ 0x00 ∷ 0x00 ∷ []
+
+signed-read : read_info false signed_info signed_abbrev ≡ Some (
+    record {
+      from = 0;
+      header = record { encoding = record { address_size = 8; format = Dwarf32; version = 4 }; unit_type = None; table_offset = 0; identity = None; type_offset = None };
+      table =
+          record { code = 1; shape = record { tag = 0x11; has_children = true; attributes = [] } }
+          ∷ record { code = 2; shape = record { tag = 0x34; has_children = false; attributes = record { name = 0x0b; form = 0x0d; constant = None } ∷ [] } } ∷ [];
+      rows =
+          record { from = 11; depth = 0; mark = Open (record { code = 1; tag = 0x11; has_children = true; attributes = [] }); to = 12 }
+          ∷ record { from = 12; depth = 1; mark = Open (record { code = 2; tag = 0x34; has_children = false; attributes = record { name = 0x0b; form = 0x0d; constant = None; operand = Signed (negsuc 0) } ∷ [] }); to = 14 }
+          ∷ record { from = 14; depth = 1; mark = Open (record { code = 2; tag = 0x34; has_children = false; attributes = record { name = 0x0b; form = 0x0d; constant = None; operand = Signed (pos 1) } ∷ [] }); to = 16 }
+          ∷ record { from = 16; depth = 1; mark = Close; to = 17 } ∷ [];
+    } ∷ [])
+unfolding signed_info signed_abbrev read_info units_at header_at bytes_at number_at initial_length_at table_at declarations_at shape_at specifications_at shape_of_code rows_at mark_at attributes_at form_at kind_of direct_at text_at uleb_at groups_at sleb_at signed_groups_at closes is_one_tree
+signed-read = refl
+
+-- A bare unit of version 3 in the 64-bit format, the highest bytes first.
+big_info : List ℕ
+big_info =
+    0xff ∷ 0xff ∷ 0xff ∷ 0xff ∷ 0x00 ∷ 0x00 ∷ 0x00 ∷ 0x00 ∷ 0x00 ∷ 0x00 ∷ 0x00 ∷ 0x0c ∷ 0x00 ∷ 0x03 ∷ 0x00 ∷ 0x00 ∷ 0x00 ∷ 0x00 ∷ 0x00 ∷ 0x00 ∷ 0x00 ∷ 0x00 ∷ 0x04 ∷ 0x01 ∷ []
+
+big_abbrev : List ℕ
+big_abbrev =
+    0x01 ∷ 0x11 ∷ 0x00 ∷ 0x00 ∷ 0x00 ∷ 0x00 ∷ []
+
+big-read : read_info true big_info big_abbrev ≡ Some (
+    record {
+      from = 0;
+      header = record { encoding = record { address_size = 4; format = Dwarf64; version = 3 }; unit_type = None; table_offset = 0; identity = None; type_offset = None };
+      table =
+          record { code = 1; shape = record { tag = 0x11; has_children = false; attributes = [] } } ∷ [];
+      rows =
+          record { from = 23; depth = 0; mark = Open (record { code = 1; tag = 0x11; has_children = false; attributes = [] }); to = 24 } ∷ [];
+    } ∷ [])
+unfolding big_info big_abbrev read_info units_at header_at bytes_at number_at initial_length_at table_at declarations_at shape_at specifications_at shape_of_code rows_at mark_at attributes_at form_at kind_of direct_at text_at uleb_at groups_at sleb_at signed_groups_at closes is_one_tree
+big-read = refl
+
+-- One byte more after the unit.
+one_byte_more : read_info false (0x09 ∷ 0x00 ∷ 0x00 ∷ 0x00 ∷ 0x05 ∷ 0x00 ∷ 0x01 ∷ 0x08 ∷ 0x00 ∷ 0x00 ∷ 0x00 ∷ 0x00 ∷ 0x01 ∷ 0x00 ∷ []) (0x01 ∷ 0x11 ∷ 0x00 ∷ 0x00 ∷ 0x00 ∷ 0x00 ∷ []) ≡ None
+unfolding read_info units_at header_at bytes_at number_at initial_length_at table_at declarations_at shape_at specifications_at shape_of_code rows_at mark_at attributes_at form_at kind_of direct_at text_at uleb_at groups_at sleb_at signed_groups_at closes is_one_tree
+one_byte_more = refl
+
+-- One byte less than the length says.
+one_byte_less : read_info false (0x09 ∷ 0x00 ∷ 0x00 ∷ 0x00 ∷ 0x05 ∷ 0x00 ∷ 0x01 ∷ 0x08 ∷ 0x00 ∷ 0x00 ∷ 0x00 ∷ 0x00 ∷ []) (0x01 ∷ 0x11 ∷ 0x00 ∷ 0x00 ∷ 0x00 ∷ 0x00 ∷ []) ≡ None
+unfolding read_info units_at header_at bytes_at number_at initial_length_at table_at declarations_at shape_at specifications_at shape_of_code rows_at mark_at attributes_at form_at kind_of direct_at text_at uleb_at groups_at sleb_at signed_groups_at closes is_one_tree
+one_byte_less = refl
+
+-- A second tree in the unit.
+two_trees : read_info false (0x0a ∷ 0x00 ∷ 0x00 ∷ 0x00 ∷ 0x05 ∷ 0x00 ∷ 0x01 ∷ 0x08 ∷ 0x00 ∷ 0x00 ∷ 0x00 ∷ 0x00 ∷ 0x01 ∷ 0x01 ∷ []) (0x01 ∷ 0x11 ∷ 0x00 ∷ 0x00 ∷ 0x00 ∷ 0x00 ∷ []) ≡ None
+unfolding read_info units_at header_at bytes_at number_at initial_length_at table_at declarations_at shape_at specifications_at shape_of_code rows_at mark_at attributes_at form_at kind_of direct_at text_at uleb_at groups_at sleb_at signed_groups_at closes is_one_tree
+two_trees = refl
+
+-- Two declarations of one code.
+same_code_twice : read_info false (0x09 ∷ 0x00 ∷ 0x00 ∷ 0x00 ∷ 0x05 ∷ 0x00 ∷ 0x01 ∷ 0x08 ∷ 0x00 ∷ 0x00 ∷ 0x00 ∷ 0x00 ∷ 0x01 ∷ []) (0x01 ∷ 0x11 ∷ 0x00 ∷ 0x00 ∷ 0x00 ∷ 0x01 ∷ 0x34 ∷ 0x00 ∷ 0x00 ∷ 0x00 ∷ 0x00 ∷ []) ≡ None
+unfolding read_info units_at header_at bytes_at number_at initial_length_at table_at declarations_at shape_at specifications_at shape_of_code rows_at mark_at attributes_at form_at kind_of direct_at text_at uleb_at groups_at sleb_at signed_groups_at closes is_one_tree
+same_code_twice = refl
+
+-- A byte between the tables of two units.
+gap_between_tables : read_info false (0x09 ∷ 0x00 ∷ 0x00 ∷ 0x00 ∷ 0x05 ∷ 0x00 ∷ 0x01 ∷ 0x08 ∷ 0x00 ∷ 0x00 ∷ 0x00 ∷ 0x00 ∷ 0x01 ∷ 0x09 ∷ 0x00 ∷ 0x00 ∷ 0x00 ∷ 0x05 ∷ 0x00 ∷ 0x01 ∷ 0x08 ∷ 0x07 ∷ 0x00 ∷ 0x00 ∷ 0x00 ∷ 0x01 ∷ []) (0x01 ∷ 0x11 ∷ 0x00 ∷ 0x00 ∷ 0x00 ∷ 0x00 ∷ 0x00 ∷ 0x01 ∷ 0x11 ∷ 0x00 ∷ 0x00 ∷ 0x00 ∷ 0x00 ∷ []) ≡ None
+unfolding read_info units_at header_at bytes_at number_at initial_length_at table_at declarations_at shape_at specifications_at shape_of_code rows_at mark_at attributes_at form_at kind_of direct_at text_at uleb_at groups_at sleb_at signed_groups_at closes is_one_tree
+gap_between_tables = refl
+
+-- A table that no unit has.
+table_left_over : read_info false (0x09 ∷ 0x00 ∷ 0x00 ∷ 0x00 ∷ 0x05 ∷ 0x00 ∷ 0x01 ∷ 0x08 ∷ 0x00 ∷ 0x00 ∷ 0x00 ∷ 0x00 ∷ 0x01 ∷ []) (0x01 ∷ 0x11 ∷ 0x00 ∷ 0x00 ∷ 0x00 ∷ 0x00 ∷ 0x01 ∷ 0x11 ∷ 0x00 ∷ 0x00 ∷ 0x00 ∷ 0x00 ∷ []) ≡ None
+unfolding read_info units_at header_at bytes_at number_at initial_length_at table_at declarations_at shape_at specifications_at shape_of_code rows_at mark_at attributes_at form_at kind_of direct_at text_at uleb_at groups_at sleb_at signed_groups_at closes is_one_tree
+table_left_over = refl

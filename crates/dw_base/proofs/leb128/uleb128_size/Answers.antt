@@ -1,0 +1,13 @@
+use Rattle.std.proofs.Common.{arith}
+use Rattle.dw_base.proofs.Sizes.{CountsGroups-none, CountsGroups-more, CountsGroups-last}
+use Rattle.dw_base.proofs.leb128.uleb128_size.Goals as goal
+
+pub groups-init : goal.groups-init
+groups-init c = CountsGroups-none c.args.value (omega arith)
+
+pub groups-preserved : goal.groups-preserved
+groups-preserved c =
+    CountsGroups-more c.args.value c.groups.size c.groups.rest c.groups.invariant c.groups-test.true
+
+pub returns : goal.returns
+returns c = CountsGroups-last c.args.value c.groups.size c.groups.rest c.groups.invariant c.groups-test.false

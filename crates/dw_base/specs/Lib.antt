@@ -1,0 +1,10 @@
+pub mod Order
+pub mod SectionName
+pub mod ErrorName
+pub mod Numbers
+pub mod Leb128
+pub mod Forms
+pub mod Abbreviations
+pub mod Headers
+pub mod Entries
+pub mod Info
