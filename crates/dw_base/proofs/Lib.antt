@@ -1,2 +1,9 @@
+pub mod NumberLaws
+pub mod Leb128Laws
+pub mod HeaderLaws
+pub mod TableLaws
+pub mod EntryLaws
+pub mod InfoLaws
+pub mod BareUnit
 pub mod Sizes
 mod Worked

@@ -8,3 +8,5 @@ pub mod Abbreviations
 pub mod Headers
 pub mod Entries
 pub mod Info
+pub mod Spelling
+pub mod Spellable
