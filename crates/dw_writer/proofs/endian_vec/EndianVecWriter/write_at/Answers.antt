@@ -1,0 +1,23 @@
+use Rattle.std.specs.Prelude.{◌≡◌, ◌+◌, ◌≤◌, ℕ, Some, OnOk, Result, Ok, Err, List, Bool, true, [], length}
+use Rattle.std.proofs.Common.{refl, ap, arith}
+use Rattle.dw_base.specs.declared.error.Error.{Error}
+use Rattle.dw_writer.specs.Texts.{overwrite, patched}
+use Rattle.dw_writer.specs.Meaning.{Replaces, Meaning}
+use Rattle.dw_writer.proofs.endian_vec.EndianVecWriter.write_at.Goals as goal
+
+-- a plain writer with these bytes
+abbrev plain : Bool → ℕ → List ℕ → Meaning
+plain big n xs = record { bytes = Some xs; size = n; is_big = big; is_plain = true; records = []; faults = 0 }
+
+-- bytes that are told, written over
+replaced : (big : Bool) (a b d p : ℕ) (xs ys zs : List ℕ) {T : Type 0} (r : Result T Error) →
+    OnOk r (ys ≡ overwrite p zs xs) → OnOk r (p + length zs ≤ d) → d ≡ a → b ≡ a → OnOk r (Replaces (plain big a xs) (plain big b ys) p zs)
+unfolding patched
+replaced big a b d p xs ys zs (Ok u) e h k l =
+    record { same = record { order = refl; kind = refl; faults = omega arith }; within = omega arith; size = l; told = ap Some e; records = refl }
+replaced big a b d p xs ys zs (Err u) e h k l = tt
+
+pub returns-clause-ok : goal.returns-clause-ok
+returns-clause-ok g c =
+    let e = c.overwrite_vec.ensures in
+    replaced _ _ _ _ _ _ _ _ _ e.ok e.within refl e.len

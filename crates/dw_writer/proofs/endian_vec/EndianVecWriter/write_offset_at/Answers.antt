@@ -1,0 +1,15 @@
+use Rattle.std.proofs.Common.{◌∙◌, ap, refl}
+use Rattle.dw_base.specs.Numbers.{num}
+use Rattle.dw_writer.proofs.Plain.{Replaces-offset_ok, Patch_refused}
+use Rattle.dw_writer.proofs.endian_vec.EndianVecWriter.write_offset_at.Goals as goal
+
+pub returns-clause-ok : goal.returns-clause-ok
+returns-clause-ok g c =
+    let w = c.in_ok-number.ensures in
+    Replaces-offset_ok c.write_at.result _ _ _ _ c.args.size c.args.val c.args._section c.write_at.ensures.ok
+    (c.slice.ensures ∙ w.ok ∙ ap (λ b. num b c.args.size c.args.val) c.is_big_endian.ensures) refl w.fits.0 w.fits.1
+
+pub returns-clause-err : goal.returns-clause-err
+returns-clause-err g c =
+    let w = c.in_ok-number.ensures in
+    Patch_refused c.write_at.result _ _ _ _ c.is_big_endian.result c.args.size c.args.val _ c.write_at.ensures.err (c.slice.ensures ∙ w.ok) w.fits.0 w.fits.1

@@ -1,0 +1,8 @@
+use Rattle.std.proofs.Common.{◌∙◌}
+use Rattle.dw_writer.proofs.Plain.{Patch_refused}
+use Rattle.dw_writer.proofs.writer.Writer.write_udata_at.Goals as goal
+
+pub returns-clause-err : goal.returns-clause-err
+returns-clause-err g c =
+    let w = c.in_ok-number.ensures in
+    Patch_refused c.write_at.result _ _ _ _ c.is_big_endian.result c.args.size c.args.val _ c.write_at.ensures.err (c.slice.ensures ∙ w.ok) w.fits.0 w.fits.1

@@ -1,0 +1,10 @@
+pub mod Texts
+pub mod SignedNumbers
+pub mod Layout
+pub mod Contents
+pub mod Resolved
+pub mod Meaning
+pub mod Causes
+pub mod SectionTexts
+pub mod Sections
+pub mod New

@@ -1,0 +1,94 @@
+-- What writers' calls do to what the writer holds.
+use Rattle.std.specs.Prelude.{◌≡◌, ◌⊎◌, ℕ, ◌+◌, ◌≤◌, Bool, List, [], ◌∷◌, ◌++◌, length, take, Some, IsTrue}
+use Rattle.dw_writer.specs.Texts.{Text, followed, patched}
+use Rattle.dw_writer.specs.declared.relocate.Relocation.{Relocation}
+pub use Rattle.dw_writer.specs.Layout.{Layout, section_number, start_of, target_value, is_zero, is_at_zero}
+pub use Rattle.dw_writer.specs.Contents.{Meaning}
+pub use Rattle.dw_writer.specs.Resolved.{is_inside, resolved}
+
+-- the n bytes from p on lie apart from the k bytes from q on
+abbrev pub IsApart : ℕ → ℕ → ℕ → ℕ → Type 0
+IsApart p n q k = (p + n ≤ q) ⊎ (q + k ≤ p)
+
+-- each record lies inside so many bytes
+unfoldable pub AllInside : ℕ → List Relocation → Type 0
+AllInside size [] = Unit {0}
+AllInside size (r ∷ rs) = IsTrue (is_inside size r) × AllInside size rs
+
+-- no record's place meets the n bytes from p on
+unfoldable pub AllApart : ℕ → ℕ → List Relocation → Type 0
+AllApart p n [] = Unit {0}
+AllApart p n (r ∷ rs) = IsApart p n r.offset r.size × AllApart p n rs
+
+-- the size is that of the bytes, and each record lies inside them
+pub record IsTidy (m : Meaning) : Type 0 where
+  pub sized : (b : List ℕ) → m.bytes ≡ Some b → length b ≡ m.size
+  pub inside : AllInside m.size m.records
+
+-- no record meets the n bytes from p on
+abbrev pub IsClear : Meaning → ℕ → ℕ → Type 0
+IsClear m p n = AllApart p n m.records
+
+-- order and kind stay, and the count of faults doesn't fall
+pub record IsSameWriter (old new : Meaning) : Type 0 where
+  pub order : new.is_big ≡ old.is_big
+  pub kind : new.is_plain ≡ old.is_plain
+  pub faults : old.faults ≤ new.faults
+
+-- a record is added, and the bytes stay
+pub record Records (old new : Meaning) (r : Relocation) : Type 0 where
+  pub same : IsSameWriter old new
+  pub size : new.size ≡ old.size
+  pub told : new.bytes ≡ old.bytes
+  pub records : new.records ≡ old.records ++ r ∷ []
+
+-- these bytes are added, as they are
+pub record Adds (old new : Meaning) (bytes : List ℕ) : Type 0 where
+  pub same : IsSameWriter old new
+  pub size : new.size ≡ old.size + length bytes
+  pub told : new.bytes ≡ followed old.bytes (Some bytes)
+  pub records : new.records ≡ old.records
+
+-- the first of these bytes are added: none, some or all
+pub record AddsSome (old new : Meaning) (bytes : List ℕ) : Type 0 where
+  pub count : ℕ
+  pub size : new.size ≡ old.size + length (take count bytes)
+  pub told : new.bytes ≡ followed old.bytes (Some (take count bytes))
+
+-- n bytes or fewer are added
+pub record AddsAtMost (old new : Meaning) (n : ℕ) : Type 0 where
+  pub bytes : List ℕ
+  pub within : length bytes ≤ n
+  pub size : new.size ≡ old.size + length bytes
+  pub told : new.bytes ≡ followed old.bytes (Some bytes)
+
+-- these bytes are written over those from p on, as they are
+pub record Replaces (old new : Meaning) (p : ℕ) (bytes : List ℕ) : Type 0 where
+  pub same : IsSameWriter old new
+  pub within : p + length bytes ≤ old.size
+  pub size : new.size ≡ old.size
+  pub told : new.bytes ≡ patched p (Some bytes) old.bytes
+  pub records : new.records ≡ old.records
+
+-- a text that hangs on the byte order and on a layout
+abbrev pub Model : Type 0
+Model = Bool → Layout → Text
+
+-- n bytes are added, which resolve to this text; a place that no record met stays clear
+pub record Appends (old new : Meaning) (n : ℕ) (text : Model) : Type 0 where
+  pub same : IsSameWriter old new
+  pub size : new.size ≡ old.size + n
+  pub tidy : IsTidy old → IsTidy new
+  pub clear : (p k : ℕ) → p + k ≤ old.size → IsClear old p k → IsClear new p k
+  pub wide : (big : Bool) (l : Layout) (xs : List ℕ) → text big l ≡ Some xs → length xs ≡ n
+  pub resolves : IsTidy old → (l : Layout) → resolved l new ≡ followed (resolved l old) (text old.is_big l)
+
+-- the n bytes from p on, where they are clear, are replaced by bytes that resolve to this text
+pub record Patches (old new : Meaning) (p n : ℕ) (text : Model) : Type 0 where
+  pub same : IsSameWriter old new
+  pub within : p + n ≤ old.size
+  pub size : new.size ≡ old.size
+  pub tidy : IsTidy old → IsTidy new
+  pub clear : (q k : ℕ) → IsApart q k p n → IsClear old q k → IsClear new q k
+  pub wide : (big : Bool) (l : Layout) (xs : List ℕ) → text big l ≡ Some xs → length xs ≡ n
+  pub resolves : IsTidy old → IsClear old p n → (l : Layout) → resolved l new ≡ patched p (text old.is_big l) (resolved l old)

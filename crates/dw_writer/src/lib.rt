@@ -1,0 +1,24 @@
+//! Writers of sections, with their calls for bytes, numbers, offsets and addresses, a writer into
+//! memory, and the sections of a file.
+#![tactic(auto)]
+
+mod endian_vec;
+mod fixup;
+mod leb128;
+mod number;
+mod relocate;
+mod section;
+mod sections;
+#[cfg(test)]
+mod tests;
+mod writer;
+
+pub use endian_vec::EndianVec;
+pub use fixup::{DebugInfoFixup, FixupList};
+pub use relocate::{Relocation, RelocationTarget};
+pub use section::{
+    DebugAbbrev, DebugFrame, DebugInfo, DebugLine, DebugLineStr, DebugLoc, DebugLocLists,
+    DebugRanges, DebugRngLists, DebugStr, EhFrame, Section,
+};
+pub use sections::Sections;
+pub use writer::Writer;

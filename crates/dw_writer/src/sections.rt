@@ -1,0 +1,143 @@
+//! The sections of a file.
+
+ghost use Rattle.std.specs.Prelude.{◌≡◌, IfOk, IfErr};
+ghost use Rattle.std.specs.Borrow.{sem};
+ghost use Rattle.std.specs.Option.{option_copied, option_copied_mut};
+ghost use Rattle.dw_base.specs.declared.error.Error.TheVariants.{NoMemory};
+ghost use Rattle.dw_writer.specs.Sections.{section_of, LendsSection, AllMean, NoFixups};
+
+use crate::fixup::FixupList;
+use crate::section::{
+    DebugAbbrev, DebugFrame, DebugInfo, DebugLine, DebugLineStr, DebugLoc, DebugLocLists,
+    DebugRanges, DebugRngLists, DebugStr, EhFrame,
+};
+use crate::writer::Writer;
+use dw_base::{Result, SectionId};
+use std::alloc::Global;
+
+/// A writer for each section, and the references that are fixed up once every unit is written.
+#[derive(Debug, Drop)]
+pub struct Sections<W> {
+    pub debug_abbrev: DebugAbbrev<W>,
+    pub debug_str: DebugStr<W>,
+    pub debug_line_str: DebugLineStr<W>,
+    pub debug_line: DebugLine<W>,
+    pub debug_ranges: DebugRanges<W>,
+    pub debug_rnglists: DebugRngLists<W>,
+    pub debug_loc: DebugLoc<W>,
+    pub debug_loclists: DebugLocLists<W>,
+    pub debug_info: DebugInfo<W>,
+    pub debug_frame: DebugFrame<W>,
+    pub eh_frame: EhFrame<W>,
+    /// The places in `.debug_info` that get the offset of an entry.
+    pub debug_info_fixups: FixupList,
+    /// Those in `.debug_loc`.
+    pub debug_loc_fixups: FixupList,
+    /// Those in `.debug_loclists`.
+    pub debug_loclists_fixups: FixupList,
+}
+
+impl<W: Writer + Clone> Sections<W> {
+    /// Sections that each begin as a clone of `section`.
+    pub fn new(alloc: Global, section: W) -> Result<Sections<W>>
+        requires { (w : W) → W.is_clone section w → W.meaning w ≡ W.meaning section }
+        ensures writers { IfOk result (λ sections. AllMean W.meaning sections (W.meaning section)) }
+        ensures fixups { IfOk result NoFixups }
+        ensures err { IfErr result (λ e. e ≡ NoMemory) }
+    {
+        Ok(Sections {
+            debug_abbrev: DebugAbbrev(section.clone()?),
+            debug_str: DebugStr(section.clone()?),
+            debug_line_str: DebugLineStr(section.clone()?),
+            debug_line: DebugLine(section.clone()?),
+            debug_ranges: DebugRanges(section.clone()?),
+            debug_rnglists: DebugRngLists(section.clone()?),
+            debug_loc: DebugLoc(section.clone()?),
+            debug_loclists: DebugLocLists(section.clone()?),
+            debug_info: DebugInfo(section.clone()?),
+            debug_frame: DebugFrame(section.clone()?),
+            eh_frame: EhFrame(section),
+            debug_info_fixups: FixupList::new(alloc),
+            debug_loc_fixups: FixupList::new(alloc),
+            debug_loclists_fixups: FixupList::new(alloc),
+        })
+    }
+}
+
+impl<W: Writer> Sections<W> {
+    /// The writer of the section of this id, or `None` if no such section is written.
+    pub fn get(&self, id: SectionId) -> Option<&W>
+        ensures { option_copied result ≡ section_of self.now id }
+    {
+        match id {
+            SectionId::DebugAbbrev => Some(&self.debug_abbrev.0),
+            SectionId::DebugStr => Some(&self.debug_str.0),
+            SectionId::DebugLineStr => Some(&self.debug_line_str.0),
+            SectionId::DebugLine => Some(&self.debug_line.0),
+            SectionId::DebugRanges => Some(&self.debug_ranges.0),
+            SectionId::DebugRngLists => Some(&self.debug_rnglists.0),
+            SectionId::DebugLoc => Some(&self.debug_loc.0),
+            SectionId::DebugLocLists => Some(&self.debug_loclists.0),
+            SectionId::DebugInfo => Some(&self.debug_info.0),
+            SectionId::DebugFrame => Some(&self.debug_frame.0),
+            SectionId::EhFrame => Some(&self.eh_frame.0),
+            SectionId::DebugAddr
+            | SectionId::DebugStrOffsets
+            | SectionId::DebugMacinfo
+            | SectionId::DebugMacro
+            | SectionId::DebugAranges => None,
+        }
+    }
+
+    /// The writer of the section of this id, to be written.
+    pub fn get_mut(&mut self, id: SectionId) -> Option<&mut W>
+        ensures* lends { sem 𝓛 (LendsSection W.row self.entry id result) }
+        ensures value { option_copied_mut result ≡ section_of self.old id }
+    {
+        if let SectionId::DebugAbbrev = id {
+            let part = &mut self.debug_abbrev;
+            return Some(&mut part.0);
+        }
+        if let SectionId::DebugStr = id {
+            let part = &mut self.debug_str;
+            return Some(&mut part.0);
+        }
+        if let SectionId::DebugLineStr = id {
+            let part = &mut self.debug_line_str;
+            return Some(&mut part.0);
+        }
+        if let SectionId::DebugLine = id {
+            let part = &mut self.debug_line;
+            return Some(&mut part.0);
+        }
+        if let SectionId::DebugRanges = id {
+            let part = &mut self.debug_ranges;
+            return Some(&mut part.0);
+        }
+        if let SectionId::DebugRngLists = id {
+            let part = &mut self.debug_rnglists;
+            return Some(&mut part.0);
+        }
+        if let SectionId::DebugLoc = id {
+            let part = &mut self.debug_loc;
+            return Some(&mut part.0);
+        }
+        if let SectionId::DebugLocLists = id {
+            let part = &mut self.debug_loclists;
+            return Some(&mut part.0);
+        }
+        if let SectionId::DebugInfo = id {
+            let part = &mut self.debug_info;
+            return Some(&mut part.0);
+        }
+        if let SectionId::DebugFrame = id {
+            let part = &mut self.debug_frame;
+            return Some(&mut part.0);
+        }
+        if let SectionId::EhFrame = id {
+            let part = &mut self.eh_frame;
+            return Some(&mut part.0);
+        }
+        None
+    }
+}

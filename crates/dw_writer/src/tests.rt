@@ -1,0 +1,160 @@
+use crate::{EndianVec, Writer};
+use dw_base::{Address, BigEndian, Error, Format, LittleEndian, Result, RunTimeEndian, SectionId};
+use std::test::Fail;
+
+/// One number of each width, through the bound.
+fn write_numbers<W: Writer>(w: &mut W) -> Result<()> {
+    w.write_u8(0x01)?;
+    w.write_u16(0x0203)?;
+    w.write_u32(0x0405_0607)?;
+    w.write_u64(0x0809_0a0b_0c0d_0e0f)?;
+    w.write_udata(0x1011, 2)?;
+    w.write_sdata(-2, 4)
+}
+
+#[test]
+fn puts_numbers_in_its_order(rt: HostRuntime) -> std::result::Result<(), Fail> {
+    let mut big = EndianVec::new(rt.alloc(), BigEndian);
+    write_numbers(&mut big)?;
+    assert_eq!(rt;
+        big.slice(),
+        [
+            0x01, 0x02, 0x03, 0x04, 0x05, 0x06, 0x07, 0x08, 0x09, 0x0a, 0x0b, 0x0c, 0x0d, 0x0e,
+            0x0f, 0x10, 0x11, 0xff, 0xff, 0xff, 0xfe,
+        ]
+        .as_slice()
+    );
+    let mut little = EndianVec::new(rt.alloc(), LittleEndian);
+    write_numbers(&mut little)?;
+    assert_eq!(rt;
+        little.slice(),
+        [
+            0x01, 0x03, 0x02, 0x07, 0x06, 0x05, 0x04, 0x0f, 0x0e, 0x0d, 0x0c, 0x0b, 0x0a, 0x09,
+            0x08, 0x11, 0x10, 0xfe, 0xff, 0xff, 0xff,
+        ]
+        .as_slice()
+    );
+    Ok(())
+}
+
+#[test]
+fn puts_sixteen_bytes_in_its_order(rt: HostRuntime) -> std::result::Result<(), Fail> {
+    let val = 0x0001_0203_0405_0607_0809_0a0b_0c0d_0e0f;
+    let mut w = EndianVec::new(rt.alloc(), RunTimeEndian::Big);
+    w.write_u128(val)?;
+    assert_eq!(rt;
+        w.slice(),
+        [0, 1, 2, 3, 4, 5, 6, 7, 8, 9, 10, 11, 12, 13, 14, 15].as_slice()
+    );
+    let mut w = EndianVec::new(rt.alloc(), RunTimeEndian::Little);
+    w.write_u128(val)?;
+    assert_eq!(rt;
+        w.slice(),
+        [15, 14, 13, 12, 11, 10, 9, 8, 7, 6, 5, 4, 3, 2, 1, 0].as_slice()
+    );
+    Ok(())
+}
+
+/// The examples of DWARF 5, 7.6 and appendix C.
+#[test]
+fn puts_leb128(rt: HostRuntime) -> std::result::Result<(), Fail> {
+    let mut w = EndianVec::new(rt.alloc(), LittleEndian);
+    for val in [2, 127, 128, 129, 12857, 624485] {
+        w.write_uleb128(val)?;
+    }
+    assert_eq!(rt;
+        w.slice(),
+        [
+            0x02, 0x7f, 0x80, 0x01, 0x81, 0x01, 0xb9, 0x64, 0xe5, 0x8e, 0x26,
+        ]
+        .as_slice()
+    );
+    let mut w = EndianVec::new(rt.alloc(), LittleEndian);
+    for val in [2, -2, 127, -127, 128, -128] {
+        w.write_sleb128(val)?;
+    }
+    assert_eq!(rt;
+        w.slice(),
+        [0x02, 0x7e, 0xff, 0x00, 0x81, 0x7f, 0x80, 0x01, 0x80, 0x7f,].as_slice()
+    );
+    Ok(())
+}
+
+#[test]
+fn puts_the_longest_leb128(rt: HostRuntime) -> std::result::Result<(), Fail> {
+    let mut w = EndianVec::new(rt.alloc(), LittleEndian);
+    w.write_uleb128(u64::MAX)?;
+    w.write_sleb128(i64::MIN)?;
+    assert_eq!(rt;
+        w.slice(),
+        [
+            0xff, 0xff, 0xff, 0xff, 0xff, 0xff, 0xff, 0xff, 0xff, 0x01, 0x80, 0x80, 0x80, 0x80,
+            0x80, 0x80, 0x80, 0x80, 0x80, 0x7f,
+        ]
+        .as_slice()
+    );
+    Ok(())
+}
+
+/// A length of two bytes, and those.
+fn write_with_length<W: Writer>(w: &mut W, format: Format) -> Result<()> {
+    let place = w.write_initial_length(format)?;
+    w.write(b"hi")?;
+    w.write_initial_length_at(place, 2, format)
+}
+
+#[test]
+fn fills_a_length_in(rt: HostRuntime) -> std::result::Result<(), Fail> {
+    let mut w = EndianVec::new(rt.alloc(), BigEndian);
+    write_with_length(&mut w, Format::Dwarf32)?;
+    write_with_length(&mut w, Format::Dwarf64)?;
+    assert_eq!(rt;
+        w.into_vec().as_slice(),
+        [
+            0, 0, 0, 2, 0x68, 0x69, 0xff, 0xff, 0xff, 0xff, 0, 0, 0, 0, 0, 0, 0, 2, 0x68, 0x69,
+        ]
+        .as_slice()
+    );
+    Ok(())
+}
+
+#[test]
+fn puts_offsets_and_addresses_as_they_are(rt: HostRuntime) -> std::result::Result<(), Fail> {
+    let mut w = EndianVec::new(rt.alloc(), LittleEndian);
+    w.write_address(Address::Constant(0x1234), 8)?;
+    w.write_offset(0x56, SectionId::DebugStr, 4)?;
+    let copy = w.clone()?;
+    w.write_offset_at(8, 0x78, SectionId::DebugStr, 4)?;
+    w.write_udata_at(0, 0x9abc, 2)?;
+    assert_eq!(rt;
+        copy.slice(),
+        [0x34, 0x12, 0, 0, 0, 0, 0, 0, 0x56, 0, 0, 0].as_slice()
+    );
+    assert_eq!(rt;
+        w.slice(),
+        [0xbc, 0x9a, 0, 0, 0, 0, 0, 0, 0x78, 0, 0, 0].as_slice()
+    );
+    Ok(())
+}
+
+#[test]
+fn refuses_what_does_not_fit(rt: HostRuntime) -> std::result::Result<(), Fail> {
+    let mut w = EndianVec::new(rt.alloc(), LittleEndian);
+    let symbol = Address::Symbol {
+        symbol: 0,
+        addend: 0,
+    };
+    assert_eq!(rt; w.write_udata(0, 3), Err(Error::UnsupportedWordSize(3)));
+    assert_eq!(rt; w.write_udata(256, 1), Err(Error::ValueTooLarge));
+    assert_eq!(rt; w.write_sdata(128, 1), Err(Error::ValueTooLarge));
+    assert_eq!(rt; w.write_sdata(-129, 1), Err(Error::ValueTooLarge));
+    assert_eq!(rt; w.write_address(symbol, 8), Err(Error::InvalidAddress));
+    assert_eq!(rt; w.len(), 0);
+    w.write_u32(0)?;
+    assert_eq!(rt; w.write_u16_at(5, 1), Err(Error::OffsetOutOfBounds));
+    assert_eq!(rt; w.write_u16_at(3, 1), Err(Error::LengthOutOfBounds));
+    let too_long = w.write_initial_length_at(0, 0xffff_fff0, Format::Dwarf32);
+    assert_eq!(rt; too_long, Err(Error::InitialLengthOverflow));
+    assert_eq!(rt; w.slice(), [0, 0, 0, 0].as_slice());
+    Ok(())
+}
