@@ -1,0 +1,17 @@
+use Rattle.std.proofs.Common.{◌≡◌}
+use Rattle.dw_base.specs.Numbers.{word_of}
+use Rattle.dw_writer.proofs.Outcomes.{OnOk-map}
+use Rattle.dw_unit.proofs.Steps.{new_fields, old_fields}
+use Rattle.dw_unit.proofs.header.write_fields.Goals as goal
+
+pub returns-in_ok-write_u8-2-clause-ok : goal.returns-in_ok-write_u8-2-clause-ok
+returns-in_ok-write_u8-2-clause-ok g c =
+    let place = rw c.word_size-word.ensures at c.write_offset.ensures.ok in
+    OnOk-map c.write_offset.result place
+    (λ last. new_fields c.args.encoding c.args.table c.if-encoding-eq5.true c.in_ok-write_u16.ensures.ok c.in_ok-write_u8.ensures.ok c.in_ok-write_u8-2.ensures.ok last)
+
+pub returns-in_ok-write_offset-clause-ok : goal.returns-in_ok-write_offset-clause-ok
+returns-in_ok-write_offset-clause-ok g c =
+    let place = rw c.word_size-word.ensures at c.in_ok-write_offset.ensures.ok in
+    OnOk-map c.write_u8-else-encoding-eq5.result c.write_u8-else-encoding-eq5.ensures.ok
+    (λ last. old_fields c.args.encoding c.args.table c.if-encoding-eq5.false c.in_ok-write_u16.ensures.ok place last)

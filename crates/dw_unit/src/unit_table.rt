@@ -1,0 +1,110 @@
+//! The units of a `Dwarf`.
+
+ghost use Rattle.std.specs.Prelude.{◌≡◌, ◌+◌, ◌<◌, ◌≤◌, ◌++◌, ◌∷◌, [], Bool, true, false, List, length, map, Some, IsTrue, OnOk, IfOk, OnErr, IfErr, slice_get, slice_index_or};
+ghost use Rattle.dw_base.specs.declared.error.Error.TheVariants.{NoMemory};
+ghost use Rattle.std.specs.Prelude.{All};
+ghost use Rattle.std.specs.Borrow.{sem};
+ghost use Rattle.dw_writer.specs.Sections.{fault_sum};
+ghost use Rattle.dw_unit.specs.UnitValue.{UnitValue, marked_written};
+ghost use Rattle.dw_unit.specs.Valid.{is_encodable};
+ghost use Rattle.dw_unit.specs.Causes.{UnitsRefused};
+ghost use Rattle.dw_unit.specs.Written.{AppendsUnits};
+
+use crate::unit::Unit;
+use dw_base::{Result, UnitId};
+use dw_writer::{Sections, Writer};
+use std::alloc::Global;
+use std::marker::Model;
+
+/// Units, in the order in which they were added and will be written.
+#[derive(Drop)]
+pub struct UnitTable {
+    units: Vec<Unit>,
+}
+
+impl Model for UnitTable {
+    ghost Value = { List UnitValue };
+
+    ghost view = { λ t. t.units.items };
+}
+
+impl UnitTable {
+    ghost use Rattle.dw_unit.specs.Lends.{LendsUnit};
+
+    /// No units.
+    pub fn new(alloc: Global) -> UnitTable
+        ensures { result ≡ [] }
+    {
+        UnitTable {
+            units: Vec::new(alloc),
+        }
+    }
+
+    /// Adds a unit after the others, and answers its id. A refused unit is dropped.
+    pub fn add(&mut self, unit: Unit) -> Result<UnitId>
+        ensures ok { OnOk result (self.new ≡ self.old ++ unit ∷ []) }
+        ensures id { IfOk result (λ i. i.0 ≡ length self.old) }
+        ensures err { IfErr result (λ e. e ≡ NoMemory) }
+        ensures kept { OnErr result (self.new ≡ self.old) }
+    {
+        let id = UnitId::new(self.units.len());
+        self.units.push(unit)?;
+        Ok(id)
+    }
+
+    /// How many units there are.
+    pub fn count(&self) -> usize
+        ensures { result ≡ length self.now }
+    {
+        self.units.len()
+    }
+
+    /// The id of the unit at an index.
+    pub fn id(&self, index: usize) -> UnitId
+        requires { index < length self.now }
+        ensures { result.0 ≡ index }
+    {
+        UnitId::new(index)
+    }
+
+    /// A unit of the table.
+    pub fn get(&self, id: UnitId) -> &Unit
+        requires { id.0 < length self.now }
+        ensures { slice_get self.now id.0 ≡ Some result.now }
+    {
+        &self.units[id.index()]
+    }
+
+    /// A unit of the table, to be changed.
+    pub fn get_mut(&mut self, id: UnitId) -> &mut Unit
+        requires { id.0 < length self.old }
+        ensures* lends { sem 𝓛 (LendsUnit self.entry id.0 result) }
+        ensures value { slice_get self.old id.0 ≡ Some result.now }
+    {
+        &mut self.units[id.index()]
+    }
+
+    /// Writes the units that aren't written yet, and marks them written. So far a table has one unit
+    /// at most where it is written.
+    pub fn write<W: Writer>(&mut self, sections: &mut Sections<W>) -> Result<()>
+        requires { length self.old ≤ 1 }
+        ensures units { OnOk result (AppendsUnits W.meaning sections.old sections.new self.old) }
+        ensures encodable { OnOk result (All (λ u. u.is_written ≡ false → IsTrue (is_encodable u.encoding)) self.old) }
+        ensures marked { OnOk result (self.new ≡ map marked_written self.old) }
+
+        ensures err { IfErr result (UnitsRefused W.meaning sections.old sections.new self.old) }
+        ensures kept { OnErr result (self.new ≡ self.old) }
+
+        ensures others { sections.new ≡ record sections.old { debug_abbrev = sections.new.debug_abbrev; debug_info = sections.new.debug_info } }
+        ensures faults { fault_sum W.meaning sections.old ≤ fault_sum W.meaning sections.new }
+    {
+        if self.units.is_empty() {
+            return Ok(());
+        }
+        let unit = &mut self.units[0];
+        if unit.is_written() {
+            return Ok(());
+        }
+        unit.write(sections)
+    }
+}
