@@ -1,0 +1,4 @@
+pub mod Ends
+pub mod Insides
+pub mod Listing
+pub mod Plan

@@ -1,0 +1,186 @@
+// Where text goes.
+ghost use Rattle.std.specs.Prelude.{◌≡◌, ◌<◌, ◌≤◌, ◌↔◌, [], length, take, Some, None, Ok, IfOk, OnErr, IsErrOf};
+ghost use Rattle.dw_ends.specs.declared.sink.SinkError.TheVariants.{NoMemory};
+ghost use Rattle.std.specs.Io.KnownBytes.{WriteAppends};
+ghost use Rattle.dw_ends.specs.Plan.{FailsNext, after_call};
+ghost use Rattle.dw_ends.specs.Ends.{Intake, HasRisen, with_after};
+
+use crate::faults::{FaultPlan, one_more};
+use std::alloc::{AllocError, Global};
+use std::io::Write;
+
+/// Why a sink took nothing.
+#[derive(Clone, Copy, Debug, PartialEq, Eq)]
+pub enum SinkError {
+    /// The write failed.
+    Failed,
+    /// Memory ran out.
+    NoMemory,
+}
+
+impl From<AllocError> for SinkError {
+    ghost from_gives = { λ _ error. error ≡ NoMemory };
+
+    fn from(_error: AllocError) -> SinkError {
+        SinkError::NoMemory
+    }
+}
+
+/// What takes bytes, some at a time.
+pub trait Sink {
+    ghost intake: { Self → Intake };
+
+    /// Takes some of the bytes from their front, and says how many. An error takes none.
+    fn write(&mut self, bytes: &[u8]) -> Result<usize, SinkError>
+        ensures faults { (intake self.old).faults ≤ (intake self.new).faults }
+        ensures failed { IsErrOf result SinkError.Failed →
+            HasRisen (intake self.old).faults (intake self.new).faults }
+        ensures stuck { result ≡ Ok 0 → 0 < length bytes.now →
+            HasRisen (intake self.old).faults (intake self.new).faults }
+
+        ensures fits { IfOk result (λ n. n ≤ length bytes.now) }
+        ensures taken { IfOk result (λ n.
+            (intake self.new).taken ≡ with_after (intake self.old).taken (take n bytes.now)) }
+        ensures unchanged { OnErr result ((intake self.new).taken ≡ (intake self.old).taken) };
+}
+
+/// A sink in memory. It fails only where memory runs out.
+#[derive(Drop)]
+pub struct VecSink {
+    bytes: Vec<u8>,
+}
+
+impl VecSink {
+    pub fn new(alloc: Global) -> VecSink
+        ensures { ⟦<VecSink as Sink>⟧.intake result ≡ record { taken = Some []; faults = 0 } }
+    {
+        VecSink {
+            bytes: Vec::new(alloc),
+        }
+    }
+
+    /// The bytes taken.
+    pub fn slice(&self) -> &[u8]
+        ensures { (⟦<VecSink as Sink>⟧.intake self.now).taken ≡ Some result.now }
+    {
+        self.bytes.as_slice()
+    }
+}
+
+impl Sink for VecSink {
+    ghost intake = { λ s. record { taken = Some s.bytes.items; faults = 0 } };
+
+    fn write(&mut self, bytes: &[u8]) -> Result<usize, SinkError> {
+        self.bytes.extend_from_slice(bytes)?;
+        Ok(bytes.len())
+    }
+}
+
+/// A sink in memory that fails at chosen calls of `write`, which are counted from 0. A call that fails
+/// takes nothing.
+#[derive(Drop)]
+pub struct FailingSink {
+    bytes: Vec<u8>,
+    plan: FaultPlan,
+}
+
+impl FailingSink {
+    ghost use Rattle.dw_ends.specs.Insides.{sink_intake, sink_plan};
+
+    pub fn new(alloc: Global, failing: Vec<u64>) -> FailingSink
+        ensures intake { sink_intake result ≡ record { taken = Some []; faults = 0 } }
+        ensures plan { sink_plan result ≡ record { failing = failing.items; calls = 0 } }
+    {
+        FailingSink {
+            bytes: Vec::new(alloc),
+            plan: FaultPlan::new(failing),
+        }
+    }
+
+    /// The bytes taken.
+    pub fn slice(&self) -> &[u8]
+        ensures { (sink_intake self.now).taken ≡ Some result.now }
+    {
+        self.bytes.as_slice()
+    }
+}
+
+impl Sink for FailingSink {
+    ghost use Rattle.dw_ends.specs.Insides.{sink_intake, sink_plan};
+
+    ghost intake = { sink_intake };
+
+    fn write(&mut self, bytes: &[u8]) -> Result<usize, SinkError>
+        ensures faults { (sink_intake self.old).faults ≤ (sink_intake self.new).faults }
+        ensures failed { IsErrOf result SinkError.Failed →
+            HasRisen (sink_intake self.old).faults (sink_intake self.new).faults }
+        ensures stuck { result ≡ Ok 0 → 0 < length bytes.now →
+            HasRisen (sink_intake self.old).faults (sink_intake self.new).faults }
+
+        ensures fits { IfOk result (λ n. n ≤ length bytes.now) }
+        ensures taken { IfOk result (λ n.
+            (sink_intake self.new).taken ≡ with_after (sink_intake self.old).taken (take n bytes.now)) }
+        ensures unchanged { OnErr result ((sink_intake self.new).taken ≡ (sink_intake self.old).taken) }
+
+        ensures chosen { IsErrOf result SinkError.Failed ↔ FailsNext (sink_plan self.old) }
+        ensures counted { sink_plan self.new ≡ after_call (sink_plan self.old) }
+        ensures whole { IfOk result (λ n. n ≡ length bytes.now) }
+    {
+        if self.plan.next_fails() {
+            return Err(SinkError::Failed);
+        }
+        self.bytes.extend_from_slice(bytes)?;
+        Ok(bytes.len())
+    }
+}
+
+/// Standard output by `io::writer(&rt)`, or another writer that keeps nothing back: nothing flushes it.
+/// It tells no bytes.
+#[derive(Drop)]
+pub struct StdoutSink<W> {
+    writer: W,
+    faults: u64,
+}
+
+impl<W: Write> StdoutSink<W> {
+    ghost use Rattle.dw_ends.specs.Insides.{writer_intake, writer_of};
+
+    pub fn new(writer: W) -> StdoutSink<W>
+        ensures intake { writer_intake result ≡ record { taken = None; faults = 0 } }
+        ensures writer { writer_of result ≡ writer }
+    {
+        StdoutSink { writer, faults: 0 }
+    }
+}
+
+impl<W: Write> Sink for StdoutSink<W> {
+    ghost use Rattle.dw_ends.specs.Insides.{writer_intake, writer_of};
+
+    ghost intake = { writer_intake };
+
+    fn write(&mut self, bytes: &[u8]) -> Result<usize, SinkError>
+        ensures faults { (writer_intake self.old).faults ≤ (writer_intake self.new).faults }
+        ensures failed { IsErrOf result SinkError.Failed →
+            HasRisen (writer_intake self.old).faults (writer_intake self.new).faults }
+        ensures stuck { result ≡ Ok 0 → 0 < length bytes.now →
+            HasRisen (writer_intake self.old).faults (writer_intake self.new).faults }
+
+        ensures fits { IfOk result (λ n. n ≤ length bytes.now) }
+
+        // Where the writer tells its bytes, they are the ones that were passed on.
+        ensures passed { WriteAppends (W.contents (writer_of self.old)) (W.contents (writer_of self.new))
+            result bytes.now }
+    {
+        match self.writer.write(bytes) {
+            Ok(0) if !bytes.is_empty() => {
+                self.faults = one_more(self.faults);
+                Ok(0)
+            }
+            Ok(count) => Ok(count),
+            Err(_) => {
+                self.faults = one_more(self.faults);
+                Err(SinkError::Failed)
+            }
+        }
+    }
+}

@@ -1,0 +1,68 @@
+-- The typed fields of a line, each read from the front of those that are left.
+use Rattle.std.specs.Prelude.{ℕ, ◌^◌, List, [], ◌∷◌, Result, Ok, Err, ok_or, ◌==◌, if◌then◌else◌, bytes_eq, codes}
+use Rattle.dw_base.specs.declared.common.Format.{Format}
+use Rattle.dw_base.specs.declared.common.Format.TheVariants.{Dwarf32, Dwarf64}
+use Rattle.dw_base.specs.declared.endianity.RunTimeEndian.{RunTimeEndian}
+use Rattle.dw_base.specs.declared.endianity.RunTimeEndian.TheVariants.{Little, Big}
+use Rattle.dw_script.specs.declared.reason.Reason.{Reason}
+use Rattle.dw_script.specs.declared.reason.Reason.TheVariants.{UnknownWord, BadNumber, WrongFields}
+use Rattle.dw_script.specs.declared.word.Word.{Word}
+use Rattle.dw_script.specs.Numbers.{number_below}
+use Rattle.dw_script.specs.Words.{word_of}
+
+-- the fields of a line from some place on
+abbrev pub Fields : Type 0
+Fields = List (List ℕ)
+
+-- a value, or the reason that there is none
+abbrev pub Outcome : Type 0 → Type 0
+Outcome T = Result T Reason
+
+-- go on with the value, or keep the first reason
+infixl 10 ◌>>=◌
+abbrev pub ◌>>=◌ : {A B : Type 0} → Outcome A → (A → Outcome B) → Outcome B
+Ok x >>= next = next x
+Err reason >>= next = Err reason
+
+-- a value with the fields that are left after it
+abbrev pub with_rest : {T : Type 0} → Outcome T → Fields → Outcome (T × Fields)
+with_rest (Ok x) rest = Ok (x, rest)
+with_rest (Err reason) rest = Err reason
+
+-- the first field, and the fields after it
+abbrev pub next_field : Fields → Outcome (List ℕ × Fields)
+next_field [] = Err WrongFields
+next_field (field ∷ fields) = Ok (field, fields)
+
+-- no field is left over
+abbrev pub end_of_fields : Fields → Outcome (Unit {0})
+end_of_fields [] = Ok tt
+end_of_fields (_ ∷ _) = Err WrongFields
+
+-- the word of a line, and the fields after it
+abbrev pub word_field : Fields → Outcome (Word × Fields)
+word_field fields = do
+  (field, fields) ← next_field fields
+  word ← ok_or (word_of field) UnknownWord
+  Ok (word, fields)
+
+-- a number below the limit, and the fields after it
+abbrev pub number_field : ℕ → Fields → Outcome (ℕ × Fields)
+number_field limit fields = do
+  (field, fields) ← next_field fields
+  n ← ok_or (number_below limit field) BadNumber
+  Ok (n, fields)
+
+-- the width of offsets in bits, and the fields after it
+abbrev pub format_field : Fields → Outcome (Format × Fields)
+format_field fields = do
+  (n, fields) ← number_field (2 ^ 8) fields
+  format ← (if n == 32 then Ok Dwarf32 else (if n == 64 then Ok Dwarf64 else Err BadNumber))
+  Ok (format, fields)
+
+-- a byte order, and the fields after it
+abbrev pub byte_order_field : Fields → Outcome (RunTimeEndian × Fields)
+byte_order_field fields = do
+  (field, fields) ← next_field fields
+  order ← (if bytes_eq field (codes "little") then Ok Little else (if bytes_eq field (codes "big") then Ok Big else Err UnknownWord))
+  Ok (order, fields)

@@ -1,0 +1,54 @@
+-- What a line of a script asks for, or why it is refused.
+use Rattle.std.specs.Prelude.{ℕ, ◌^◌, Bool, true, ◌&&◌, List, [], ◌∷◌, Option, Some, None, Ok, Err, nat_le, ◌==◌, if◌then◌else◌}
+use Rattle.std.specs.List.{list_all}
+use Rattle.dw_script.specs.declared.command.Command.{Command}
+use Rattle.dw_script.specs.declared.command.Command.TheVariants as command
+use Rattle.dw_script.specs.declared.reason.Reason.TheVariants.{BadByte, NotBuilt}
+use Rattle.dw_script.specs.declared.word.Word.{Word}
+use Rattle.dw_script.specs.declared.word.Word.TheVariants as word
+use Rattle.dw_script.specs.Pieces.{pieces, space}
+use Rattle.dw_script.specs.Fields.{Fields, Outcome, ◌>>=◌, word_field, end_of_fields, number_field, format_field, byte_order_field}
+
+-- an empty line, and one that begins with `#`, which is 35, asks for nothing
+abbrev pub passed_over : List ℕ → Bool
+passed_over [] = true
+passed_over (first ∷ _) = first == 35
+
+-- each byte is printable ASCII
+abbrev pub all_printable : List ℕ → Bool
+all_printable line = list_all (λ b. nat_le 32 b && nat_le b 126) line
+
+-- the fields after `order`: the byte order
+abbrev pub order_line : Fields → Outcome Command
+order_line fields = do
+  (order, fields) ← byte_order_field fields
+  _ ← end_of_fields fields
+  Ok (command.Order order)
+
+-- the fields after `unit`: the version, the bytes of an address, and the format
+abbrev pub unit_line : Fields → Outcome Command
+unit_line fields = do
+  (version, fields) ← number_field (2 ^ 16) fields
+  (address_size, fields) ← number_field (2 ^ 8) fields
+  (format, fields) ← format_field fields
+  _ ← end_of_fields fields
+  Ok (command.Unit (record { address_size = address_size; format = format; version = version }))
+
+-- what the fields after a word ask for
+abbrev pub line_of : Word → Fields → Outcome Command
+line_of word.Order fields = order_line fields
+line_of word.Unit fields = unit_line fields
+line_of _ fields = Err NotBuilt
+
+-- what the fields of a line ask for, from its word on
+abbrev pub command_of : Fields → Outcome Command
+command_of fields = do
+  (word, fields) ← word_field fields
+  line_of word fields
+
+-- what a line asks for; its bytes are looked at before its fields
+abbrev pub parsed_line : List ℕ → Outcome (Option Command)
+parsed_line line =
+    if passed_over line then Ok None
+    else (if all_printable line then (command_of (pieces space line) >>= λ command. Ok (Some command))
+    else Err BadByte)

@@ -1,0 +1,33 @@
+-- The words that begin a line.
+use Rattle.std.specs.Prelude.{ℕ, List, [], ◌∷◌, Option, bytes_eq, codes}
+use Rattle.std.specs.Map.{lookup}
+use Rattle.dw_script.specs.declared.word.Word.{Word}
+use Rattle.dw_script.specs.declared.word.Word.TheVariants as word
+
+-- each word with its spelling
+abbrev pub words : List (List ℕ × Word)
+words =
+    (codes "order", word.Order)
+    ∷ (codes "unit", word.Unit)
+    ∷ (codes "add", word.Add)
+    ∷ (codes "reserve", word.Reserve)
+    ∷ (codes "add_reserved", word.AddReserved)
+    ∷ (codes "sibling", word.Sibling)
+    ∷ (codes "set", word.Set)
+    ∷ (codes "delete", word.Delete)
+    ∷ (codes "delete_child", word.DeleteChild)
+    ∷ (codes "str", word.Str)
+    ∷ (codes "line_str", word.LineStr)
+    ∷ (codes "range", word.Range)
+    ∷ (codes "loc", word.Loc)
+    ∷ (codes "line", word.Line)
+    ∷ (codes "dir", word.Dir)
+    ∷ (codes "file", word.File)
+    ∷ (codes "sequence", word.Sequence)
+    ∷ (codes "row", word.Row)
+    ∷ (codes "end", word.End)
+    ∷ []
+
+-- the word that a field spells
+abbrev pub word_of : List ℕ → Option Word
+word_of field = lookup (bytes_eq field) words

@@ -1,0 +1,79 @@
+//! The typed fields of a line, each taken from the front of those that are left. After an error
+//! the fields are not read on.
+
+ghost use Rattle.std.specs.Prelude.{◌≡◌, ◌^◌, Ok, Err, MatchResult};
+ghost use Rattle.dw_script.specs.Pieces.{pieces_left};
+ghost use Rattle.dw_script.specs.Fields.{byte_order_field, end_of_fields, format_field, next_field, number_field, with_rest, word_field};
+
+use crate::number::{parse_u8, parse_u16};
+use crate::pieces::Pieces;
+use crate::reason::Reason;
+use crate::word::Word;
+use dw_base::{Format, RunTimeEndian};
+
+/// Any field, as it stands.
+pub(crate) fn next_field<'a>(fields: &mut Pieces<'a>) -> Result<&'a [u8], Reason>
+    ensures { MatchResult result
+        (λ field. next_field (pieces_left fields.old) ≡ Ok (field.now, pieces_left fields.new))
+        (λ reason. next_field (pieces_left fields.old) ≡ Err reason) }
+{
+    fields.next().ok_or(Reason::WrongFields)
+}
+
+/// The word of a line.
+pub(crate) fn next_word(fields: &mut Pieces<'_>) -> Result<Word, Reason>
+    ensures { with_rest result (pieces_left fields.new) ≡
+        word_field (pieces_left fields.old) }
+{
+    Word::read(next_field(fields)?).ok_or(Reason::UnknownWord)
+}
+
+/// A number below 2^16.
+pub(crate) fn next_u16(fields: &mut Pieces<'_>) -> Result<u16, Reason>
+    ensures { with_rest result (pieces_left fields.new) ≡
+        number_field (2 ^ 16) (pieces_left fields.old) }
+{
+    parse_u16(next_field(fields)?).ok_or(Reason::BadNumber)
+}
+
+/// A number below 2^8.
+pub(crate) fn next_u8(fields: &mut Pieces<'_>) -> Result<u8, Reason>
+    ensures { with_rest result (pieces_left fields.new) ≡
+        number_field (2 ^ 8) (pieces_left fields.old) }
+{
+    parse_u8(next_field(fields)?).ok_or(Reason::BadNumber)
+}
+
+/// A format, by the bits of its offsets.
+pub(crate) fn next_format(fields: &mut Pieces<'_>) -> Result<Format, Reason>
+    ensures { with_rest result (pieces_left fields.new) ≡
+        format_field (pieces_left fields.old) }
+{
+    match next_u8(fields)? {
+        32 => Ok(Format::Dwarf32),
+        64 => Ok(Format::Dwarf64),
+        _ => Err(Reason::BadNumber),
+    }
+}
+
+/// A byte order, by its word.
+pub(crate) fn next_byte_order(fields: &mut Pieces<'_>) -> Result<RunTimeEndian, Reason>
+    ensures { with_rest result (pieces_left fields.new) ≡
+        byte_order_field (pieces_left fields.old) }
+{
+    match next_field(fields)? {
+        b"little" => Ok(RunTimeEndian::Little),
+        b"big" => Ok(RunTimeEndian::Big),
+        _ => Err(Reason::UnknownWord),
+    }
+}
+
+/// The end of the line: no field is left over.
+pub(crate) fn expect_end(mut fields: Pieces<'_>) -> Result<(), Reason>
+    ensures { result ≡ end_of_fields (pieces_left fields.entry) }
+{
+    match fields.next() {
+        None => Ok(()),
+        Some(_) => Err(Reason::WrongFields),
+    }
+}

@@ -1,0 +1,20 @@
+//! The lines of a build script, from any bytes at all to commands. What a line means is said by
+//! `parsed_line` in `specs/`.
+#![tactic(auto)]
+
+mod command;
+mod field;
+mod line;
+mod number;
+mod pieces;
+mod reason;
+mod word;
+
+pub use command::Command;
+pub use line::parse_line;
+pub use number::{parse_u8, parse_u16, parse_u64};
+pub use pieces::{Pieces, lines};
+pub use reason::Reason;
+
+#[cfg(test)]
+mod tests;

@@ -1,0 +1,67 @@
+//! Bytes, cut at each separator: a script into lines, and a line into fields.
+
+ghost use Rattle.std.specs.Prelude.{◌≡◌, ◌∷◌, ◌+◌, ◌<◌, ◌≤◌, ◌==◌, IfSome, length, position};
+ghost use Rattle.std.specs.Iterator.{YieldsFirstRef, item_count};
+ghost use Rattle.dw_script.specs.Pieces.{newline, pieces, pieces_after, pieces_left};
+
+/// The pieces between separators, from the first on; n separators give n + 1 pieces.
+#[derive(Debug, Drop)]
+pub struct Pieces<'a> {
+    separator: u8,
+    rest: Option<&'a [u8]>,
+}
+
+impl<'a> Pieces<'a> {
+    /// All pieces of the bytes.
+    #[tactic(auto, unfolding(crate::specs::Pieces::pieces_left))]
+    pub fn new(bytes: &'a [u8], separator: u8) -> Pieces<'a>
+        ensures { pieces_left result ≡ pieces separator bytes.now }
+    {
+        Pieces {
+            separator,
+            rest: Some(bytes),
+        }
+    }
+}
+
+impl<'a> Iterator for Pieces<'a> {
+    type Item = &'a [u8];
+
+    ghost next_gives = { YieldsFirstRef pieces_left };
+
+    ghost remaining = { item_count pieces_left };
+
+    #[tactic(auto, unfolding(crate::specs::Pieces::pieces_left))]
+    fn next(&mut self) -> Option<&'a [u8]> {
+        let (piece, rest) = split_first_piece(self.rest?, self.separator);
+        self.rest = rest;
+        Some(piece)
+    }
+}
+
+/// The lines of a script, which may lack its last newline.
+pub fn lines(script: &[u8]) -> Pieces<'_>
+    ensures lines { pieces_left result ≡ pieces newline script.now }
+
+    // So a line's number fits wherever the script's length does.
+    ensures few { length (pieces_left result) ≤ length script.now + 1 }
+{
+    Pieces::new(script, b'\n')
+}
+
+// The bytes before the first separator, and those after it.
+fn split_first_piece(bytes: &[u8], separator: u8) -> (&[u8], Option<&[u8]>)
+    ensures { pieces separator bytes.now ≡ result.0.now ∷ pieces_after separator result.1 }
+{
+    match find_separator(bytes, separator) {
+        Some(at) => (&bytes[..at], Some(&bytes[at + 1..])),
+        None => (bytes, None),
+    }
+}
+
+fn find_separator(bytes: &[u8], separator: u8) -> Option<usize>
+    ensures place { result ≡ position (λ b. b == separator) bytes.now }
+    ensures inside { IfSome result (λ at. at < length bytes.now) }
+{
+    bytes.iter().position(|b| *b == separator)
+}

@@ -1,0 +1,37 @@
+//! Why a line is refused.
+
+ghost use Rattle.std.specs.Prelude.{◌≡◌};
+ghost use Rattle.dw_script.specs.Reasons.{reason_text};
+
+/// Why a line of a script is refused.
+#[derive(Clone, Copy, Debug, PartialEq, Eq)]
+pub enum Reason {
+    /// A byte is outside printable ASCII.
+    BadByte,
+    /// A field is none of the words that may stand there.
+    UnknownWord,
+    /// A field is no number, or out of its range.
+    BadNumber,
+    /// A field is missing, or left over.
+    WrongFields,
+    /// The word is known, and its command not built yet.
+    NotBuilt,
+    /// The byte order is chosen after another command.
+    OrderNotFirst,
+}
+
+impl Reason {
+    /// The reason as it is printed.
+    pub fn text(self) -> &'static str
+        ensures { result.now ≡ reason_text self }
+    {
+        match self {
+            Reason::BadByte => "bad byte",
+            Reason::UnknownWord => "unknown word",
+            Reason::BadNumber => "bad number",
+            Reason::WrongFields => "wrong fields",
+            Reason::NotBuilt => "not built",
+            Reason::OrderNotFirst => "order not first",
+        }
+    }
+}

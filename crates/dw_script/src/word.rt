@@ -1,0 +1,59 @@
+//! The words that begin a line.
+
+ghost use Rattle.std.specs.Prelude.{◌≡◌};
+ghost use Rattle.dw_script.specs.Words.{word_of};
+
+/// The word of a line, which says what the line's other fields are.
+#[derive(Clone, Copy, Debug, PartialEq, Eq)]
+pub(crate) enum Word {
+    Order,
+    Unit,
+    Add,
+    Reserve,
+    AddReserved,
+    Sibling,
+    Set,
+    Delete,
+    DeleteChild,
+    Str,
+    LineStr,
+    Range,
+    Loc,
+    Line,
+    Dir,
+    File,
+    Sequence,
+    Row,
+    End,
+}
+
+impl Word {
+    /// The word that a field spells.
+    pub(crate) fn read(field: &[u8]) -> Option<Word>
+        ensures { result ≡ word_of field.now }
+    {
+        let word = match field {
+            b"order" => Word::Order,
+            b"unit" => Word::Unit,
+            b"add" => Word::Add,
+            b"reserve" => Word::Reserve,
+            b"add_reserved" => Word::AddReserved,
+            b"sibling" => Word::Sibling,
+            b"set" => Word::Set,
+            b"delete" => Word::Delete,
+            b"delete_child" => Word::DeleteChild,
+            b"str" => Word::Str,
+            b"line_str" => Word::LineStr,
+            b"range" => Word::Range,
+            b"loc" => Word::Loc,
+            b"line" => Word::Line,
+            b"dir" => Word::Dir,
+            b"file" => Word::File,
+            b"sequence" => Word::Sequence,
+            b"row" => Word::Row,
+            b"end" => Word::End,
+            _ => return None,
+        };
+        Some(word)
+    }
+}
