@@ -47,7 +47,7 @@ command_of fields = do
   line_of word fields
 
 -- what a line asks for; its bytes are looked at before its fields
-abbrev pub parsed_line : List ℕ → Outcome (Option Command)
+unfoldable pub parsed_line : List ℕ → Outcome (Option Command)
 parsed_line line =
     if passed_over line then Ok None
     else (if all_printable line then (command_of (pieces space line) >>= λ command. Ok (Some command))

@@ -12,6 +12,7 @@ use crate::word::Word;
 use dw_base::Encoding;
 
 /// What a line asks for, or `None` where it is passed over.
+#[tactic(auto, unfolding(crate::specs::Lines::parsed_line))]
 pub fn parse_line(line: &[u8]) -> Result<Option<Command>, Reason>
     ensures { result ≡ parsed_line line.now }
 {

@@ -1,16 +1,15 @@
 -- Laws of texts, and of records that are put into them.
-use Rattle.std.specs.Prelude.{◌≡◌, ◌⊎◌, ℕ, suc, zero, ◌+◌, ◌*◌, ◌<◌, ◌≤◌, Bool, true, false, ◌&&◌, not, nat_le, List, [], ◌∷◌, ◌++◌, length, take, drop, Option, Some, None, refl, ℤ, pos, negsuc, ◌+ℤ◌, IsTrue, if◌then◌else◌}
+use Rattle.std.specs.Prelude.{◌≡◌, ℕ, suc, zero, ◌+◌, ◌≤◌, Bool, true, false, ◌&&◌, not, List, [], ◌∷◌, ◌++◌, length, take, drop, Option, Some, None, refl, ℤ, pos, negsuc, ◌+ℤ◌, IsTrue, if◌then◌else◌}
 use Rattle.std.specs.Int.{bytes_low_first, bytes_high_first}
-use Rattle.std.proofs.Common.{sym, ◌∙◌, ap, subst, inl, inr, arith, rules, length-append, length-drop, append_assoc, cond, add_assoc}
-use Rattle.std.proofs.lemmas.Grind.{common_steps}
+use Rattle.std.proofs.Common.{sym, ◌∙◌, ap, subst, inl, inr, arith, length-append, length-drop, append_assoc}
 use Rattle.std.proofs.lemmas.Bool.Decides.{nat_tests}
 use Rattle.std.proofs.lemmas.List.{take-append-le, drop-append-le}
 use Rattle.dw_base.specs.Numbers.{num, is_width, fits, high_first, low_first}
-use Rattle.dw_writer.specs.Texts.{Text, zeros, followed, num_text, int_text, overwrite, patched}
+use Rattle.dw_writer.specs.Texts.{Text, followed, num_text, int_text, overwrite, patched}
 use Rattle.dw_writer.specs.Resolved.{number_at_place, record_text, put_record, put_records, resolved}
 use Rattle.dw_writer.specs.Meaning.{Layout, Meaning, target_value, is_inside, IsApart, AllInside, AllApart, IsTidy, IsClear, is_at_zero}
 use Rattle.dw_writer.specs.declared.relocate.Relocation.{Relocation}
-use Rattle.dw_writer.proofs.Places.{length-overwrite, overwrite-middle, overwrite-append, overwrite-twice, overwrite-apart, part-before, drop-overwrite, part-same, length-zeros}
+use Rattle.dw_writer.proofs.Places.{length-overwrite, overwrite-append, overwrite-apart, part-before, drop-overwrite}
 
 -- Texts
 

@@ -6,3 +6,5 @@ pub mod Outcomes
 pub mod Parts
 pub mod Plain
 pub mod Leb
+pub mod NewLemmas
+pub mod VisitSteps

@@ -1,11 +1,12 @@
 -- What a call that failed, or one that tells no more, may have added.
-use Rattle.std.specs.Prelude.{◌≡◌, ℕ, ◌+◌, ◌≤◌, Bool, List, [], ◌++◌, length, take, Option, Some, None, refl, Result, Ok, Err, OnOk, OnErr}
+use Rattle.std.specs.Prelude.{◌≡◌, ℕ, ◌+◌, ◌-◌, ◌≤◌, Bool, List, [], ◌++◌, length, take, Some, None, refl, Result, Ok, Err, OnOk, OnErr}
 use Rattle.std.proofs.Common.{sym, ◌∙◌, ap, arith, length-append}
 use Rattle.std.proofs.lemmas.List.{append-nil, length-take}
 use Rattle.dw_base.specs.Numbers.{num}
 use Rattle.dw_base.specs.declared.error.Error.{Error}
-use Rattle.dw_writer.specs.Texts.{Text, followed}
-use Rattle.dw_writer.specs.Meaning.{Meaning, Adds, AddsSome, AddsAtMost}
+use Rattle.dw_writer.specs.Texts.{Text, followed, overwrite, patched}
+use Rattle.dw_writer.specs.Meaning.{Meaning, Adds, AddsSome, AddsAtMost, Replaces, IsTidy}
+use Rattle.dw_writer.proofs.Places.{length-overwrite, overwrite-past}
 use Rattle.dw_writer.proofs.Laws.{length-num}
 use Rattle.dw_writer.proofs.Outcomes.{OnErr-always}
 use Rattle.dw_writer.proofs.Steps.{told_twice}
@@ -57,3 +58,21 @@ number-most r a b xs big w n p q e =
 
 pub OnErr-none : {T : Type 0} (r : Result T Error) (m : Meaning) (bytes : List ℕ) → OnErr r (AddsSome m m bytes)
 OnErr-none r m bytes = OnErr-always r (AddsSome-none m bytes)
+
+told-replaced : (t u : Text) (n q p : ℕ) (xs ys : List ℕ) → ((b : List ℕ) → t ≡ Some b → length b ≡ n) → p ≡ n + q → u ≡ followed t (Some ys) →
+    patched p (Some xs) u ≡ followed t (Some (overwrite q xs ys))
+unfolding followed patched
+told-replaced None u n q p xs ys sized at e = ap (patched p (Some xs)) e
+told-replaced (Some b) u n q p xs ys sized at e =
+    let start : length b ≡ n = sized b refl in
+    let there : p ≡ length b + q = omega arith in
+    ap (patched p (Some xs)) e ∙ ap (λ k. Some (overwrite k xs (b ++ ys))) there ∙ ap Some (overwrite-past q xs b ys)
+
+-- bytes written over those that were added
+pub AddsAtMost-replaced : {a b c : Meaning} {n p : ℕ} {xs : List ℕ} → IsTidy a → AddsAtMost a b n → Replaces b c p xs → a.size ≤ p → AddsAtMost a c n
+AddsAtMost-replaced {a} {b} {c} {n} {p} {xs} tidy m r past = record {
+  bytes = overwrite (p - a.size) xs m.bytes;
+  within = let len : length (overwrite (p - a.size) xs m.bytes) ≡ length m.bytes = length-overwrite (p - a.size) xs m.bytes in omega (arith, m.within);
+  size = let len : length (overwrite (p - a.size) xs m.bytes) ≡ length m.bytes = length-overwrite (p - a.size) xs m.bytes in omega (arith, m.size, r.size);
+  told = r.told ∙ told-replaced a.bytes b.bytes a.size (p - a.size) p xs m.bytes tidy.sized (omega arith) m.told;
+}

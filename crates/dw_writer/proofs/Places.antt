@@ -1,7 +1,6 @@
 -- Laws of bytes written over others.
-use Rattle.std.specs.Prelude.{◌≡◌, ℕ, suc, zero, ◌+◌, ◌≤◌, Bool, true, false, List, [], ◌∷◌, ◌++◌, length, take, drop, Option, Some, None, refl}
-use Rattle.std.proofs.Common.{sym, ◌∙◌, ap, arith, length-append, append_assoc, add-suc}
-use Rattle.std.proofs.lemmas.Grind.{common_steps}
+use Rattle.std.specs.Prelude.{◌≡◌, ℕ, suc, zero, ◌+◌, ◌≤◌, List, [], ◌∷◌, ◌++◌, length, take, drop, refl}
+use Rattle.std.proofs.Common.{sym, ◌∙◌, ap, arith}
 use Rattle.dw_writer.specs.Texts.{overwrite, zeros}
 
 pub length-overwrite : (p : ℕ) (xs bs : List ℕ) → length (overwrite p xs bs) ≡ length bs
@@ -98,3 +97,10 @@ overwrite-put zero (suc k) (x ∷ xs) [] e h = absurd (omega arith)
 overwrite-put zero (suc k) (x ∷ xs) (b ∷ bs) e h = ap (λ r. x ∷ r) (overwrite-put zero k xs bs (omega arith) (omega arith))
 overwrite-put (suc p) k xs [] e h = absurd (omega arith)
 overwrite-put (suc p) k xs (b ∷ bs) e h = ap (λ r. b ∷ r) (overwrite-put p k xs bs e (omega arith))
+
+-- written over bytes that lie past the first part
+pub overwrite-past : (q : ℕ) (xs hs bs : List ℕ) → overwrite (length hs + q) xs (hs ++ bs) ≡ hs ++ overwrite q xs bs
+overwrite-past q xs [] bs = let e : 0 + q ≡ q = omega arith in ap (λ p. overwrite p xs bs) e
+overwrite-past q xs (a ∷ hs) bs =
+    let e : suc (length hs) + q ≡ suc (length hs + q) = omega arith in
+    ap (λ p. overwrite p xs (a ∷ (hs ++ bs))) e ∙ ap (λ r. a ∷ r) (overwrite-past q xs hs bs)

@@ -1,18 +1,16 @@
 -- What plain writers' calls come to.
-use Rattle.std.specs.Prelude.{◌≡◌, ◌⊎◌, ℕ, suc, zero, ◌+◌, ◌-◌, ◌<◌, ◌≤◌, Bool, true, false, ◌&&◌, not, nat_le, List, [], ◌∷◌, ◌++◌, length, take, drop, Option, Some, None, slice_index, refl, IsTrue, if◌then◌else◌, Result, Ok, Err, OnOk, IfErr}
+use Rattle.std.specs.Prelude.{◌≡◌, ◌⊎◌, ℕ, suc, zero, ◌+◌, ◌-◌, ◌<◌, ◌≤◌, Bool, true, false, ◌&&◌, not, List, [], ◌∷◌, length, take, drop, Some, None, slice_index, refl, IsTrue, if◌then◌else◌, Result, Ok, Err, OnOk, IfErr}
 use Rattle.std.specs.List.{list_all}
 use Rattle.std.specs.Int.{byte_at, bytes_low_first, bytes_high_first}
 use Rattle.std.proofs.Common.{sym, ◌∙◌, ap, subst, inl, inr, arith, add-zero}
-use Rattle.std.proofs.lemmas.Bool.Decides.{nat_tests}
 use Rattle.dw_base.specs.Numbers.{num, is_width, fits}
 use Rattle.dw_writer.specs.Texts.{Text, followed, num_text, patched}
 use Rattle.dw_writer.specs.Resolved.{resolved, put_records}
-use Rattle.dw_writer.specs.Meaning.{Layout, Meaning, IsApart, IsTidy, IsClear, Adds, Replaces, Appends, Patches, is_zero, is_at_zero, start_of, section_number}
+use Rattle.dw_writer.specs.Meaning.{Layout, Meaning, IsApart, IsClear, Adds, Replaces, Appends, Patches, is_zero, is_at_zero, start_of, section_number}
 use Rattle.dw_writer.specs.Causes.{NumberRefused, BytesRefused, PatchCause}
 use Rattle.dw_writer.specs.SectionTexts.{offset_text, address_text, number_text}
 use Rattle.dw_base.specs.declared.section_id.SectionId.{SectionId}
-use Rattle.dw_base.specs.declared.address.Address.{Address}
-use Rattle.dw_base.specs.declared.address.Address.TheVariants.{Constant, Symbol}
+use Rattle.dw_base.specs.declared.address.Address.TheVariants.{Constant}
 use Rattle.dw_base.specs.declared.error.Error.{Error}
 use Rattle.dw_base.specs.declared.error.Error.TheVariants.{NoMemory, WriteFault, OffsetOutOfBounds, LengthOutOfBounds}
 use Rattle.dw_writer.proofs.Laws.{length-bytes_high_first, length-num, length-num_text}

@@ -1,11 +1,11 @@
 -- What a record and zeros in its place come to.
-use Rattle.std.specs.Prelude.{◌≡◌, ◌⊎◌, ℕ, suc, zero, ◌+◌, ◌*◌, ◌<◌, ◌≤◌, Bool, true, false, ◌&&◌, not, nat_le, List, [], ◌∷◌, ◌++◌, length, take, drop, Option, Some, None, refl, IsTrue, if◌then◌else◌}
-use Rattle.std.proofs.Common.{sym, ◌∙◌, ap, subst, inl, inr, arith, length-append, append_assoc}
+use Rattle.std.specs.Prelude.{◌≡◌, ℕ, suc, zero, ◌+◌, ◌*◌, ◌≤◌, Bool, true, false, ◌&&◌, not, List, [], ◌∷◌, ◌++◌, length, take, drop, Some, None, refl, IsTrue, if◌then◌else◌}
+use Rattle.std.proofs.Common.{sym, ◌∙◌, ap, subst, inl, arith, length-append}
 use Rattle.std.proofs.lemmas.Bool.Decides.{nat_tests}
 use Rattle.dw_base.specs.Numbers.{is_width, high_first, low_first}
 use Rattle.dw_writer.specs.Texts.{Text, zeros, followed, overwrite, patched}
-use Rattle.dw_writer.specs.Resolved.{number_at_place, record_text, put_record, put_records, resolved}
-use Rattle.dw_writer.specs.Meaning.{Layout, Meaning, is_inside, IsApart, AllInside, AllApart, IsTidy, IsClear, IsSameWriter, Records, Adds, Replaces, Appends, Patches, is_at_zero}
+use Rattle.dw_writer.specs.Resolved.{number_at_place, record_text, put_record, put_records}
+use Rattle.dw_writer.specs.Meaning.{Layout, Meaning, is_inside, AllInside, AllApart, Records, Adds, Replaces, Appends, Patches, is_at_zero}
 use Rattle.dw_writer.specs.declared.relocate.Relocation.{Relocation}
 use Rattle.dw_writer.proofs.Places.{length-overwrite, overwrite-twice, part-same, length-zeros}
 use Rattle.dw_writer.proofs.Laws.{IsWide, length-record_text, put_records-wide, put_records-followed, put_records-patched, put_records-more, AllInside-more, AllInside-push, AllApart-push}

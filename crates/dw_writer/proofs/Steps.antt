@@ -1,13 +1,12 @@
 -- What several calls of a writer come to.
-use Rattle.std.specs.Prelude.{◌≡◌, ◌⊎◌, ℕ, suc, zero, ◌+◌, ◌*◌, ◌<◌, ◌≤◌, Bool, true, false, ◌&&◌, not, nat_le, List, [], ◌∷◌, ◌++◌, length, take, drop, Option, Some, None, refl, IsTrue, if◌then◌else◌}
-use Rattle.std.proofs.Common.{sym, ◌∙◌, ap, subst, inl, inr, arith, length-append, append_assoc}
-use Rattle.std.proofs.lemmas.Bool.Decides.{nat_tests}
-use Rattle.dw_writer.specs.Texts.{Text, zeros, followed, overwrite, patched}
-use Rattle.dw_writer.specs.Resolved.{record_text, put_record, put_records, resolved}
-use Rattle.dw_writer.specs.Meaning.{Layout, Meaning, Model, is_inside, IsApart, AllInside, AllApart, IsTidy, IsClear, IsSameWriter, Adds, Replaces, Appends, Patches, is_at_zero}
+use Rattle.std.specs.Prelude.{◌≡◌, ℕ, ◌+◌, Bool, true, false, ◌&&◌, not, List, ◌++◌, length, Some, None, refl, if◌then◌else◌}
+use Rattle.std.proofs.Common.{sym, ◌∙◌, ap, subst, inl, arith, length-append, append_assoc}
+use Rattle.dw_writer.specs.Texts.{Text, followed, overwrite, patched}
+use Rattle.dw_writer.specs.Resolved.{put_records, resolved}
+use Rattle.dw_writer.specs.Meaning.{Layout, Meaning, Model, IsApart, AllInside, AllApart, IsTidy, IsClear, IsSameWriter, Adds, Replaces, Appends, Patches, is_at_zero}
 use Rattle.dw_writer.specs.declared.relocate.Relocation.{Relocation}
 use Rattle.dw_writer.proofs.Places.{length-overwrite, overwrite-middle}
-use Rattle.dw_writer.proofs.Laws.{IsWide, followed_assoc, followed-none, put_records-wide, put_records-followed, put_records-patched, patched-none, AllInside-more, IsClear-end, resolved-wide}
+use Rattle.dw_writer.proofs.Laws.{IsWide, followed_assoc, put_records-followed, put_records-patched, AllInside-more, IsClear-end, resolved-wide}
 
 pub IsSameWriter-trans : {a b c : Meaning} → IsSameWriter a b → IsSameWriter b c → IsSameWriter a c
 IsSameWriter-trans p q = record { order = q.order ∙ p.order; kind = q.kind ∙ p.kind; faults = omega arith }

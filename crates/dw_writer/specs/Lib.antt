@@ -8,3 +8,4 @@ pub mod Causes
 pub mod SectionTexts
 pub mod Sections
 pub mod New
+pub mod Visits

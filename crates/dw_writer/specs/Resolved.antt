@@ -1,5 +1,5 @@
 -- What becomes of a writer's bytes once sections are placed and symbols have values.
-use Rattle.std.specs.Prelude.{ℕ, ◌+◌, Bool, ◌&&◌, not, nat_le, List, [], ◌∷◌, length, take, drop, Option, Some, None, pos, ◌+ℤ◌, if◌then◌else◌}
+use Rattle.std.specs.Prelude.{ℕ, ◌+◌, Bool, ◌&&◌, not, nat_le, List, [], ◌∷◌, length, take, drop, Some, None, pos, ◌+ℤ◌, if◌then◌else◌}
 use Rattle.dw_base.specs.Numbers.{value_of, is_width}
 use Rattle.dw_writer.specs.Texts.{Text, int_text, patched}
 use Rattle.dw_writer.specs.Layout.{Layout, target_value, is_at_zero}

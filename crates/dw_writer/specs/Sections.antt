@@ -1,6 +1,6 @@
 -- The sections of a file: each by its id, and what is said of all of them.
-use Rattle.std.specs.Prelude.{◌≡◌, ℕ, ◌+◌, Option, Some, None, OnSome, List, [], ◌∷◌}
-use Rattle.std.specs.Borrow.{LendsSo, MutBor, Fml, RattleType}
+use Rattle.std.specs.Prelude.{◌≡◌, ℕ, ◌+◌, Option, Some, None, []}
+use Rattle.std.specs.Borrow.{LendsIf, MutBor, Fml, RattleType}
 use Rattle.dw_base.specs.declared.section_id.SectionId.{SectionId}
 use Rattle.dw_base.specs.declared.section_id.SectionId.TheVariants.{DebugAbbrev, DebugStr, DebugLineStr, DebugLine, DebugRanges, DebugRngLists, DebugLoc, DebugLocLists, DebugInfo, DebugFrame, EhFrame, DebugAddr, DebugStrOffsets, DebugMacinfo, DebugMacro, DebugAranges}
 use Rattle.dw_writer.specs.Meaning.{Meaning}
@@ -47,7 +47,7 @@ with_section s DebugAranges w = s
 
 -- the section of this id ends as the last value behind the loan, and all else stays
 abbrev pub LendsSection : (W : RattleType) → MutBor (Sections W.Denot) → SectionId → Option (MutBor W.Denot) → Fml
-LendsSection W s id r = LendsSo (the_row W) W s r (λ n w. OnSome r (n ≡ with_section s.now id w)) (λ n. n ≡ s.now)
+LendsSection W s id r = LendsIf (the_row W) W s r (with_section s.now id) s.now
 
 -- P holds of the writer of each section
 pub record EachWriter {W : Type 0} (P : W → Type 0) (s : Sections W) : Type 0 where

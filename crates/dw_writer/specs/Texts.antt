@@ -1,5 +1,5 @@
 -- Texts: lists of bytes that are there where every number in them fits its place.
-use Rattle.std.specs.Prelude.{ℕ, suc, zero, Bool, true, false, ◌&&◌, List, [], ◌∷◌, ◌++◌, Option, Some, None, ℤ, pos, negsuc, if◌then◌else◌}
+use Rattle.std.specs.Prelude.{ℕ, suc, zero, Bool, ◌&&◌, List, [], ◌∷◌, ◌++◌, Option, Some, None, ℤ, pos, negsuc, if◌then◌else◌}
 use Rattle.dw_base.specs.Numbers.{num, is_width, fits}
 
 -- bytes, where every number in them fits

@@ -6,10 +6,12 @@ ghost use Rattle.std.specs.Option.{option_copied, option_copied_mut};
 ghost use Rattle.dw_base.specs.declared.error.Error.TheVariants.{NoMemory};
 ghost use Rattle.dw_writer.specs.Sections.{section_of, LendsSection, AllMean, NoFixups};
 
+mod visit;
+
 use crate::fixup::FixupList;
 use crate::section::{
     DebugAbbrev, DebugFrame, DebugInfo, DebugLine, DebugLineStr, DebugLoc, DebugLocLists,
-    DebugRanges, DebugRngLists, DebugStr, EhFrame,
+    DebugRanges, DebugRngLists, DebugStr, EhFrame, Section,
 };
 use crate::writer::Writer;
 use dw_base::{Result, SectionId};
@@ -94,50 +96,23 @@ impl<W: Writer> Sections<W> {
         ensures* lends { sem 𝓛 (LendsSection W.row self.entry id result) }
         ensures value { option_copied_mut result ≡ section_of self.old id }
     {
-        if let SectionId::DebugAbbrev = id {
-            let part = &mut self.debug_abbrev;
-            return Some(&mut part.0);
+        match id {
+            SectionId::DebugAbbrev => Some(self.debug_abbrev.section_mut()),
+            SectionId::DebugStr => Some(self.debug_str.section_mut()),
+            SectionId::DebugLineStr => Some(self.debug_line_str.section_mut()),
+            SectionId::DebugLine => Some(self.debug_line.section_mut()),
+            SectionId::DebugRanges => Some(self.debug_ranges.section_mut()),
+            SectionId::DebugRngLists => Some(self.debug_rnglists.section_mut()),
+            SectionId::DebugLoc => Some(self.debug_loc.section_mut()),
+            SectionId::DebugLocLists => Some(self.debug_loclists.section_mut()),
+            SectionId::DebugInfo => Some(self.debug_info.section_mut()),
+            SectionId::DebugFrame => Some(self.debug_frame.section_mut()),
+            SectionId::EhFrame => Some(self.eh_frame.section_mut()),
+            SectionId::DebugAddr
+            | SectionId::DebugStrOffsets
+            | SectionId::DebugMacinfo
+            | SectionId::DebugMacro
+            | SectionId::DebugAranges => None,
         }
-        if let SectionId::DebugStr = id {
-            let part = &mut self.debug_str;
-            return Some(&mut part.0);
-        }
-        if let SectionId::DebugLineStr = id {
-            let part = &mut self.debug_line_str;
-            return Some(&mut part.0);
-        }
-        if let SectionId::DebugLine = id {
-            let part = &mut self.debug_line;
-            return Some(&mut part.0);
-        }
-        if let SectionId::DebugRanges = id {
-            let part = &mut self.debug_ranges;
-            return Some(&mut part.0);
-        }
-        if let SectionId::DebugRngLists = id {
-            let part = &mut self.debug_rnglists;
-            return Some(&mut part.0);
-        }
-        if let SectionId::DebugLoc = id {
-            let part = &mut self.debug_loc;
-            return Some(&mut part.0);
-        }
-        if let SectionId::DebugLocLists = id {
-            let part = &mut self.debug_loclists;
-            return Some(&mut part.0);
-        }
-        if let SectionId::DebugInfo = id {
-            let part = &mut self.debug_info;
-            return Some(&mut part.0);
-        }
-        if let SectionId::DebugFrame = id {
-            let part = &mut self.debug_frame;
-            return Some(&mut part.0);
-        }
-        if let SectionId::EhFrame = id {
-            let part = &mut self.eh_frame;
-            return Some(&mut part.0);
-        }
-        None
     }
 }

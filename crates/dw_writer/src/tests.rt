@@ -1,5 +1,8 @@
+ghost use Rattle.std.specs.Prelude.{◌≡◌, IfOk};
+
 use crate::{EndianVec, Writer};
 use dw_base::{Address, BigEndian, Error, Format, LittleEndian, Result, RunTimeEndian, SectionId};
+use std::alloc::AllocError;
 use std::test::Fail;
 
 /// One number of each width, through the bound.
@@ -118,21 +121,31 @@ fn fills_a_length_in(rt: HostRuntime) -> std::result::Result<(), Fail> {
     Ok(())
 }
 
+/// A copy under a bound, which promises that clones are the same writers.
+fn copy_of<W: Writer + Clone>(w: &W) -> std::result::Result<W, AllocError>
+    requires { (s n : W) → W.is_clone s n → W.meaning n ≡ W.meaning s }
+    ensures { IfOk result (λ n. W.meaning n ≡ W.meaning w.now) }
+{
+    w.clone()
+}
+
 #[test]
 fn puts_offsets_and_addresses_as_they_are(rt: HostRuntime) -> std::result::Result<(), Fail> {
     let mut w = EndianVec::new(rt.alloc(), LittleEndian);
     w.write_address(Address::Constant(0x1234), 8)?;
     w.write_offset(0x56, SectionId::DebugStr, 4)?;
-    let copy = w.clone()?;
+    let copy = copy_of(&w)?;
     w.write_offset_at(8, 0x78, SectionId::DebugStr, 4)?;
     w.write_udata_at(0, 0x9abc, 2)?;
+    w.write_u16_at(2, 0x0102)?;
+    w.write_u8_at(4, 0x03)?;
     assert_eq!(rt;
         copy.slice(),
         [0x34, 0x12, 0, 0, 0, 0, 0, 0, 0x56, 0, 0, 0].as_slice()
     );
     assert_eq!(rt;
         w.slice(),
-        [0xbc, 0x9a, 0, 0, 0, 0, 0, 0, 0x78, 0, 0, 0].as_slice()
+        [0xbc, 0x9a, 2, 1, 3, 0, 0, 0, 0x78, 0, 0, 0].as_slice()
     );
     Ok(())
 }

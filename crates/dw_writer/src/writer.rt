@@ -31,7 +31,7 @@ pub trait Writer {
     fn endian(&self) -> Self::Endian
         ensures { Self.Endian.is_big result ≡ (meaning self.now).is_big };
 
-    /// The bytes so far.
+    /// How many bytes were written so far, which is the offset of the next one.
     fn len(&self) -> usize
         ensures { result ≡ (meaning self.now).size };
 
@@ -260,7 +260,7 @@ pub trait Writer {
         self.write_at(offset, number.slice())
     }
 
-    /// Adds the shortest ULEB128 spelling of a number (DWARF 5, 7.6).
+    /// Adds the shortest ULEB128 spelling of a number, in 1 to 10 bytes (DWARF 5, 7.6).
     final fn write_uleb128(&mut self, val: u64) -> Result<()>
         ensures ok { OnOk result (Adds (meaning self.old) (meaning self.new) (uleb val)) }
         ensures err { IfErr result (BytesRefused (meaning self.old) (meaning self.new)) }
@@ -273,7 +273,7 @@ pub trait Writer {
         self.write(uleb128_bytes(val).slice())
     }
 
-    /// Adds the shortest SLEB128 spelling of a number (DWARF 5, 7.6).
+    /// Adds the shortest SLEB128 spelling of a number, in 1 to 10 bytes (DWARF 5, 7.6).
     final fn write_sleb128(&mut self, val: i64) -> Result<()>
         ensures ok { OnOk result (Adds (meaning self.old) (meaning self.new) (sleb val)) }
         ensures err { IfErr result (BytesRefused (meaning self.old) (meaning self.new)) }

@@ -1,4 +1,4 @@
-use Rattle.std.proofs.Common.{◌≡◌, ◌+◌, ◌-◌, ◌∙◌, ap, sym, take, drop, length, arith}
+use Rattle.std.proofs.Common.{◌+◌, ◌-◌, ◌∙◌, ap, length, arith}
 use borrow.Rule.Slice.PartMut.{put_mid}
 use Rattle.dw_writer.proofs.Places.{overwrite-put}
 use Rattle.dw_writer.proofs.endian_vec.overwrite_inside.Goals as goal

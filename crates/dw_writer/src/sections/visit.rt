@@ -1,0 +1,77 @@
+//! A closure that is called at each section.
+
+ghost use Rattle.std.specs.Prelude.{◌≡◌, Some};
+ghost use Rattle.dw_writer.specs.Sections.{section_of};
+ghost use Rattle.dw_writer.specs.Visits.{Visits, written_ids};
+
+use crate::section::Section;
+use crate::sections::Sections;
+use crate::writer::Writer;
+use dw_base::SectionId;
+
+/// The sections that are written, in the order of their ids.
+const WRITTEN: [SectionId; 11] = [
+    SectionId::DebugAbbrev,
+    SectionId::DebugStr,
+    SectionId::DebugLineStr,
+    SectionId::DebugLine,
+    SectionId::DebugRanges,
+    SectionId::DebugRngLists,
+    SectionId::DebugLoc,
+    SectionId::DebugLocLists,
+    SectionId::DebugInfo,
+    SectionId::DebugFrame,
+    SectionId::EhFrame,
+];
+
+impl<W: Writer> Sections<W> {
+    /// Calls `f` with each section that is written, in the order of their ids, up to its first
+    /// error.
+    pub fn for_each<'a, F, E>(&'a self, mut f: F) -> std::result::Result<(), E>
+    where
+        F: FnMut(SectionId, &'a W) -> std::result::Result<(), E>,
+        requires { F.IsAlwaysCallable f }
+        ensures { (last : F) × Visits (λ id w. section_of self.now id ≡ Some w.now) F.step f written_ids result last }
+    {
+        for id in WRITTEN {
+            if let Some(section) = self.get(id) {
+                f(id, section)?;
+            }
+        }
+        Ok(())
+    }
+
+    /// Calls `f` as `for_each` does, and lends it each section to be written.
+    pub fn for_each_mut<'a, F, E>(&'a mut self, mut f: F) -> std::result::Result<(), E>
+    where
+        F: FnMut(SectionId, &'a mut W) -> std::result::Result<(), E>,
+        requires { F.IsAlwaysCallable f }
+        ensures { (last : F) × Visits (λ id w. section_of self.old id ≡ Some w.now) F.step f written_ids result last }
+    {
+        let Sections {
+            debug_abbrev,
+            debug_str,
+            debug_line_str,
+            debug_line,
+            debug_ranges,
+            debug_rnglists,
+            debug_loc,
+            debug_loclists,
+            debug_info,
+            debug_frame,
+            eh_frame,
+            ..
+        } = self;
+        f(SectionId::DebugAbbrev, debug_abbrev.section_mut())?;
+        f(SectionId::DebugStr, debug_str.section_mut())?;
+        f(SectionId::DebugLineStr, debug_line_str.section_mut())?;
+        f(SectionId::DebugLine, debug_line.section_mut())?;
+        f(SectionId::DebugRanges, debug_ranges.section_mut())?;
+        f(SectionId::DebugRngLists, debug_rnglists.section_mut())?;
+        f(SectionId::DebugLoc, debug_loc.section_mut())?;
+        f(SectionId::DebugLocLists, debug_loclists.section_mut())?;
+        f(SectionId::DebugInfo, debug_info.section_mut())?;
+        f(SectionId::DebugFrame, debug_frame.section_mut())?;
+        f(SectionId::EhFrame, eh_frame.section_mut())
+    }
+}
