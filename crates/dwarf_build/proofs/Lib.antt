@@ -1,0 +1,7 @@
+pub mod Outcomes
+pub mod CommandWords
+pub mod Texts
+pub mod Lines
+pub mod Listings
+pub mod Answered
+pub mod ScriptUnits

@@ -1,0 +1,145 @@
+-- What the program answers, by its status.
+use Rattle.std.specs.Prelude.{◌≡◌, ◌⊎◌, ℕ, ◌<◌, ◌≤◌, List, [], ◌∷◌, length, Any, Option, Some, Ok, Err, false, codes}
+use Rattle.dw_base.specs.Order.{is_big_of}
+use Rattle.dw_base.specs.declared.error.Error.{Error}
+use Rattle.dw_unit.specs.UnitValue.{UnitValue}
+use Rattle.dw_unit.specs.Causes.{EncodingRefused}
+use Rattle.dw_unit.specs.Built.{Built}
+use Rattle.dw_ends.specs.Ends.{Input, Intake, HasRisen, used_up, with_after, TakesPrefix}
+use Rattle.dwarf_build.specs.Script.{script}
+use Rattle.dwarf_build.specs.Texts.{usage_text, too_long_text, refusal_text, refused_text, sections_text, only_units}
+use Rattle.dwarf_build.specs.declared.answer.Stop.{Stop}
+use Rattle.dwarf_build.specs.declared.answer.Stop.TheVariants as stop
+use Rattle.dwarf_build.specs.declared.status.Status.{Status}
+use Rattle.dwarf_build.specs.declared.status.Status.TheVariants.{Listed, Usage, ScriptRefused, WriteRefused, SourceFailed, SinkFailed, NoMemory, TooLong}
+use Rattle.dwarf_build.specs.declared.script.Script.{Script}
+use Rattle.dwarf_build.specs.declared.script.Refusal.{Refusal}
+
+-- the words are the one command that there is
+abbrev pub IsBuild : List (List ℕ) → Type 0
+IsBuild words = words ≡ codes "build" ∷ []
+
+-- of what a source told
+abbrev pub IfTold : Option (List ℕ) → (List ℕ → Type 0) → Type 0
+IfTold told P = (xs : List ℕ) → told ≡ Some xs → P xs
+
+-- a script may have so many bytes
+abbrev pub IsShort : List ℕ → Type 0
+IsShort bytes = length bytes ≤ 16777216
+
+-- no unit or one, which wasn't written yet
+abbrev pub HasFewUnits : List UnitValue → Type 0
+HasFewUnits [] = Unit {0}
+HasFewUnits (u ∷ []) = u.is_written ≡ false
+HasFewUnits (u ∷ v ∷ us) = ⊥
+
+-- the listing of sections that are read as exactly the script's units, with nothing in other sections
+pub record ListsScript (s : Script) (text : List ℕ) : Type 0 where
+  pub info : List ℕ
+  pub abbrevs : List ℕ
+  pub built : Built s.dwarf.units (is_big_of s.endian) info abbrevs
+  pub listed : text ≡ sections_text (is_big_of s.endian) (only_units info abbrevs)
+
+-- some unit has no spelling
+abbrev pub HasNoSpelling : List UnitValue → Error → Type 0
+HasNoSpelling units e = Any (λ u. EncodingRefused u.encoding e) units
+
+-- some unit of the script has no spelling, and the text says why
+pub record IsWriteRefusal (s : Script) (text : List ℕ) : Type 0 where
+  pub error : Error
+  pub cause : HasNoSpelling s.dwarf.units error
+  pub says : text ≡ refused_text error
+
+-- what is said of an accepted script
+abbrev pub SaysOf : Script → Status → List ℕ → Type 0
+SaysOf s Listed text = ListsScript s text
+SaysOf s WriteRefused text = IsWriteRefusal s text
+SaysOf s _ text = ⊥
+
+-- the script of these bytes is accepted, and this is said of it
+pub record SaysAccepted (bytes : List ℕ) (status : Status) (text : List ℕ) : Type 0 where
+  pub value : Script
+  pub accepted : script bytes ≡ Ok value
+  pub says : SaysOf value status text
+
+-- a line of the script is refused, and the text says which and why
+pub record SaysRefused (bytes text : List ℕ) : Type 0 where
+  pub refusal : Refusal
+  pub refused : script bytes ≡ Err refusal
+  pub says : text ≡ refusal_text refusal
+
+-- what is said of a script's bytes
+abbrev pub SaysBuild : List ℕ → Status → List ℕ → Type 0
+SaysBuild bytes Listed text = IsShort bytes × SaysAccepted bytes Listed text
+SaysBuild bytes WriteRefused text = IsShort bytes × SaysAccepted bytes WriteRefused text
+SaysBuild bytes ScriptRefused text = IsShort bytes × SaysRefused bytes text
+SaysBuild bytes _ text = ⊥
+
+-- these bytes were read, which are those that the source told, and this is said of them
+pub record SaysRead (left : Option (List ℕ)) (status : Status) (text : List ℕ) : Type 0 where
+  pub bytes : List ℕ
+  pub told : IfTold left (λ xs. bytes ≡ xs)
+  pub says : SaysBuild bytes status text
+
+-- the text of a status for these words and this input; the others have none of their own
+abbrev pub Says : List (List ℕ) → Option (List ℕ) → Status → List ℕ → Type 0
+Says words left Usage text = (IsBuild words → ⊥) × (text ≡ usage_text)
+Says words left SourceFailed text = ⊥
+Says words left SinkFailed text = ⊥
+Says words left NoMemory text = ⊥
+Says words left TooLong text = IsBuild words × (text ≡ too_long_text) × IfTold left (λ bytes. 16777216 < length bytes)
+Says words left status text = IsBuild words × SaysRead left status text
+
+-- whether the source was read to its end where this is answered, or not at all
+abbrev pub Reads : Input → Input → Status → Type 0
+Reads old new Listed = new.left ≡ used_up old.left
+Reads old new ScriptRefused = new.left ≡ used_up old.left
+Reads old new WriteRefused = new.left ≡ used_up old.left
+Reads old new Usage = new ≡ old
+Reads old new _ = Unit {0}
+
+-- the sink has taken a front of a text that some status has here, which may be none of it
+pub record TakesFront (words : List (List ℕ)) (left : Option (List ℕ)) (old new : Option (List ℕ)) : Type 0 where
+  pub status : Status
+  pub text : List ℕ
+  pub says : Says words left status text
+  pub takes : TakesPrefix old new text
+
+-- the sink has taken the whole text of a status
+pub record TakesText (words : List (List ℕ)) (left : Option (List ℕ)) (status : Status) (old new : Option (List ℕ)) : Type 0 where
+  pub text : List ℕ
+  pub says : Says words left status text
+  pub takes : new ≡ with_after old text
+
+-- what the program has done where it answers a status
+abbrev pub Answers : List (List ℕ) → Input → Input → Intake → Intake → Status → Type 0
+Answers words source_old source_new sink_old sink_new SourceFailed = HasRisen source_old.faults source_new.faults × (sink_new ≡ sink_old)
+Answers words source_old source_new sink_old sink_new SinkFailed = HasRisen sink_old.faults sink_new.faults × TakesFront words source_old.left sink_old.taken sink_new.taken
+Answers words source_old source_new sink_old sink_new NoMemory = (sink_new ≡ sink_old) ⊎ TakesFront words source_old.left sink_old.taken sink_new.taken
+Answers words source_old source_new sink_old sink_new status = TakesText words source_old.left status sink_old.taken sink_new.taken × Reads source_old source_new status
+
+-- an answer was printed: whole, or a front of it where the sink refused
+abbrev pub Prints : Status → List ℕ → Intake → Intake → Status → Type 0
+Prints status text old new result = ((result ≡ status) × (new.taken ≡ with_after old.taken text)) ⊎ (TakesPrefix old.taken new.taken text × (((result ≡ SinkFailed) × HasRisen old.faults new.faults) ⊎ (result ≡ NoMemory)))
+
+-- why there is no answer
+abbrev pub StopsFor : Input → Input → Stop → Type 0
+StopsFor old new stop.SourceFailed = HasRisen old.faults new.faults
+StopsFor old new stop.NoMemory = Unit {0}
+
+-- the number of a status
+abbrev pub code_of : Status → ℕ
+code_of Listed = 0
+code_of Usage = 1
+code_of ScriptRefused = 2
+code_of WriteRefused = 3
+code_of SourceFailed = 4
+code_of SinkFailed = 5
+code_of NoMemory = 6
+code_of TooLong = 7
+
+-- the program answers a number, and has done what that says
+pub record RunAnswers (words : List (List ℕ)) (source_old source_new : Input) (sink_old sink_new : Intake) (code : ℕ) : Type 0 where
+  pub status : Status
+  pub coded : code ≡ code_of status
+  pub answers : Answers words source_old source_new sink_old sink_new status

@@ -1,0 +1,144 @@
+//! What the program answers: a status and the text that goes with it.
+
+ghost use Rattle.std.specs.Prelude.{◌≡◌, ◌≤◌, ◌↔◌, ◌∷◌, [], List, length, map, codes, Some, IsTrue, IfOk, IfErr, string_bytes};
+ghost use Rattle.dwarf_build.specs.Answers.{IsBuild, HasFewUnits, Says, SaysOf, SaysBuild, Reads, StopsFor};
+ghost use Rattle.dwarf_build.specs.Texts.{refusal_text, refused_text};
+
+use crate::listing::list_sections;
+use crate::script::{Refusal, SCRIPT_LIMIT, Script, ScriptError, read_script};
+use crate::status::Status;
+use dw_base::Error;
+use dw_ends::{ReadAllError, Source, read_all};
+use dw_writer::{EndianVec, Sections};
+use std::alloc::{AllocError, Global};
+
+/// A status and the text that goes with it.
+#[derive(Drop)]
+pub struct Answer {
+    pub status: Status,
+    pub text: Vec<u8>,
+}
+
+/// Why there is no answer.
+#[derive(Clone, Copy, Debug, PartialEq, Eq)]
+pub enum Stop {
+    SourceFailed,
+    NoMemory,
+}
+
+impl From<AllocError> for Stop {
+    ghost use Rattle.dwarf_build.specs.declared.answer.Stop.TheVariants.{NoMemory};
+
+    ghost from_gives = { λ _ s. s ≡ NoMemory };
+
+    fn from(_error: AllocError) -> Stop {
+        Stop::NoMemory
+    }
+}
+
+// Tells that the words are the command `build`.
+fn is_build(words: &Vec<String>) -> bool
+    ensures { IsTrue result ↔ IsBuild (map string_bytes words.now.items) }
+{
+    match words.as_slice() {
+        [word] => word.as_str() == "build",
+        _ => false,
+    }
+}
+
+// An answer with this text.
+fn answer_with(alloc: Global, status: Status, text: &[u8]) -> Result<Answer, AllocError>
+    ensures { IfOk result (λ a. (a.status ≡ status) × (a.text.items ≡ text.now)) }
+{
+    Ok(Answer {
+        status,
+        text: Vec::from_slice(alloc, text)?,
+    })
+}
+
+// The line of the script that is refused, and why.
+fn answer_refusal(alloc: Global, refusal: Refusal) -> Result<Answer, AllocError>
+    ensures { IfOk result (λ a. (a.status ≡ Status.ScriptRefused) × (a.text.items ≡ refusal_text refusal)) }
+{
+    let line = refusal.line;
+    let reason = refusal.reason.text();
+    let text = format!(in alloc; "line {line}: {reason}\n")?;
+    answer_with(alloc, Status::ScriptRefused, text.as_bytes())
+}
+
+// Why writing was refused.
+fn answer_write_refusal(alloc: Global, error: Error) -> Result<Answer, AllocError>
+    ensures { IfOk result (λ a. (a.status ≡ Status.WriteRefused) × (a.text.items ≡ refused_text error)) }
+{
+    let name = error.name();
+    let text = format!(in alloc; "refused: {name}\n")?;
+    answer_with(alloc, Status::WriteRefused, text.as_bytes())
+}
+
+// Writes what the script has built, and lists the sections.
+fn write_script(alloc: Global, mut script: Script) -> Result<Answer, AllocError>
+    requires { HasFewUnits script.dwarf.units }
+    ensures { IfOk result (λ a. SaysOf script a.status a.text.items) }
+{
+    let section = EndianVec::new(alloc, script.endian);
+    let mut sections = match Sections::new(alloc, section) {
+        Ok(sections) => sections,
+        Err(_) => return Err(AllocError),
+    };
+    match script.dwarf.write(&mut sections) {
+        Ok(()) => {
+            let text = list_sections(alloc, script.endian, &sections)?;
+            Ok(Answer {
+                status: Status::Listed,
+                text,
+            })
+        }
+        Err(Error::NoMemory) => Err(AllocError),
+        Err(error) => answer_write_refusal(alloc, error),
+    }
+}
+
+// Builds the script and writes what it has built.
+fn build(alloc: Global, bytes: &[u8]) -> Result<Answer, AllocError>
+    requires { length bytes.now ≤ SCRIPT_LIMIT }
+    ensures { IfOk result (λ a. SaysBuild bytes.now a.status a.text.items) }
+{
+    match read_script(alloc, bytes) {
+        Ok(script) => write_script(alloc, script),
+        Err(ScriptError::Refused(found)) => answer_refusal(alloc, found),
+        Err(ScriptError::NoMemory) => Err(AllocError),
+    }
+}
+
+// What the command `build` answers to its input.
+fn answer_build<S: Source>(alloc: Global, source: &mut S) -> Result<Answer, Stop>
+    ensures ok { IfOk result (λ a. Says (codes "build" ∷ []) (S.input source.old).left a.status a.text.items) }
+    ensures reads { IfOk result (λ a. Reads (S.input source.old) (S.input source.new) a.status) }
+    ensures err { IfErr result (StopsFor (S.input source.old) (S.input source.new)) }
+    ensures faults { (S.input source.old).faults ≤ (S.input source.new).faults }
+{
+    match read_all(alloc, source, SCRIPT_LIMIT) {
+        Ok(bytes) => Ok(build(alloc, bytes.as_slice())?),
+        Err(ReadAllError::TooLong) => Ok(answer_with(alloc, Status::TooLong, b"too long\n")?),
+        Err(ReadAllError::Failed) => Err(Stop::SourceFailed),
+        Err(ReadAllError::NoMemory) => Err(Stop::NoMemory),
+    }
+}
+
+/// What the program answers to these words and this input, before anything is printed.
+pub fn answer_to<S: Source>(
+    alloc: Global,
+    words: &Vec<String>,
+    source: &mut S,
+) -> Result<Answer, Stop>
+    ensures ok { IfOk result (λ a. Says (map string_bytes words.now.items) (S.input source.old).left a.status a.text.items) }
+    ensures reads { IfOk result (λ a. Reads (S.input source.old) (S.input source.new) a.status) }
+    ensures err { IfErr result (StopsFor (S.input source.old) (S.input source.new)) }
+    ensures faults { (S.input source.old).faults ≤ (S.input source.new).faults }
+{
+    if !is_build(words) {
+        let text = b"usage: build | convert | link | make N\n";
+        return Ok(answer_with(alloc, Status::Usage, text)?);
+    }
+    answer_build(alloc, source)
+}

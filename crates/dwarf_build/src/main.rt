@@ -1,0 +1,46 @@
+//! Builds DWARF from a script and prints the sections as a listing.
+#![tactic(auto)]
+
+mod answer;
+mod listing;
+pub mod run;
+mod script;
+mod status;
+
+use crate::run::run;
+use crate::status::Status;
+use dw_ends::{StdinSource, StdoutSink};
+use std::env;
+use std::io::{self, ErrorKind};
+use std::process::ExitCode;
+
+/// The words of the command line couldn't be had, for another cause than memory.
+const NO_WORDS: u8 = 8;
+
+// The words after the program's name. Where one isn't UTF-8 there are none, as it is no command.
+fn words(rt: &HostRuntime) -> Result<Vec<String>, u8> {
+    match env::args(rt) {
+        Ok(args) => {
+            let mut words = Vec::new(rt.alloc());
+            for word in args.skip(1) {
+                words.push(word).map_err(|_| Status::NoMemory.code())?;
+            }
+            Ok(words)
+        }
+        Err(error) => match error.kind() {
+            ErrorKind::InvalidData => Ok(Vec::new(rt.alloc())),
+            ErrorKind::OutOfMemory => Err(Status::NoMemory.code()),
+            _ => Err(NO_WORDS),
+        },
+    }
+}
+
+fn main(rt: HostRuntime) -> ExitCode {
+    let words = match words(&rt) {
+        Ok(words) => words,
+        Err(status) => return ExitCode::from(status),
+    };
+    let mut source = StdinSource::new(rt.reader());
+    let mut sink = StdoutSink::new(io::writer(&rt));
+    ExitCode::from(run(rt.alloc(), &words, &mut source, &mut sink))
+}

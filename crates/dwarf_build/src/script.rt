@@ -1,0 +1,139 @@
+//! Scripts: each line is a call.
+
+ghost use Rattle.std.specs.Prelude.{◌≡◌, ◌≤◌, length, Ok, Err, OnOk, IfOk, IfErr};
+
+use dw_base::{Encoding, RunTimeEndian};
+use dw_dwarf::Dwarf;
+use dw_script::{Command, Reason, lines, parse_line};
+use dw_unit::{LineProgram, Unit};
+use std::alloc::Global;
+
+/// The most bytes that a script may have.
+pub const SCRIPT_LIMIT: usize = 16_777_216;
+
+/// What a script has built.
+#[derive(Drop)]
+pub struct Script {
+    /// The byte order of the sections.
+    pub endian: RunTimeEndian,
+    /// The units.
+    pub dwarf: Dwarf,
+    /// Whether there was a line that isn't passed over.
+    pub has_begun: bool,
+}
+
+/// The first line that is refused, counted from 1, and why.
+#[derive(Clone, Copy, Debug, PartialEq, Eq)]
+pub struct Refusal {
+    pub line: usize,
+    pub reason: Reason,
+}
+
+/// Why a script wasn't built.
+#[derive(Clone, Copy, Debug, PartialEq, Eq)]
+pub enum ScriptError {
+    Refused(Refusal),
+    NoMemory,
+}
+
+/// Why a command wasn't carried out.
+#[derive(Clone, Copy, Debug, PartialEq, Eq)]
+pub enum CommandError {
+    Refused(Reason),
+    NoMemory,
+}
+
+impl Script {
+    ghost use Rattle.dwarf_build.specs.Script.{empty_script, after_command, after_line, CommandRefused, LineRefused};
+
+    // Before the first line.
+    fn new(alloc: Global) -> Script
+        ensures { result ≡ empty_script }
+    {
+        Script {
+            endian: RunTimeEndian::Little,
+            dwarf: Dwarf::new(alloc),
+            has_begun: false,
+        }
+    }
+
+    // Carries a command out. Where it is refused the script isn't used again.
+    fn apply(&mut self, alloc: Global, command: Command) -> Result<(), CommandError>
+        ensures ok { OnOk result (after_command self.old command ≡ Ok self.new) }
+        ensures err { IfErr result (CommandRefused self.old command) }
+    {
+        match command {
+            Command::Order(endian) => self.set_order(endian),
+            Command::Unit(encoding) => self.add_unit(alloc, encoding),
+        }
+    }
+
+    // Does what a line says, the number-th of the script.
+    fn read_line(&mut self, alloc: Global, line: &[u8], number: usize) -> Result<(), ScriptError>
+        ensures ok { OnOk result (after_line self.old line.now ≡ Ok self.new) }
+        ensures err { IfErr result (LineRefused self.old line.now number) }
+    {
+        match parse_line(line) {
+            Ok(None) => Ok(()),
+            Ok(Some(command)) => match self.apply(alloc, command) {
+                Ok(()) => Ok(()),
+                Err(CommandError::Refused(reason)) => Err(refused(number, reason)),
+                Err(CommandError::NoMemory) => Err(ScriptError::NoMemory),
+            },
+            Err(reason) => Err(refused(number, reason)),
+        }
+    }
+
+    fn set_order(&mut self, endian: RunTimeEndian) -> Result<(), CommandError>
+        ensures ok { OnOk result (after_command self.old (Command.Order endian) ≡ Ok self.new) }
+        ensures err { IfErr result (CommandRefused self.old (Command.Order endian)) }
+    {
+        if self.has_begun {
+            return Err(CommandError::Refused(Reason::OrderNotFirst));
+        }
+        self.endian = endian;
+        self.has_begun = true;
+        Ok(())
+    }
+
+    fn add_unit(&mut self, alloc: Global, encoding: Encoding) -> Result<(), CommandError>
+        ensures ok { OnOk result (after_command self.old (Command.Unit encoding) ≡ Ok self.new) }
+        ensures err { IfErr result (CommandRefused self.old (Command.Unit encoding)) }
+    {
+        if self.dwarf.units.count() != 0 {
+            return Err(CommandError::Refused(Reason::NotBuilt));
+        }
+        let unit = Unit::new(alloc, encoding, LineProgram::none()).map_err(
+            |_| CommandError::NoMemory,
+        )?;
+        self.dwarf
+            .units
+            .add(unit)
+            .map_err(|_| CommandError::NoMemory)?;
+        self.has_begun = true;
+        Ok(())
+    }
+}
+
+fn refused(line: usize, reason: Reason) -> ScriptError
+    ensures { result ≡ ScriptError.Refused (record { line = line; reason = reason }) }
+{
+    ScriptError::Refused(Refusal { line, reason })
+}
+
+ghost use Rattle.dwarf_build.specs.Script.{script, ScriptRefused};
+
+/// Builds what the lines of a script say, one after another, up to the first that is refused.
+pub fn read_script(alloc: Global, bytes: &[u8]) -> Result<Script, ScriptError>
+    requires { length bytes.now ≤ SCRIPT_LIMIT }
+    ensures ok { IfOk result (λ s. script bytes.now ≡ Ok s) }
+    ensures err { IfErr result (ScriptRefused bytes.now) }
+{
+    let mut script = Script::new(alloc);
+    let mut number = 0;
+    for line in lines(bytes) {
+        number += 1;
+        script.read_line(alloc, line, number)?;
+    }
+    Ok(script)
+}
