@@ -1,7 +1,7 @@
 -- A valid unit is refused over new plain sections only for want of memory, or by a fault.
 use Rattle.std.proofs.Common.{◌≡◌, ◌∙◌, sym, ap, ℕ, ◌<◌, ◌≤◌, Bool, true, false, List, length, refl, arith, IsTrue, ◌&&◌}
 use Rattle.std.specs.Prelude.{slice_index_or}
-use Rattle.dw_dwarf.proofs.Tests.{and_left, and_right, not_both}
+use Rattle.dw_dwarf.proofs.Conditions.{and_left, and_right, not_both}
 use Rattle.dw_base.specs.Numbers.{is_width, word_of}
 use Rattle.dw_base.specs.declared.common.Format.{Format}
 use Rattle.dw_base.specs.declared.common.Format.TheVariants.{Dwarf32, Dwarf64}

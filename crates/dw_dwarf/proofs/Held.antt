@@ -1,7 +1,7 @@
 -- New plain sections hold the units that were written into them.
 use Rattle.std.proofs.Common.{◌≡◌, ◌∙◌, sym, ap, subst, ℕ, ◌+◌, ◌<◌, ◌≤◌, Bool, true, false, List, [], ◌∷◌, length, Some, refl, arith, IsTrue, ◌&&◌, lit<}
 use Rattle.std.specs.Prelude.{nat_le, MatchBool, All, None}
-use Rattle.dw_dwarf.proofs.Tests.{and_left, and_right, nat_le-holds, is_width-lt, MatchBool-false}
+use Rattle.dw_dwarf.proofs.Conditions.{and_left, and_right, nat_le-holds, is_width-lt, MatchBool-false}
 use Rattle.dw_base.specs.Numbers.{is_width}
 use Rattle.dw_base.specs.Info.{units_at, read_info}
 use Rattle.dw_base.specs.Spelling.{header_size, unit_bytes, root_table, bare_unit}
@@ -97,7 +97,7 @@ module _ {W : Type 0} where
       let info = appended_told (meaning old.debug_info.0) (meaning new.debug_info.0) big _ _ empty.writers.debug_info appends.info (law new.debug_info.0) in
       let table = appended_told (meaning old.debug_abbrev.0) (meaning new.debug_abbrev.0) big _ _ empty.writers.debug_abbrev appends.table (law new.debug_abbrev.0) in
       let place : unit_text u.encoding (meaning old.debug_abbrev.0).size big at_zero ≡ Some (unit_bytes big u.encoding 0 (1 ∷ [])) =
-        ap (λ p. unit_text u.encoding p big at_zero) empty.writers.debug_abbrev.size ∙ unit_shown big u.encoding (is_width-lt _ width) in
+      ap (λ p. unit_text u.encoding p big at_zero) empty.writers.debug_abbrev.size ∙ unit_shown big u.encoding (is_width-lt _ width) in
       let kept = λ (f : Sections W → W) (h : IsEmptyPlainWriter (meaning (f (record old { debug_abbrev = new.debug_abbrev; debug_info = new.debug_info }))) big). let P : Sections W → Type 0 = λ s. IsEmptyPlainWriter (meaning (f s)) big in subst P (sym others) h in
       record {
         info = unit_bytes big u.encoding 0 (1 ∷ []);

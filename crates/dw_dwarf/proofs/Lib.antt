@@ -1,4 +1,4 @@
-pub mod Tests
+pub mod Conditions
 pub mod Outcomes
 pub mod PlainText
 pub mod Held

@@ -9,11 +9,10 @@ ghost use Rattle.dw_unit.specs.Causes.{UnitsRefused};
 ghost use Rattle.dw_dwarf.specs.Valid.{AreUnwritten, IsValid};
 ghost use Rattle.dw_dwarf.specs.Written.{HoldsUnits};
 
-use std::alloc::Global;
-
 use dw_base::Result;
 use dw_unit::UnitTable;
 use dw_writer::{Sections, Writer};
+use std::alloc::Global;
 
 /// What is written into the sections of one file.
 #[derive(Drop)]

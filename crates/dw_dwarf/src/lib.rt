@@ -2,5 +2,7 @@
 #![tactic(auto)]
 
 mod dwarf;
+#[cfg(test)]
+mod tests;
 
 pub use dwarf::Dwarf;

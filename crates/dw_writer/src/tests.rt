@@ -1,8 +1,12 @@
 ghost use Rattle.std.specs.Prelude.{◌≡◌, IfOk};
 
-use crate::{EndianVec, Writer};
-use dw_base::{Address, BigEndian, Error, Format, LittleEndian, Result, RunTimeEndian, SectionId};
-use std::alloc::AllocError;
+use crate::{DebugInfo, DebugInfoFixup, EndianVec, FixupList, Section, Sections, Writer};
+use dw_base::{
+    Address, BigEndian, DebugInfoOffset, Error, Format, LittleEndian, Result, RunTimeEndian,
+    SectionId, UnitEntryId, UnitId,
+};
+use std::alloc::{AllocError, Global};
+use std::process::Abort;
 use std::test::Fail;
 
 /// One number of each width, through the bound.
@@ -169,5 +173,173 @@ fn refuses_what_does_not_fit(rt: HostRuntime) -> std::result::Result<(), Fail> {
     let too_long = w.write_initial_length_at(0, 0xffff_fff0, Format::Dwarf32);
     assert_eq!(rt; too_long, Err(Error::InitialLengthOverflow));
     assert_eq!(rt; w.slice(), [0, 0, 0, 0].as_slice());
+    Ok(())
+}
+
+#[test]
+fn clones_bytes_and_order(rt: HostRuntime) -> std::result::Result<(), Fail> {
+    let mut w = EndianVec::new(rt.alloc(), RunTimeEndian::Big);
+    w.write_u16(0x0102)?;
+    let mut copy = w.clone()?;
+    w.write_u8(0xff)?;
+    copy.write_u16(0x0304)?;
+    assert_eq!(rt; copy.slice(), [1, 2, 3, 4].as_slice());
+    assert_eq!(rt; w.slice(), [1, 2, 0xff].as_slice());
+    Ok(())
+}
+
+/// The sections that are written, in their order.
+const WRITTEN: [SectionId; 11] = [
+    SectionId::DebugAbbrev,
+    SectionId::DebugStr,
+    SectionId::DebugLineStr,
+    SectionId::DebugLine,
+    SectionId::DebugRanges,
+    SectionId::DebugRngLists,
+    SectionId::DebugLoc,
+    SectionId::DebugLocLists,
+    SectionId::DebugInfo,
+    SectionId::DebugFrame,
+    SectionId::EhFrame,
+];
+
+/// Their names in an ELF file.
+const NAMES: [&str; 11] = [
+    ".debug_abbrev",
+    ".debug_str",
+    ".debug_line_str",
+    ".debug_line",
+    ".debug_ranges",
+    ".debug_rnglists",
+    ".debug_loc",
+    ".debug_loclists",
+    ".debug_info",
+    ".debug_frame",
+    ".eh_frame",
+];
+
+fn new_sections(alloc: Global) -> Result<Sections<EndianVec<LittleEndian>>> {
+    Sections::new(alloc, EndianVec::new(alloc, LittleEndian))
+}
+
+/// Checks that this section has one byte, and each other none.
+fn check_one_byte(rt: &impl Abort, sections: &Sections<EndianVec<LittleEndian>>, only: SectionId) {
+    for id in WRITTEN {
+        let want = if id == only { 1 } else { 0 };
+        let length = sections.get(id).map(|section| section.len());
+        assert_eq!(rt; length, Some(want), "{id:?} with a byte in {only:?}");
+    }
+}
+
+#[test]
+fn lends_each_section_that_is_written(rt: HostRuntime) -> std::result::Result<(), Fail> {
+    for id in WRITTEN {
+        let mut sections = new_sections(rt.alloc())?;
+        if let Some(section) = sections.get_mut(id) {
+            section.write_u8(7)?;
+        }
+        check_one_byte(&rt, &sections, id);
+    }
+    Ok(())
+}
+
+#[test]
+fn has_no_writer_for_other_sections(rt: HostRuntime) -> std::result::Result<(), Fail> {
+    let mut sections = new_sections(rt.alloc())?;
+    for id in [
+        SectionId::DebugAddr,
+        SectionId::DebugStrOffsets,
+        SectionId::DebugMacinfo,
+        SectionId::DebugMacro,
+        SectionId::DebugAranges,
+    ] {
+        assert!(rt; sections.get(id).is_none(), "at {id:?}");
+        assert!(rt; sections.get_mut(id).is_none(), "at {id:?}");
+    }
+    Ok(())
+}
+
+#[test]
+fn visits_sections_in_order(rt: HostRuntime) -> std::result::Result<(), Fail> {
+    let mut sections = new_sections(rt.alloc())?;
+    let mut names = Vec::new(rt.alloc());
+    sections.for_each_mut(|id, section| {
+        names.push(id.name())?;
+        section.write_u8(7)
+    })?;
+    assert_eq!(rt; names.as_slice(), NAMES.as_slice());
+    let mut names = Vec::new(rt.alloc());
+    sections.for_each(|id, section| {
+        names.push(id.name())?;
+        if section.len() == 1 {
+            Ok(())
+        } else {
+            Err(Error::WriteFault)
+        }
+    })?;
+    assert_eq!(rt; names.as_slice(), NAMES.as_slice());
+    Ok(())
+}
+
+#[test]
+fn stops_at_the_first_error(rt: HostRuntime) -> std::result::Result<(), Fail> {
+    let mut sections = new_sections(rt.alloc())?;
+    let mut ids = Vec::new(rt.alloc());
+    let answer = sections.for_each(|id, _section| {
+        ids.push(id)?;
+        if id == SectionId::DebugLine {
+            Err(Error::WriteFault)
+        } else {
+            Ok(())
+        }
+    });
+    assert_eq!(rt; answer, Err(Error::WriteFault));
+    assert_eq!(rt; ids.as_slice(), &WRITTEN[..4]);
+    let answer = sections.for_each_mut(|id, section| {
+        if id == SectionId::DebugStr {
+            Err(Error::WriteFault)
+        } else {
+            section.write_u8(7)
+        }
+    });
+    assert_eq!(rt; answer, Err(Error::WriteFault));
+    check_one_byte(&rt, &sections, SectionId::DebugAbbrev);
+    Ok(())
+}
+
+#[test]
+fn tells_a_section_by_its_type(rt: HostRuntime) -> std::result::Result<(), Fail> {
+    let mut info = DebugInfo::from(EndianVec::new(rt.alloc(), LittleEndian));
+    assert_eq!(rt; info.offset(), DebugInfoOffset(0));
+    info.section_mut().write(b"abc")?;
+    assert_eq!(rt; info.offset(), DebugInfoOffset(3));
+    assert_eq!(rt; info.section().slice(), b"abc".as_slice());
+    assert_eq!(rt; info.id(), SectionId::DebugInfo);
+    assert_eq!(rt; info.name(), ".debug_info");
+    Ok(())
+}
+
+#[test]
+fn lists_fixups(rt: HostRuntime) -> std::result::Result<(), Fail> {
+    let first = DebugInfoFixup {
+        offset: 11,
+        size: 4,
+        unit: UnitId::new(0),
+        entry: UnitEntryId::new(2),
+    };
+    let second = DebugInfoFixup {
+        offset: 15,
+        ..first
+    };
+    let mut list = FixupList::new(rt.alloc());
+    list.push(first)?;
+    list.push(second)?;
+    assert_eq!(rt; list.len(), 2);
+    assert_eq!(rt; list.get(0), Some(first));
+    assert_eq!(rt; list.get(1), Some(second));
+    assert_eq!(rt; list.get(2), None);
+    list.clear();
+    assert!(rt; list.is_empty());
+    assert_eq!(rt; list.get(0), None);
     Ok(())
 }

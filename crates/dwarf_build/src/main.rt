@@ -6,6 +6,8 @@ mod listing;
 pub mod run;
 mod script;
 mod status;
+#[cfg(test)]
+mod tests;
 
 use crate::run::run;
 use crate::status::Status;

@@ -1,4 +1,4 @@
--- What tests that hold together say one by one.
+-- What conditions that hold together say one by one.
 use Rattle.std.proofs.Common.{◌≡◌, ℕ, ◌<◌, ◌≤◌, Bool, true, false, refl, arith, IsTrue, ◌&&◌}
 use Rattle.std.specs.Prelude.{nat_le, IsFalse, MatchBool}
 use Rattle.std.proofs.lemmas.Bool.Decides.{nat_tests}

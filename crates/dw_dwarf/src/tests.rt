@@ -1,0 +1,86 @@
+//! A unit, written into memory.
+
+use crate::Dwarf;
+use dw_base::{Encoding, Error, Format, Result, RunTimeEndian, UnitId};
+use dw_unit::{LineProgram, Unit};
+use dw_writer::{EndianVec, Sections};
+use std::alloc::Global;
+use std::test::Fail;
+
+/// A unit of version 5 in `.debug_info`: its length, the version, the type of a compile unit, the
+/// address size, the place of its table, and the code of its root (DWARF 5, 7.5.1.1).
+const VERSION_5: [u8; 13] = [9, 0, 0, 0, 5, 0, 1, 8, 0, 0, 0, 0, 1];
+
+/// The same in version 4, which tells no type, and the address size last (DWARF 4, 7.5.1.1).
+const VERSION_4: [u8; 12] = [8, 0, 0, 0, 4, 0, 0, 0, 0, 0, 8, 1];
+
+/// The table of a root alone in `.debug_abbrev`: code 1, `DW_TAG_compile_unit`, no children, no
+/// attributes, no other declaration (DWARF 5, 7.5.3).
+const ROOT_TABLE: [u8; 6] = [1, 0x11, 0, 0, 0, 0];
+
+/// 8-byte addresses in the 32-bit format.
+fn encoding(version: u16) -> Encoding {
+    Encoding {
+        address_size: 8,
+        format: Format::Dwarf32,
+        version,
+    }
+}
+
+/// A `Dwarf` of one unit.
+fn dwarf_of(alloc: Global, encoding: Encoding) -> Result<Dwarf> {
+    let mut dwarf = Dwarf::new(alloc);
+    dwarf
+        .units
+        .add(Unit::new(alloc, encoding, LineProgram::none())?)?;
+    Ok(dwarf)
+}
+
+/// New sections, the lowest byte first.
+fn new_sections(alloc: Global) -> Result<Sections<EndianVec<RunTimeEndian>>> {
+    Sections::new(alloc, EndianVec::new(alloc, RunTimeEndian::Little))
+}
+
+#[test]
+fn writes_a_unit_once(rt: HostRuntime) -> std::result::Result<(), Fail> {
+    let mut dwarf = dwarf_of(rt.alloc(), encoding(5))?;
+    let mut sections = new_sections(rt.alloc())?;
+    for _ in 0..2 {
+        assert_eq!(rt; dwarf.units.count(), 1);
+        dwarf.write(&mut sections)?;
+        assert_eq!(rt; dwarf.units.count(), 1);
+        assert!(rt; dwarf.units.get(UnitId::new(0)).is_written());
+        assert_eq!(rt; sections.debug_info.0.slice(), VERSION_5.as_slice());
+        assert_eq!(rt; sections.debug_abbrev.0.slice(), ROOT_TABLE.as_slice());
+    }
+    Ok(())
+}
+
+#[test]
+fn keeps_a_refused_unit(rt: HostRuntime) -> std::result::Result<(), Fail> {
+    let mut dwarf = dwarf_of(rt.alloc(), encoding(6))?;
+    let mut sections = new_sections(rt.alloc())?;
+    assert_eq!(rt; dwarf.units.count(), 1);
+    let answer = dwarf.write(&mut sections);
+    assert_eq!(rt; answer, Err(Error::UnsupportedVersion(6)));
+    assert_eq!(rt; dwarf.units.count(), 1);
+    let unit = dwarf.units.get(UnitId::new(0));
+    assert!(rt; !unit.is_written());
+    assert_eq!(rt; unit.version(), 6);
+    Ok(())
+}
+
+#[test]
+fn writes_a_changed_encoding(rt: HostRuntime) -> std::result::Result<(), Fail> {
+    let mut dwarf = dwarf_of(rt.alloc(), encoding(5))?;
+    let mut sections = new_sections(rt.alloc())?;
+    assert_eq!(rt; dwarf.units.count(), 1);
+    let id = dwarf.units.id(0);
+    dwarf.units.get_mut(id).set_encoding(encoding(4));
+    assert_eq!(rt; dwarf.units.count(), 1);
+    assert_eq!(rt; dwarf.units.get(id).encoding(), encoding(4));
+    dwarf.write(&mut sections)?;
+    assert_eq!(rt; sections.debug_info.0.slice(), VERSION_4.as_slice());
+    assert_eq!(rt; sections.debug_abbrev.0.slice(), ROOT_TABLE.as_slice());
+    Ok(())
+}
