@@ -1,24 +1,25 @@
 -- New plain sections hold the units that were written into them.
-use Rattle.std.proofs.Common.{◌≡◌, ◌∙◌, sym, ap, subst, ℕ, ◌+◌, ◌<◌, ◌≤◌, Bool, true, false, List, [], ◌∷◌, length, Some, refl, arith, IsTrue, ◌&&◌, lit<}
-use Rattle.std.specs.Prelude.{nat_le, MatchBool, All, None}
-use Rattle.dw_dwarf.proofs.Conditions.{and_left, and_right, nat_le-holds, is_width-lt, MatchBool-false}
-use Rattle.dw_base.specs.Numbers.{is_width}
+use Rattle.std.proofs.Common.{◌≡◌, ◌∙◌, sym, ap, subst, ℕ, ◌+◌, ◌<◌, ◌≤◌, Bool, true, false, List, [], ◌∷◌, length, map, Some, refl, arith}
+use Rattle.std.specs.Prelude.{None}
+use Rattle.dw_dwarf.proofs.Conditions.{is_width-lt, MatchBool-false}
+use Rattle.dw_base.specs.Entries.{ReadEntry, Mark, next_depth}
 use Rattle.dw_base.specs.Info.{units_at, read_info}
-use Rattle.dw_base.specs.Spelling.{header_size, unit_bytes, root_table, bare_unit}
+use Rattle.dw_base.specs.Spelling.{header_size, unit_bytes, mark_bytes, rows_of, read_unit}
+use Rattle.dw_base.specs.Spellable.{IsUnit}
 use Rattle.dw_base.proofs.HeaderLaws.{length-unit_bytes}
-use Rattle.dw_base.proofs.BareUnit.{read_info-bare}
+use Rattle.dw_base.proofs.InfoLaws.{read_one}
 use Rattle.dw_base.specs.declared.common.Encoding.{Encoding}
 use Rattle.dw_writer.specs.Texts.{Text, followed}
 use Rattle.dw_writer.specs.Contents.{Meaning}
 use Rattle.dw_writer.specs.Meaning.{Model, Appends, IsTidy, AllInside}
 use Rattle.dw_writer.specs.Resolved.{resolved}
-use Rattle.dw_writer.specs.SectionTexts.{bytes_text}
+use Rattle.dw_writer.proofs.Steps.{Adds-appends}
 use Rattle.dw_writer.specs.New.{IsEmptyPlainWriter, IsNewPlain}
 use Rattle.dw_writer.specs.declared.sections.Sections.{Sections}
 use Rattle.dw_unit.specs.UnitValue.{UnitValue}
 use Rattle.dw_unit.specs.UnitText.{unit_text}
-use Rattle.dw_unit.specs.Valid.{is_version, is_encodable}
-use Rattle.dw_unit.specs.Written.{AppendsUnit, AppendsUnits}
+use Rattle.dw_unit.specs.Whole.{tree_read, tree_declared, tree_bytes, tree_table, settled}
+use Rattle.dw_unit.specs.Written.{AppendsTree, AppendsUnits}
 use Rattle.dw_unit.specs.Built.{Built}
 use Rattle.dw_dwarf.specs.Valid.{AreUnwritten}
 use Rattle.dw_dwarf.specs.Written.{HoldsUnits}
@@ -52,19 +53,25 @@ none_built : (big : Bool) → Built [] big [] []
 unfolding read_info units_at
 none_built big = record { read = []; reads = refl; units_are = tt; info_size = refl; abbrevs_size = refl }
 
+-- the marks of rows are those that were spelled
+marks-rows_of : (big : Bool) (e : Encoding) (from depth : ℕ) (ms : List (Mark ReadEntry)) → map (λ row. row.mark) (rows_of big e from depth ms) ≡ ms
+unfolding rows_of
+marks-rows_of big e from depth [] = refl
+marks-rows_of big e from depth (m ∷ ms) =
+    ap (λ rest. m ∷ rest) (marks-rows_of big e (from + length (mark_bytes big e m)) (next_depth m depth) ms)
+
 -- one unit is read from its bytes
-one_built : (u : UnitValue) (big : Bool) → IsTrue (is_encodable u.encoding) → Built (u ∷ []) big (unit_bytes big u.encoding 0 (1 ∷ [])) root_table
-one_built u big h =
-    let version = and_left (is_version u.encoding.version) (is_width u.encoding.address_size) h in
-    let width = and_right (is_version u.encoding.version) (is_width u.encoding.address_size) h in
-    let low = nat_le-holds 2 u.encoding.version (and_left (nat_le 2 u.encoding.version) (nat_le u.encoding.version 5) version) in
-    let high = nat_le-holds u.encoding.version 5 (and_right (nat_le 2 u.encoding.version) (nat_le u.encoding.version 5) version) in
+one_built : (u : UnitValue) (big : Bool) → IsUnit big u.encoding 0 (tree_declared u.encoding u.entries) (tree_read u.encoding u.entries) →
+    Built (u ∷ []) big (unit_bytes big u.encoding 0 (tree_bytes big u.encoding u.entries)) (tree_table u.encoding u.entries)
+one_built u big is_unit =
+    let e = u.encoding in
+    let body = tree_bytes big e u.entries in
     record {
-      read = bare_unit u.encoding ∷ [];
-      reads = read_info-bare big u.encoding low high width;
-      units_are = (record { encoding = refl; unit_type = refl; entries = refl; declarations = refl }, tt);
-      info_size = omega (arith, length-unit_bytes big u.encoding 0 (1 ∷ []));
-      abbrevs_size = refl;
+      read = read_unit big e 0 0 (tree_declared e u.entries) (tree_read e u.entries) ∷ [];
+      reads = read_one big e (tree_declared e u.entries) (tree_read e u.entries) is_unit;
+      units_are = (record { encoding = refl; unit_type = refl; entries = marks-rows_of big e (header_size e) 0 (tree_read e u.entries); declarations = refl }, tt);
+      info_size = omega (arith, length-unit_bytes big e 0 body);
+      abbrevs_size = omega arith;
     }
 
 module _ {W : Type 0} where
@@ -89,22 +96,29 @@ module _ {W : Type 0} where
 
   -- where one unit was written
   one_held : (meaning : W → Meaning) (big : Bool) (old new : Sections W) (u : UnitValue) → ((w : W) → (meaning w).is_plain ≡ true → (meaning w).records ≡ []) →
-      IsNewPlain meaning big old → IsTrue (is_encodable u.encoding) → AppendsUnit meaning old new u →
+      IsNewPlain meaning big old → AppendsTree meaning old new u.encoding u.entries →
       new ≡ record old { debug_abbrev = new.debug_abbrev; debug_info = new.debug_info } → HoldsUnits meaning big new (u ∷ [])
-  unfolding bytes_text
-  one_held meaning big old new u law empty encodable appends others =
-      let width = and_right (is_version u.encoding.version) (is_width u.encoding.address_size) encodable in
+  one_held meaning big old new u law empty appends others =
+      let e = u.encoding in
+      let body = tree_bytes big e u.entries in
+      let order = empty.writers.debug_info.order in
+      let start = empty.writers.debug_abbrev.size in
+      let is_unit : IsUnit big e 0 (tree_declared e u.entries) (tree_read e u.entries) =
+      subst (λ p. IsUnit big e p (tree_declared e u.entries) (tree_read e u.entries)) start
+      (subst (λ b. IsUnit b e (meaning old.debug_abbrev.0).size (tree_declared e u.entries) (tree_read e u.entries)) order (appends.spelled empty.writers.debug_info.plain)) in
       let info = appended_told (meaning old.debug_info.0) (meaning new.debug_info.0) big _ _ empty.writers.debug_info appends.info (law new.debug_info.0) in
-      let table = appended_told (meaning old.debug_abbrev.0) (meaning new.debug_abbrev.0) big _ _ empty.writers.debug_abbrev appends.table (law new.debug_abbrev.0) in
-      let place : unit_text u.encoding (meaning old.debug_abbrev.0).size big at_zero ≡ Some (unit_bytes big u.encoding 0 (1 ∷ [])) =
-      ap (λ p. unit_text u.encoding p big at_zero) empty.writers.debug_abbrev.size ∙ unit_shown big u.encoding (is_width-lt _ width) in
+      let table = appended_told (meaning old.debug_abbrev.0) (meaning new.debug_abbrev.0) big _ _ empty.writers.debug_abbrev (Adds-appends appends.table) (law new.debug_abbrev.0) in
+      let place : unit_text e (meaning old.debug_abbrev.0).size (tree_bytes (meaning old.debug_info.0).is_big e u.entries) big at_zero ≡ Some (unit_bytes big e 0 body) =
+      ap (λ b. unit_text e (meaning old.debug_abbrev.0).size (tree_bytes b e u.entries) big at_zero) order
+      ∙ ap (λ p. unit_text e p body big at_zero) start
+      ∙ unit_shown big e body (is_width-lt _ is_unit.address_size) in
       let kept = λ (f : Sections W → W) (h : IsEmptyPlainWriter (meaning (f (record old { debug_abbrev = new.debug_abbrev; debug_info = new.debug_info }))) big). let P : Sections W → Type 0 = λ s. IsEmptyPlainWriter (meaning (f s)) big in subst P (sym others) h in
       record {
-        info = unit_bytes big u.encoding 0 (1 ∷ []);
-        abbrevs = root_table;
+        info = unit_bytes big e 0 body;
+        abbrevs = tree_table e u.entries;
         info_told = info ∙ place;
         abbrevs_told = table;
-        built = one_built u big encodable;
+        built = one_built u big is_unit;
         strings = kept (λ s. s.debug_str.0) empty.writers.debug_str;
         line_strings = kept (λ s. s.debug_line_str.0) empty.writers.debug_line_str;
         lines = kept (λ s. s.debug_line.0) empty.writers.debug_line;
@@ -117,10 +131,10 @@ module _ {W : Type 0} where
       }
 
   pub units_held : (meaning : W → Meaning) (big : Bool) (old new : Sections W) (us : List UnitValue) → ((w : W) → (meaning w).is_plain ≡ true → (meaning w).records ≡ []) →
-      length us ≤ 1 → IsNewPlain meaning big old → AreUnwritten us → All (λ u. u.is_written ≡ false → IsTrue (is_encodable u.encoding)) us → AppendsUnits meaning old new us →
-      new ≡ record old { debug_abbrev = new.debug_abbrev; debug_info = new.debug_info } → HoldsUnits meaning big new us
-  units_held meaning big old new [] law few empty unwritten encodable same others = subst (λ s. HoldsUnits meaning big s []) (sym same) (none_held meaning big old empty)
-  units_held meaning big old new (u ∷ []) law few empty unwritten encodable appends others =
+      length us ≤ 1 → IsNewPlain meaning big old → AreUnwritten us → AppendsUnits meaning old new us →
+      new ≡ record old { debug_abbrev = new.debug_abbrev; debug_info = new.debug_info } → HoldsUnits meaning big new (map settled us)
+  units_held meaning big old new [] law few empty unwritten same others = subst (λ s. HoldsUnits meaning big s []) (sym same) (none_held meaning big old empty)
+  units_held meaning big old new (u ∷ []) law few empty unwritten appends others =
       let fresh : u.is_written ≡ false = unwritten 0 u (omega arith) in
-      one_held meaning big old new u law empty (encodable 0 u (omega arith) fresh) (MatchBool-false u.is_written _ _ fresh appends) others
-  units_held meaning big old new (u ∷ v ∷ us) law few empty unwritten encodable appends others = absurd (omega arith)
+      one_held meaning big old new (settled u) law empty (MatchBool-false u.is_written _ _ fresh appends) others
+  units_held meaning big old new (u ∷ v ∷ us) law few empty unwritten appends others = absurd (omega arith)

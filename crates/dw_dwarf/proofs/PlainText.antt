@@ -48,9 +48,9 @@ fields_shown big e small =
     (cases_eq e.version 5)
 
 -- a unit whose table stands at 0
-pub unit_shown : (big : Bool) (e : Encoding) → e.address_size < 256 → unit_text e 0 big at_zero ≡ Some (unit_bytes big e 0 (1 ∷ []))
+pub unit_shown : (big : Bool) (e : Encoding) (body : List ℕ) → e.address_size < 256 → unit_text e 0 body big at_zero ≡ Some (unit_bytes big e 0 body)
 unfolding unit_text unit_bytes after number_text bytes_text followed
-unit_shown big e small =
+unit_shown big e body small =
     let fields = fields_shown big e small in
-    let long : unit_length e ≡ length (fields_bytes big e 0 ++ 1 ∷ []) = omega (arith, length-append (fields_bytes big e 0) (1 ∷ []), length-fields_bytes big e 0) in
-    rw fields (ap (λ n. Some (escape_of e.format ++ (num big (word_of e.format) n ++ (fields_bytes big e 0 ++ 1 ∷ [])))) long)
+    let long : unit_length e body ≡ length (fields_bytes big e 0 ++ body) = omega (arith, length-append (fields_bytes big e 0) body, length-fields_bytes big e 0) in
+    rw fields (ap (λ n. Some (escape_of e.format ++ (num big (word_of e.format) n ++ (fields_bytes big e 0 ++ body)))) long)

@@ -1,10 +1,10 @@
 //! The DWARF of one file.
 
-ghost use Rattle.std.specs.Prelude.{◌≡◌, ◌≤◌, Bool, [], length, map, OnOk, OnErr, IfErr};
+ghost use Rattle.std.specs.Prelude.{◌≡◌, ◌⊎◌, ◌≤◌, Bool, [], length, map, OnOk, OnErr, IfErr};
 ghost use Rattle.dw_base.specs.declared.error.Error.TheVariants.{NoMemory};
 ghost use Rattle.dw_writer.specs.New.{IsNewPlain};
 ghost use Rattle.dw_writer.specs.Sections.{fault_sum};
-ghost use Rattle.dw_unit.specs.UnitValue.{marked_written};
+ghost use Rattle.dw_unit.specs.Whole.{settled, written};
 ghost use Rattle.dw_unit.specs.Causes.{UnitsRefused};
 ghost use Rattle.dw_dwarf.specs.Valid.{AreUnwritten, IsValid};
 ghost use Rattle.dw_dwarf.specs.Written.{HoldsUnits};
@@ -36,19 +36,20 @@ impl Dwarf {
     ///
     /// Over new plain sections, as `Sections::new` gives them over an empty `EndianVec`,
     /// `.debug_info` and `.debug_abbrev` then hold exactly these units, to their last byte, and the
-    /// other sections are empty. Where a unit is refused it stays as it was, and the sections may
+    /// other sections are empty. In each unit the root's base types stand before its other children.
+    /// Where a unit is refused it stays as it was, or has its base types moved, and the sections may
     /// have got some of its bytes.
     pub fn write<W: Writer>(&mut self, sections: &mut Sections<W>) -> Result<()>
         requires { length self.old.units ≤ 1 }
         // Whatever the byte order of new plain sections is, they are read back as the units.
-        ensures built { OnOk result ((big : Bool) → IsNewPlain W.meaning big sections.old → AreUnwritten self.old.units → HoldsUnits W.meaning big sections.new self.old.units) }
-        ensures marked { OnOk result (self.new ≡ record self.old { units = map marked_written self.old.units }) }
-        ensures valid { OnOk result (AreUnwritten self.old.units → IsValid self.old.units) }
+        ensures built { OnOk result ((big : Bool) → IsNewPlain W.meaning big sections.old → AreUnwritten self.old.units → HoldsUnits W.meaning big sections.new (map settled self.old.units)) }
+        ensures marked { OnOk result (self.new ≡ record self.old { units = map written self.old.units }) }
+        ensures valid { OnOk result (AreUnwritten self.old.units → IsValid (W.meaning sections.old.debug_info.0).is_big self.old.units) }
 
         ensures err { IfErr result (UnitsRefused W.meaning sections.old sections.new self.old.units) }
-        ensures kept { OnErr result (self.new ≡ self.old) }
+        ensures kept { OnErr result ((self.new ≡ self.old) ⊎ (self.new ≡ record self.old { units = map settled self.old.units })) }
         // A valid unit is refused over new plain sections only for want of memory, or by a fault that was counted.
-        ensures complete { (big : Bool) → IsNewPlain W.meaning big sections.old → IsValid self.old.units → fault_sum W.meaning sections.new ≤ fault_sum W.meaning sections.old → IfErr result (λ e. e ≡ NoMemory) }
+        ensures complete { (big : Bool) → IsNewPlain W.meaning big sections.old → IsValid big self.old.units → fault_sum W.meaning sections.new ≤ fault_sum W.meaning sections.old → IfErr result (λ e. e ≡ NoMemory) }
 
         ensures others { sections.new ≡ record sections.old { debug_abbrev = sections.new.debug_abbrev; debug_info = sections.new.debug_info } }
         ensures faults { fault_sum W.meaning sections.old ≤ fault_sum W.meaning sections.new }

@@ -1,8 +1,9 @@
 //! A unit, written into memory.
 
 use crate::Dwarf;
+use dw_base::constants::{DW_AT_byte_size, DW_AT_name, DW_TAG_base_type, DW_TAG_variable};
 use dw_base::{Encoding, Error, Format, Result, RunTimeEndian, UnitId};
-use dw_unit::{LineProgram, Unit};
+use dw_unit::{AttributeValue, Bytes, LineProgram, Unit};
 use dw_writer::{EndianVec, Sections};
 use std::alloc::Global;
 use std::test::Fail;
@@ -82,5 +83,54 @@ fn writes_a_changed_encoding(rt: HostRuntime) -> std::result::Result<(), Fail> {
     dwarf.write(&mut sections)?;
     assert_eq!(rt; sections.debug_info.0.slice(), VERSION_4.as_slice());
     assert_eq!(rt; sections.debug_abbrev.0.slice(), ROOT_TABLE.as_slice());
+    Ok(())
+}
+
+/// The root, a base type `int` of 300 bytes, a variable of 4 bytes, and the end of the root's
+/// children.
+const TREE: [u8; 23] = [
+    0x13, 0, 0, 0, 5, 0, 1, 8, 0, 0, 0, 0, 1, 2, b'i', b'n', b't', 0, 0xac, 2, 3, 4, 0,
+];
+
+/// The abbreviations of the root, of the base type and of the variable.
+const TREE_TABLE: [u8; 22] = [
+    1, 0x11, 1, 0, 0, 2, 0x24, 0, 3, 8, 0x0b, 0x0f, 0, 0, 3, 0x34, 0, 0x0b, 0x0b, 0, 0, 0,
+];
+
+#[test]
+fn writes_base_types_first(rt: HostRuntime) -> std::result::Result<(), Fail> {
+    let mut unit = Unit::new(rt.alloc(), encoding(5), LineProgram::none())?;
+    let root = unit.root();
+    let variable = unit.add(root, DW_TAG_variable)?;
+    unit.get_mut(variable)
+        .set(DW_AT_byte_size, AttributeValue::Data1(4))?;
+    let base_type = unit.add(root, DW_TAG_base_type)?;
+    let mut entry = unit.get_mut(base_type);
+    let name = Bytes::new(rt.alloc(), b"int")?;
+    entry.set(DW_AT_name, AttributeValue::String(name))?;
+    entry.set(DW_AT_byte_size, AttributeValue::Udata(300))?;
+    let mut dwarf = Dwarf::new(rt.alloc());
+    dwarf.units.add(unit)?;
+    let mut sections = new_sections(rt.alloc())?;
+    assert_eq!(rt; dwarf.units.count(), 1);
+    dwarf.write(&mut sections)?;
+    assert_eq!(rt; sections.debug_info.0.slice(), TREE.as_slice());
+    assert_eq!(rt; sections.debug_abbrev.0.slice(), TREE_TABLE.as_slice());
+    Ok(())
+}
+
+#[test]
+fn refuses_a_zero_byte_in_a_string(rt: HostRuntime) -> std::result::Result<(), Fail> {
+    let mut unit = Unit::new(rt.alloc(), encoding(5), LineProgram::none())?;
+    let root = unit.root();
+    let name = Bytes::new(rt.alloc(), &[b'a', 0, b'b'])?;
+    unit.get_mut(root)
+        .set(DW_AT_name, AttributeValue::String(name))?;
+    let mut dwarf = Dwarf::new(rt.alloc());
+    dwarf.units.add(unit)?;
+    let mut sections = new_sections(rt.alloc())?;
+    assert_eq!(rt; dwarf.units.count(), 1);
+    let answer = dwarf.write(&mut sections);
+    assert_eq!(rt; answer, Err(Error::InvalidAttributeValue));
     Ok(())
 }

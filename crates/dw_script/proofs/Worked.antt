@@ -3,8 +3,12 @@ use Rattle.std.proofs.Common.{◌≡◌, ◌∷◌, [], Some, None, Ok, Err, cod
 use Rattle.dw_base.specs.declared.common.Format.TheVariants.{Dwarf32}
 use Rattle.dw_base.specs.declared.endianity.RunTimeEndian.TheVariants.{Big}
 use Rattle.dw_script.specs.declared.command.Command.TheVariants as command
-use Rattle.dw_script.specs.declared.reason.Reason.TheVariants.{BadByte, UnknownWord, BadNumber, WrongFields, NotBuilt}
+use Rattle.dw_script.specs.declared.reason.Reason.TheVariants.{BadByte, UnknownWord, BadNumber, BadHex, WrongFields, NotBuilt}
+use Rattle.dw_script.specs.declared.value.Value.TheVariants as value
+use Rattle.dw_script.specs.Codes.{tag_of, attribute_of}
+use Rattle.dw_script.specs.Kinds.{kind_of}
 use Rattle.dw_script.specs.Lines.{parsed_line}
+use Rattle.hex.specs.Hex.{decode_pairs}
 
 -- a unit of version 5, with addresses of 8 bytes, in the 32-bit format
 unit : parsed_line (codes "unit 5 8 32") ≡ Ok (Some (command.Unit (record { address_size = 8; format = Dwarf32; version = 5 })))
@@ -37,7 +41,7 @@ unfolding parsed_line
 unknown = refl
 
 -- a word whose other fields are not looked at yet
-not_built : parsed_line (codes "add 0 0 1") ≡ Err NotBuilt
+not_built : parsed_line (codes "delete 0 0 1") ≡ Err NotBuilt
 unfolding parsed_line
 not_built = refl
 
@@ -60,3 +64,58 @@ left_over = refl
 first_cause : parsed_line (codes "unit 5 8 16 9") ≡ Err BadNumber
 unfolding parsed_line
 first_cause = refl
+
+-- an entry, by the number of its tag
+add_number : parsed_line (codes "add 0 0 0x34") ≡ Ok (Some (command.Add 0 0 (record { 0 = 52 })))
+unfolding parsed_line tag_of
+add_number = refl
+
+-- the same, by its name
+add_name : parsed_line (codes "add 0 0 DW_TAG_variable") ≡ Ok (Some (command.Add 0 0 (record { 0 = 52 })))
+unfolding parsed_line tag_of
+add_name = refl
+
+-- no name of a tag
+unknown_tag : parsed_line (codes "add 0 0 DW_TAG_frob") ≡ Err UnknownWord
+unfolding parsed_line tag_of
+unknown_tag = refl
+
+-- a tag is missing
+no_tag : parsed_line (codes "add 0 0") ≡ Err WrongFields
+unfolding parsed_line
+no_tag = refl
+
+-- a string of the byte 0x61
+set_string : parsed_line (codes "set 0 1 DW_AT_name string 61") ≡ Ok (Some (command.Set 0 1 (record { 0 = 3 }) (value.String (97 ∷ []))))
+unfolding parsed_line attribute_of kind_of decode_pairs
+set_string = refl
+
+-- a string of no bytes
+set_empty : parsed_line (codes "set 0 0 3 string -") ≡ Ok (Some (command.Set 0 0 (record { 0 = 3 }) (value.String [])))
+unfolding parsed_line attribute_of kind_of
+set_empty = refl
+
+-- a number of any length
+set_udata : parsed_line (codes "set 0 1 3 udata 300") ≡ Ok (Some (command.Set 0 1 (record { 0 = 3 }) (value.Udata 300)))
+unfolding parsed_line attribute_of kind_of
+set_udata = refl
+
+-- a number that is past its byte
+past_byte : parsed_line (codes "set 0 1 0x0b data1 256") ≡ Err BadNumber
+unfolding parsed_line attribute_of kind_of
+past_byte = refl
+
+-- half a byte
+half_byte : parsed_line (codes "set 0 0 3 string 6") ≡ Err BadHex
+unfolding parsed_line attribute_of kind_of
+half_byte = refl
+
+-- a kind whose fields are not looked at yet
+unbuilt_kind : parsed_line (codes "set 0 0 3 address 1") ≡ Err NotBuilt
+unfolding parsed_line attribute_of kind_of
+unbuilt_kind = refl
+
+-- no kind of value
+unknown_kind : parsed_line (codes "set 0 0 3 frob") ≡ Err UnknownWord
+unfolding parsed_line attribute_of kind_of
+unknown_kind = refl

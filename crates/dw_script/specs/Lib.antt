@@ -1,6 +1,12 @@
 pub mod Pieces
 pub mod Numbers
+pub mod Bytes
 pub mod Words
+pub mod Kinds
+pub mod Names
+pub mod Spelled
 pub mod Reasons
 pub mod Fields
+pub mod Codes
+pub mod Values
 pub mod Lines

@@ -8,6 +8,7 @@ use Rattle.dw_script.specs.declared.word.Word.{Word}
 use Rattle.dw_script.specs.declared.word.Word.TheVariants as word
 use Rattle.dw_script.specs.Pieces.{pieces, space}
 use Rattle.dw_script.specs.Fields.{Fields, Outcome, ◌>>=◌, word_field, end_of_fields, number_field, format_field, byte_order_field}
+use Rattle.dw_script.specs.Values.{tag_field, attribute_field, value_field}
 
 -- an empty line, and one that begins with `#`, which is 35, asks for nothing
 abbrev pub passed_over : List ℕ → Bool
@@ -34,10 +35,31 @@ unit_line fields = do
   _ ← end_of_fields fields
   Ok (command.Unit (record { address_size = address_size; format = format; version = version }))
 
+-- the fields after `add`: the unit, the entry above the new one, and the tag
+abbrev pub add_line : Fields → Outcome Command
+add_line fields = do
+  (unit, fields) ← number_field (2 ^ 64) fields
+  (parent, fields) ← number_field (2 ^ 64) fields
+  (tag, fields) ← tag_field fields
+  _ ← end_of_fields fields
+  Ok (command.Add unit parent tag)
+
+-- the fields after `set`: the unit, the entry, the attribute's name, and its value
+abbrev pub set_line : Fields → Outcome Command
+set_line fields = do
+  (unit, fields) ← number_field (2 ^ 64) fields
+  (entry, fields) ← number_field (2 ^ 64) fields
+  (name, fields) ← attribute_field fields
+  (value, fields) ← value_field fields
+  _ ← end_of_fields fields
+  Ok (command.Set unit entry name value)
+
 -- what the fields after a word ask for
 abbrev pub line_of : Word → Fields → Outcome Command
 line_of word.Order fields = order_line fields
 line_of word.Unit fields = unit_line fields
+line_of word.Add fields = add_line fields
+line_of word.Set fields = set_line fields
 line_of _ fields = Err NotBuilt
 
 -- what the fields of a line ask for, from its word on

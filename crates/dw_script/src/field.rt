@@ -4,12 +4,16 @@
 ghost use Rattle.std.specs.Prelude.{◌≡◌, ◌^◌, Ok, Err, MatchResult};
 ghost use Rattle.dw_script.specs.Pieces.{pieces_left};
 ghost use Rattle.dw_script.specs.Fields.{byte_order_field, end_of_fields, format_field, next_field, number_field, with_rest, word_field};
+ghost use Rattle.dw_script.specs.Values.{attribute_field, hex_field, kind_field, tag_field};
 
-use crate::number::{parse_u8, parse_u16};
+use crate::code::{parse_attribute, parse_tag};
+use crate::hex_bytes::HexBytes;
+use crate::kind::Kind;
+use crate::number::{parse_u8, parse_u16, parse_u64};
 use crate::pieces::Pieces;
 use crate::reason::Reason;
 use crate::word::Word;
-use dw_base::{Format, RunTimeEndian};
+use dw_base::{DwAt, DwTag, Format, RunTimeEndian};
 
 /// Any field, as it stands.
 pub(crate) fn next_field<'a>(fields: &mut Pieces<'a>) -> Result<&'a [u8], Reason>
@@ -26,6 +30,14 @@ pub(crate) fn next_word(fields: &mut Pieces<'_>) -> Result<Word, Reason>
         word_field (pieces_left fields.old) }
 {
     Word::read(next_field(fields)?).ok_or(Reason::UnknownWord)
+}
+
+/// A number below 2^64.
+pub(crate) fn next_u64(fields: &mut Pieces<'_>) -> Result<u64, Reason>
+    ensures { with_rest result (pieces_left fields.new) ≡
+        number_field (2 ^ 64) (pieces_left fields.old) }
+{
+    parse_u64(next_field(fields)?).ok_or(Reason::BadNumber)
 }
 
 /// A number below 2^16.
@@ -66,6 +78,38 @@ pub(crate) fn next_byte_order(fields: &mut Pieces<'_>) -> Result<RunTimeEndian, 
         b"big" => Ok(RunTimeEndian::Big),
         _ => Err(Reason::UnknownWord),
     }
+}
+
+/// A tag, by its number or its name.
+pub(crate) fn next_tag(fields: &mut Pieces<'_>) -> Result<DwTag, Reason>
+    ensures { with_rest result (pieces_left fields.new) ≡
+        tag_field (pieces_left fields.old) }
+{
+    Ok(DwTag(parse_tag(next_field(fields)?)?))
+}
+
+/// The name of an attribute, or its number.
+pub(crate) fn next_attribute(fields: &mut Pieces<'_>) -> Result<DwAt, Reason>
+    ensures { with_rest result (pieces_left fields.new) ≡
+        attribute_field (pieces_left fields.old) }
+{
+    Ok(DwAt(parse_attribute(next_field(fields)?)?))
+}
+
+/// The kind of a value.
+pub(crate) fn next_kind(fields: &mut Pieces<'_>) -> Result<Kind, Reason>
+    ensures { with_rest result (pieces_left fields.new) ≡
+        kind_field (pieces_left fields.old) }
+{
+    Kind::read(next_field(fields)?).ok_or(Reason::UnknownWord)
+}
+
+/// Bytes in base 16.
+pub(crate) fn next_hex_bytes<'a>(fields: &mut Pieces<'a>) -> Result<HexBytes<'a>, Reason>
+    ensures { with_rest result (pieces_left fields.new) ≡
+        hex_field (pieces_left fields.old) }
+{
+    HexBytes::read(next_field(fields)?).ok_or(Reason::BadHex)
 }
 
 /// The end of the line: no field is left over.

@@ -2,19 +2,27 @@
 //! `parsed_line` in `specs/`.
 #![tactic(auto)]
 
+mod code;
 mod command;
 mod field;
+mod hex_bytes;
+mod kind;
 mod line;
+mod names;
 mod number;
 mod pieces;
 mod reason;
+mod table;
+mod value;
 mod word;
 
 pub use command::Command;
+pub use hex_bytes::HexBytes;
 pub use line::parse_line;
 pub use number::{parse_u8, parse_u16, parse_u64};
 pub use pieces::{Pieces, lines};
 pub use reason::Reason;
+pub use value::Value;
 
 #[cfg(test)]
 mod tests;

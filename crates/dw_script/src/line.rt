@@ -2,18 +2,22 @@
 
 ghost use Rattle.std.specs.Prelude.{◌≡◌};
 ghost use Rattle.dw_script.specs.Pieces.{pieces_left};
-ghost use Rattle.dw_script.specs.Lines.{all_printable, command_of, order_line, parsed_line, passed_over, unit_line};
+ghost use Rattle.dw_script.specs.Lines.{add_line, all_printable, command_of, order_line, parsed_line, passed_over, set_line, unit_line};
 
 use crate::command::Command;
-use crate::field::{expect_end, next_byte_order, next_format, next_u8, next_u16, next_word};
+use crate::field::{
+    expect_end, next_attribute, next_byte_order, next_format, next_tag, next_u8, next_u16,
+    next_u64, next_word,
+};
 use crate::pieces::Pieces;
 use crate::reason::Reason;
+use crate::value::next_value;
 use crate::word::Word;
 use dw_base::Encoding;
 
 /// What a line asks for, or `None` where it is passed over.
 #[tactic(auto, unfolding(crate::specs::Lines::parsed_line))]
-pub fn parse_line(line: &[u8]) -> Result<Option<Command>, Reason>
+pub fn parse_line(line: &[u8]) -> Result<Option<Command<'_>>, Reason>
     ensures { result ≡ parsed_line line.now }
 {
     if is_passed_over(line) {
@@ -43,17 +47,19 @@ fn is_printable(line: &[u8]) -> bool
     line.iter().all(|b| 0x20 <= *b && *b <= 0x7e)
 }
 
-fn parse_fields(mut fields: Pieces<'_>) -> Result<Command, Reason>
+fn parse_fields(mut fields: Pieces<'_>) -> Result<Command<'_>, Reason>
     ensures { result ≡ command_of (pieces_left fields.entry) }
 {
     match next_word(&mut fields)? {
         Word::Order => parse_order(fields),
         Word::Unit => parse_unit(fields),
+        Word::Add => parse_add(fields),
+        Word::Set => parse_set(fields),
         _ => Err(Reason::NotBuilt),
     }
 }
 
-fn parse_order(mut fields: Pieces<'_>) -> Result<Command, Reason>
+fn parse_order(mut fields: Pieces<'_>) -> Result<Command<'_>, Reason>
     ensures { result ≡ order_line (pieces_left fields.entry) }
 {
     let order = next_byte_order(&mut fields)?;
@@ -61,7 +67,7 @@ fn parse_order(mut fields: Pieces<'_>) -> Result<Command, Reason>
     Ok(Command::Order(order))
 }
 
-fn parse_unit(mut fields: Pieces<'_>) -> Result<Command, Reason>
+fn parse_unit(mut fields: Pieces<'_>) -> Result<Command<'_>, Reason>
     ensures { result ≡ unit_line (pieces_left fields.entry) }
 {
     let version = next_u16(&mut fields)?;
@@ -73,4 +79,30 @@ fn parse_unit(mut fields: Pieces<'_>) -> Result<Command, Reason>
         format,
         version,
     }))
+}
+
+fn parse_add(mut fields: Pieces<'_>) -> Result<Command<'_>, Reason>
+    ensures { result ≡ add_line (pieces_left fields.entry) }
+{
+    let unit = next_u64(&mut fields)?;
+    let parent = next_u64(&mut fields)?;
+    let tag = next_tag(&mut fields)?;
+    expect_end(fields)?;
+    Ok(Command::Add { unit, parent, tag })
+}
+
+fn parse_set(mut fields: Pieces<'_>) -> Result<Command<'_>, Reason>
+    ensures { result ≡ set_line (pieces_left fields.entry) }
+{
+    let unit = next_u64(&mut fields)?;
+    let entry = next_u64(&mut fields)?;
+    let name = next_attribute(&mut fields)?;
+    let value = next_value(&mut fields)?;
+    expect_end(fields)?;
+    Ok(Command::Set {
+        unit,
+        entry,
+        name,
+        value,
+    })
 }

@@ -12,12 +12,22 @@ pub enum Reason {
     UnknownWord,
     /// A field is no number, or out of its range.
     BadNumber,
+    /// A field is no pairs of digits of base 16.
+    BadHex,
     /// A field is missing, or left over.
     WrongFields,
     /// The word is known, and its command not built yet.
     NotBuilt,
     /// The byte order is chosen after another command.
     OrderNotFirst,
+    /// No unit has the index.
+    NoSuchUnit,
+    /// No entry of the unit has the index.
+    NoSuchEntry,
+    /// The tag is one that no entry may have.
+    BadTag,
+    /// The name is one that no attribute may have.
+    BadName,
 }
 
 impl Reason {
@@ -29,9 +39,14 @@ impl Reason {
             Reason::BadByte => "bad byte",
             Reason::UnknownWord => "unknown word",
             Reason::BadNumber => "bad number",
+            Reason::BadHex => "bad hex",
             Reason::WrongFields => "wrong fields",
             Reason::NotBuilt => "not built",
             Reason::OrderNotFirst => "order not first",
+            Reason::NoSuchUnit => "no such unit",
+            Reason::NoSuchEntry => "no such entry",
+            Reason::BadTag => "bad tag",
+            Reason::BadName => "bad name",
         }
     }
 }

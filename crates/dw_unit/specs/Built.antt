@@ -1,29 +1,23 @@
 -- The units that are read are those that were built.
-use Rattle.std.specs.Prelude.{◌≡◌, ℕ, ◌+◌, List, [], ◌∷◌, length, map, sum_by, Option, Some, None, Bool, true, false, ◌==◌, if◌then◌else◌}
-use Rattle.dw_base.specs.Abbreviations.{Declaration}
-use Rattle.dw_base.specs.Entries.{ReadEntry, Mark, Open, Close}
+use Rattle.std.specs.Prelude.{◌≡◌, ℕ, ◌+◌, List, [], ◌∷◌, length, map, sum_by, Option, Some, None, Bool, ◌==◌, if◌then◌else◌}
 use Rattle.dw_base.specs.Info.{ReadUnit, read_info}
 use Rattle.dw_base.specs.Spelling.{header_size}
 use Rattle.dw_unit.specs.UnitValue.{UnitValue}
+use Rattle.dw_unit.specs.Whole.{tree_read, tree_declared, tree_bytes, tree_table}
 
 -- the type that a header of version 5 tells, that of a compile unit
 abbrev pub unit_type_of : ℕ → Option ℕ
 unit_type_of version = if version == 5 then Some 1 else None
 
--- a compile unit's root without attributes and children
-abbrev pub root_entry : ReadEntry
-root_entry = record { code = 1; tag = 0x11; has_children = false; attributes = [] }
-
--- its declaration
-abbrev pub root_declared : Declaration
-root_declared = record { code = 1; shape = record { tag = 0x11; has_children = false; attributes = [] } }
-
--- a unit that is read has the encoding that was built, one entry, the root, and a table of its declaration alone
+-- A unit that is read has the encoding that was built, and in version 5 the type of a compile unit. Its entries are the
+-- tree's, in preorder, with a closing zero behind each list of children that isn't empty: tags, names, forms and operands are
+-- those of the entries, and each code stands for the entry's shape. Its table declares the shapes, each once, in the order in
+-- which each first comes, with the codes 1, 2, 3 and so on.
 pub record IsBuilt (u : UnitValue) (r : ReadUnit) : Type 0 where
   pub encoding : r.header.encoding ≡ u.encoding
   pub unit_type : r.header.unit_type ≡ unit_type_of u.encoding.version
-  pub entries : map (λ row. row.mark) r.rows ≡ Open root_entry ∷ []
-  pub declarations : r.table ≡ root_declared ∷ []
+  pub entries : map (λ row. row.mark) r.rows ≡ tree_read u.encoding u.entries
+  pub declarations : r.table ≡ tree_declared u.encoding u.entries
 
 -- as many units, each as it was built
 abbrev pub AreBuilt : List UnitValue → List ReadUnit → Type 0
@@ -32,14 +26,17 @@ AreBuilt [] (r ∷ rs) = ⊥
 AreBuilt (u ∷ us) [] = ⊥
 AreBuilt (u ∷ us) (r ∷ rs) = IsBuilt u r × AreBuilt us rs
 
--- the bytes of a unit: its header and the code of its root
-abbrev pub unit_size : UnitValue → ℕ
-unit_size u = header_size u.encoding + 1
+-- the bytes of a unit and of its table, in the shortest spelling
+abbrev pub unit_size : Bool → UnitValue → ℕ
+unit_size big u = header_size u.encoding + length (tree_bytes big u.encoding u.entries)
+
+abbrev pub table_size : UnitValue → ℕ
+table_size u = length (tree_table u.encoding u.entries)
 
 -- the two sections are read, to their last byte, as exactly these units, in the shortest spelling
 pub record Built (units : List UnitValue) (big : Bool) (info abbrevs : List ℕ) : Type 0 where
   pub read : List ReadUnit
   pub reads : read_info big info abbrevs ≡ Some read
   pub units_are : AreBuilt units read
-  pub info_size : length info ≡ sum_by unit_size units
-  pub abbrevs_size : length abbrevs ≡ sum_by (λ _. 6) units
+  pub info_size : length info ≡ sum_by (unit_size big) units
+  pub abbrevs_size : length abbrevs ≡ sum_by table_size units

@@ -1,15 +1,20 @@
 -- Why units are refused.
-use Rattle.std.specs.Prelude.{◌≡◌, ◌<◌, ℕ, false, List, Any, IsFalse}
-use Rattle.dw_base.specs.Numbers.{is_width, word_of}
+use Rattle.std.specs.Prelude.{◌≡◌, ◌<◌, ℕ, Bool, false, List, Any, IsFalse}
+use Rattle.dw_base.specs.Numbers.{is_width, word_of, length_fits}
 use Rattle.dw_base.specs.declared.common.Encoding.{Encoding}
 use Rattle.dw_base.specs.declared.error.Error.{Error}
-use Rattle.dw_base.specs.declared.error.Error.TheVariants.{NoMemory, WriteFault, ValueTooLarge, UnsupportedWordSize, UnsupportedVersion}
-use Rattle.dw_writer.specs.Contents.{Meaning}
+use Rattle.dw_base.specs.declared.error.Error.TheVariants.{NoMemory, WriteFault, ValueTooLarge, UnsupportedWordSize, UnsupportedVersion, InvalidAttributeValue, InitialLengthOverflow}
+use Rattle.dw_writer.specs.Meaning.{Meaning}
 use Rattle.dw_writer.specs.Causes.{HasRisen, offset_fits}
 use Rattle.dw_writer.specs.Sections.{fault_sum}
 use Rattle.dw_writer.specs.declared.sections.Sections.{Sections}
+use Rattle.dw_unit.specs.Entries.{EntryValue}
+use Rattle.dw_unit.specs.Tree.{preorder}
+use Rattle.dw_unit.specs.Coded.{are_spelled}
 use Rattle.dw_unit.specs.UnitValue.{UnitValue}
+use Rattle.dw_unit.specs.UnitText.{unit_length}
 use Rattle.dw_unit.specs.Valid.{is_version}
+use Rattle.dw_unit.specs.Whole.{tree_bytes, settled}
 
 -- a version or an address size has no spelling
 abbrev pub EncodingRefused : Encoding → Error → Type 0
@@ -18,20 +23,34 @@ EncodingRefused e (UnsupportedWordSize n) = (n ≡ e.address_size) × IsFalse (i
 EncodingRefused e _ = ⊥
 
 -- the table's place has no room in a word, or the writer refuses
-abbrev pub HeaderRefused : Meaning → Meaning → Encoding → ℕ → Error → Type 0
-HeaderRefused old new e table NoMemory = Unit {0}
-HeaderRefused old new e table WriteFault = HasRisen old new
-HeaderRefused old new e table ValueTooLarge = IsFalse (offset_fits old.is_plain (word_of e.format) table)
-HeaderRefused old new e table _ = ⊥
+abbrev pub FieldsRefused : Meaning → Meaning → Encoding → ℕ → Error → Type 0
+FieldsRefused old new e table NoMemory = Unit {0}
+FieldsRefused old new e table WriteFault = HasRisen old new
+FieldsRefused old new e table ValueTooLarge = IsFalse (offset_fits old.is_plain (word_of e.format) table)
+FieldsRefused old new e table _ = ⊥
+
+-- values are refused as bytes are, and where one has no spelling
+abbrev pub BodyRefused : Meaning → Meaning → Bool → Error → Type 0
+BodyRefused old new is_spelled NoMemory = Unit {0}
+BodyRefused old new is_spelled WriteFault = HasRisen old new
+BodyRefused old new is_spelled InvalidAttributeValue = IsFalse is_spelled
+BodyRefused old new is_spelled _ = ⊥
+
+-- why the entries of a tree are refused, whose table is to stand at a place: there was a rise of faults or not
+abbrev pub TreeRefused : Type 0 → Bool → ℕ → Bool → Encoding → List EntryValue → Error → Type 0
+TreeRefused rise is_plain table big e es NoMemory = Unit {0}
+TreeRefused rise is_plain table big e es WriteFault = rise
+TreeRefused rise is_plain table big e es ValueTooLarge = IsFalse (offset_fits is_plain (word_of e.format) table)
+TreeRefused rise is_plain table big e es InvalidAttributeValue = IsFalse (are_spelled es (preorder es))
+TreeRefused rise is_plain table big e es InitialLengthOverflow = IsFalse (length_fits e.format (unit_length e (tree_bytes big e es)))
+TreeRefused rise is_plain table big e es _ = ⊥
 
 -- why a unit is refused, which is to stand at the end of the sections
 abbrev pub UnitRefused : {W : Type 0} → (W → Meaning) → Sections W → Sections W → UnitValue → Error → Type 0
-UnitRefused meaning old new u NoMemory = Unit {0}
-UnitRefused meaning old new u WriteFault = fault_sum meaning old < fault_sum meaning new
-UnitRefused meaning old new u ValueTooLarge = IsFalse (offset_fits (meaning old.debug_info.0).is_plain (word_of u.encoding.format) (meaning old.debug_abbrev.0).size)
 UnitRefused meaning old new u (UnsupportedVersion v) = (v ≡ u.encoding.version) × IsFalse (is_version v)
 UnitRefused meaning old new u (UnsupportedWordSize n) = (n ≡ u.encoding.address_size) × IsFalse (is_width n)
-UnitRefused meaning old new u _ = ⊥
+UnitRefused meaning old new u e =
+    TreeRefused (fault_sum meaning old < fault_sum meaning new) (meaning old.debug_info.0).is_plain (meaning old.debug_abbrev.0).size (meaning old.debug_info.0).is_big u.encoding (settled u).entries e
 
 -- some unit that wasn't written before is refused
 abbrev pub UnitsRefused : {W : Type 0} → (W → Meaning) → Sections W → Sections W → List UnitValue → Error → Type 0

@@ -1,5 +1,5 @@
 -- A unit's text, resolved: the place of its table depends on where .debug_abbrev starts.
-use Rattle.std.specs.Prelude.{ℕ, ◌+◌, [], ◌∷◌, ◌==◌, if◌then◌else◌}
+use Rattle.std.specs.Prelude.{ℕ, ◌+◌, List, length, ◌==◌, if◌then◌else◌}
 use Rattle.dw_base.specs.Numbers.{word_of, escape_of}
 use Rattle.dw_base.specs.Spelling.{fields_size}
 use Rattle.dw_base.specs.declared.common.Encoding.{Encoding}
@@ -17,11 +17,11 @@ after_version_text e table =
 unfoldable pub fields_text : Encoding → ℕ → Model
 fields_text e table = after (number_text 2 e.version) (after_version_text e table)
 
--- the unit's length counts what follows it: the fields, and the code of the root
-abbrev pub unit_length : Encoding → ℕ
-unit_length e = fields_size e + 1
+-- the unit's length counts what follows it: the fields and the entries
+abbrev pub unit_length : Encoding → List ℕ → ℕ
+unit_length e body = fields_size e + length body
 
--- a unit that is only its root, whose table stands at a place
-unfoldable pub unit_text : Encoding → ℕ → Model
-unit_text e table =
-    after (bytes_text (escape_of e.format)) (after (number_text (word_of e.format) (unit_length e)) (after (fields_text e table) (bytes_text (1 ∷ []))))
+-- a unit whose table stands at a place, with the bytes of its entries
+unfoldable pub unit_text : Encoding → ℕ → List ℕ → Model
+unit_text e table body =
+    after (bytes_text (escape_of e.format)) (after (number_text (word_of e.format) (unit_length e body)) (after (fields_text e table) (bytes_text body)))

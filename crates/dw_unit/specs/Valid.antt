@@ -1,7 +1,13 @@
--- Encodings that have a spelling.
-use Rattle.std.specs.Prelude.{ℕ, Bool, ◌&&◌, nat_le}
-use Rattle.dw_base.specs.Numbers.{is_width}
+-- Units that have a spelling.
+use Rattle.std.specs.Prelude.{ℕ, List, Bool, ◌&&◌, nat_le, IsTrue}
+use Rattle.dw_base.specs.Numbers.{is_width, length_fits}
 use Rattle.dw_base.specs.declared.common.Encoding.{Encoding}
+use Rattle.dw_unit.specs.Entries.{EntryValue}
+use Rattle.dw_unit.specs.Tree.{preorder}
+use Rattle.dw_unit.specs.Coded.{are_spelled}
+use Rattle.dw_unit.specs.UnitText.{unit_length}
+use Rattle.dw_unit.specs.Whole.{tree_bytes, settled}
+use Rattle.dw_unit.specs.UnitValue.{UnitValue}
 
 -- the versions of units
 abbrev pub is_version : ℕ → Bool
@@ -10,3 +16,13 @@ is_version v = nat_le 2 v && nat_le v 5
 -- a version and an address size that a header can have
 abbrev pub is_encodable : Encoding → Bool
 is_encodable e = is_version e.version && is_width e.address_size
+
+-- the header, each value and the length of a tree have a spelling
+pub record IsWritableTree (big : Bool) (e : Encoding) (es : List EntryValue) : Type 0 where
+  pub encodable : IsTrue (is_encodable e)
+  pub spelled : IsTrue (are_spelled es (preorder es))
+  pub fits : IsTrue (length_fits e.format (unit_length e (tree_bytes big e es)))
+
+-- the same of a unit, settled
+abbrev pub IsWritable : Bool → UnitValue → Type 0
+IsWritable big u = IsWritableTree big u.encoding (settled u).entries

@@ -1,30 +1,26 @@
-//! The header of a compile unit, and the root after it.
+//! The header of a compile unit.
 
-ghost use Rattle.std.specs.Prelude.{◌≡◌, ◌+◌, ◌<◌, ◌≤◌, ◌==◌, IsTrue, OnOk, IfErr, length};
+ghost use Rattle.std.specs.Prelude.{◌≡◌, IsTrue, OnOk, IfErr};
 ghost use Rattle.dw_base.specs.Numbers.{is_width, word_of};
-ghost use Rattle.dw_base.specs.Spelling.{fields_size, header_size, root_table};
-ghost use Rattle.dw_writer.specs.Meaning.{Meaning, IsSameWriter, Adds, Appends};
-ghost use Rattle.dw_writer.specs.SectionTexts.{bytes_text};
-ghost use Rattle.dw_writer.specs.Causes.{BytesRefused, offset_fits};
-ghost use Rattle.dw_unit.specs.Valid.{is_version, is_encodable};
-ghost use Rattle.dw_unit.specs.UnitText.{fields_text, unit_text};
-ghost use Rattle.dw_unit.specs.Causes.{EncodingRefused, HeaderRefused};
+ghost use Rattle.dw_base.specs.Spelling.{fields_size};
+ghost use Rattle.dw_writer.specs.Meaning.{IsSameWriter, Appends};
+ghost use Rattle.dw_writer.specs.Causes.{offset_fits};
+ghost use Rattle.dw_unit.specs.Valid.{is_encodable};
+ghost use Rattle.dw_unit.specs.UnitText.{fields_text};
+ghost use Rattle.dw_unit.specs.Causes.{EncodingRefused, FieldsRefused};
 
-use dw_base::constants::{DW_TAG_compile_unit, DW_UT_compile};
+use dw_base::constants::DW_UT_compile;
 use dw_base::{Encoding, Error, Result, SectionId};
 use dw_writer::Writer;
 
-/// The code of the root's abbreviation.
-const ROOT_CODE: u64 = 1;
-
-// Tells that an address or a field may have this many bytes.
+/// Tells that an address or a field may have this many bytes.
 fn is_supported_width(size: u8) -> bool
     ensures { result ≡ is_width size }
 {
     size == 1 || size == 2 || size == 4 || size == 8
 }
 
-// Refuses versions and address sizes that have no spelling.
+/// Refuses versions and address sizes that have no spelling.
 pub(crate) fn check_encoding(encoding: Encoding) -> Result<()>
     ensures ok { OnOk result (IsTrue (is_encodable encoding)) }
     ensures err { IfErr result (EncodingRefused encoding) }
@@ -38,23 +34,14 @@ pub(crate) fn check_encoding(encoding: Encoding) -> Result<()>
     Ok(())
 }
 
-// Adds the table of a root that has no attributes and no children (DWARF 5, 7.5.3).
-pub(crate) fn write_root_table<W: Writer>(w: &mut W) -> Result<()>
-    ensures ok { OnOk result (Appends (W.meaning w.old) (W.meaning w.new) 6 (bytes_text root_table)) }
-    ensures err { IfErr result (BytesRefused (W.meaning w.old) (W.meaning w.new)) }
-    ensures same { IsSameWriter (W.meaning w.old) (W.meaning w.new) }
-{
-    w.write_uleb128(ROOT_CODE)?;
-    w.write_uleb128(DW_TAG_compile_unit.0 as u64)?;
-    // No children, no attributes, no other declaration.
-    w.write(&[0, 0, 0, 0])
-}
-
-// Adds what follows the length in a header, with the place of the unit's table (DWARF 5, 7.5.1.1;
-// below version 5 there is no unit type, and the address size stands last).
-fn write_fields<W: Writer>(encoding: Encoding, table: usize, w: &mut W) -> Result<()>
-    ensures ok { OnOk result (Appends (W.meaning w.old) (W.meaning w.new) (fields_size encoding) (fields_text encoding table)) }
-    ensures err { IfErr result (HeaderRefused (W.meaning w.old) (W.meaning w.new) encoding table) }
+/// Adds what follows the length in a header, with the place of the unit's table (DWARF 5, 7.5.1.1;
+/// below version 5 there is no unit type, and the address size stands last).
+pub(crate) fn write_fields<W: Writer>(encoding: Encoding, table: usize, w: &mut W) -> Result<()>
+    ensures ok { OnOk result
+        (Appends (W.meaning w.old) (W.meaning w.new) (fields_size encoding) (fields_text encoding table)) }
+    ensures fits { OnOk result
+        (IsTrue (offset_fits (W.meaning w.old).is_plain (word_of encoding.format) table)) }
+    ensures err { IfErr result (FieldsRefused (W.meaning w.old) (W.meaning w.new) encoding table) }
     ensures same { IsSameWriter (W.meaning w.old) (W.meaning w.new) }
 {
     let word = encoding.format.word_size();
@@ -67,22 +54,4 @@ fn write_fields<W: Writer>(encoding: Encoding, table: usize, w: &mut W) -> Resul
         w.write_offset(table, SectionId::DebugAbbrev, word)?;
         w.write_u8(encoding.address_size)
     }
-}
-
-// Adds a unit that is only its root. Its length is put in once the unit stands.
-pub(crate) fn write_compile_unit<W: Writer>(
-    encoding: Encoding,
-    table: usize,
-    w: &mut W,
-) -> Result<()>
-    ensures ok { OnOk result (Appends (W.meaning w.old) (W.meaning w.new) (header_size encoding + 1) (unit_text encoding table)) }
-    ensures err { IfErr result (HeaderRefused (W.meaning w.old) (W.meaning w.new) encoding table) }
-    ensures same { IsSameWriter (W.meaning w.old) (W.meaning w.new) }
-{
-    let place = w.write_initial_length(encoding.format)?;
-    let start = w.len();
-    write_fields(encoding, table, w)?;
-    w.write_uleb128(ROOT_CODE)?;
-    let length = (w.len() - start) as u64;
-    w.write_initial_length_at(place, length, encoding.format)
 }

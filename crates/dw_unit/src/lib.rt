@@ -1,11 +1,34 @@
-//! Units of entries, built by calls and written with their abbreviation tables.
+//! The entries of units, built by calls, and how they are written.
 #![tactic(auto)]
 
+mod arena;
+mod attribute;
+mod attribute_walk;
+mod attributes;
+mod body;
+#[cfg(test)]
+mod body_tests;
+mod bytes;
+mod codes;
+mod compile_unit;
+mod entry;
+mod entry_mut;
 mod header;
 mod line_program;
+mod settle;
+mod shape;
+#[cfg(test)]
+mod tests;
+mod tree;
 mod unit;
 mod unit_table;
+mod value;
 
+pub use attribute::{Attribute, AttributeValue};
+pub use attribute_walk::{AttrMut, AttributeWalk, AttrsMut};
+pub use bytes::Bytes;
+pub use entry::DebuggingInformationEntry;
+pub use entry_mut::EntryMut;
 pub use line_program::LineProgram;
 pub use unit::Unit;
 pub use unit_table::UnitTable;

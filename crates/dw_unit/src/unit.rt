@@ -1,47 +1,66 @@
 //! One unit.
 
-ghost use Rattle.std.specs.Prelude.{◌≡◌, ◌≤◌, true, false, IsTrue, OnOk, IfOk, OnErr, IfErr};
+ghost use Rattle.std.specs.Prelude.{◌≡◌, ◌≢◌, ◌+◌, ◌<◌, ◌↔◌, false, length, IsTrue, Some, slice_get, OnOk, OnErr, IfOk, IfErr};
 ghost use Rattle.dw_base.specs.declared.error.Error.TheVariants.{NoMemory};
-ghost use Rattle.dw_writer.specs.Sections.{fault_sum};
-ghost use Rattle.dw_unit.specs.UnitValue.{UnitValue, new_unit};
-ghost use Rattle.dw_unit.specs.Valid.{is_encodable};
-ghost use Rattle.dw_unit.specs.Written.{AppendsUnit};
-ghost use Rattle.dw_unit.specs.Causes.{UnitRefused};
+ghost use Rattle.dw_unit.specs.Entries.{with_changed, filled_up, with_new_child, with_attribute, without_attribute, without_child};
+ghost use Rattle.dw_unit.specs.UnitValue.{new_unit, IsReserved, IsSound};
 
-use crate::header::{check_encoding, write_compile_unit, write_root_table};
+use crate::arena::{add_entry, is_unadded};
+use crate::attribute::AttributeValue;
+use crate::attribute_walk::AttributeWalk;
+use crate::attributes::Attributes;
+use crate::compile_unit::write_tree;
+use crate::entry::DebuggingInformationEntry;
+use crate::entry_mut::EntryMut;
+use crate::header::check_encoding;
 use crate::line_program::LineProgram;
-use dw_base::{Encoding, Format, Result, UnitEntryId};
+use crate::settle::settle;
+use dw_base::constants::DW_TAG_compile_unit;
+use dw_base::{DwAt, DwTag, Encoding, Format, Result, UnitEntryId};
 use dw_writer::{Sections, Writer};
 use std::alloc::Global;
 use std::marker::Model;
 
-/// A unit of `.debug_info`: an encoding, a line program, and entries, of which there is only the
-/// root so far.
+/// A unit of `.debug_info`: an encoding, a line program, and entries that ids name.
 #[derive(Drop)]
 pub struct Unit {
     /// The unit's line program.
     pub line_program: LineProgram,
     encoding: Encoding,
+    entries: Vec<DebuggingInformationEntry>,
+    reserved: usize,
     is_written: bool,
+    is_freed: bool,
 }
 
 impl Model for Unit {
+    ghost use Rattle.dw_unit.specs.UnitValue.{UnitValue};
+    ghost use Rattle.dw_unit.specs.Arena.{IsArena};
+
     ghost Value = { UnitValue };
 
-    ghost view = { λ u. record { encoding = u.encoding; line_program = u.line_program; is_written = u.is_written } };
+    ghost view = { λ u. record { encoding = u.encoding; line_program = u.line_program; entries = u.entries.items; reserved = u.reserved; is_written = u.is_written; is_freed = u.is_freed } };
+
+    ghost invariant = { λ u. IsArena u.entries.items u.reserved u.is_written u.is_freed };
 }
 
 impl Unit {
-    /// A unit that has its root alone, a `DW_TAG_compile_unit` without attributes. Any version and
-    /// address size is taken; those that have no spelling are refused when the unit is written.
-    pub fn new(_alloc: Global, encoding: Encoding, line_program: LineProgram) -> Result<Unit>
+    /// A unit that has its root alone, a `DW_TAG_compile_unit` without attributes.
+    pub fn new(alloc: Global, encoding: Encoding, line_program: LineProgram) -> Result<Unit>
         ensures ok { IfOk result (λ u. u ≡ new_unit encoding line_program) }
         ensures err { IfErr result (λ e. e ≡ NoMemory) }
     {
+        let mut root = DebuggingInformationEntry::blank(alloc);
+        root.set_tag(DW_TAG_compile_unit);
+        let mut entries = Vec::new(alloc);
+        entries.push(root)?;
         Ok(Unit {
             line_program,
             encoding,
+            entries,
+            reserved: 1,
             is_written: false,
+            is_freed: false,
         })
     }
 
@@ -80,18 +99,27 @@ impl Unit {
         self.encoding.format
     }
 
-    /// How many entries there are.
+    /// How many entries there are, those among them whose ids are only handed out.
     pub fn count(&self) -> usize
-        ensures { result ≡ 1 }
+        ensures value { result ≡ length self.now.entries }
+        ensures sound { IsSound self.now }
     {
-        1
+        self.entries.len()
     }
 
     /// How many ids were handed out, the root's among them.
     pub fn reserved(&self) -> usize
-        ensures { result ≡ 1 }
+        ensures { result ≡ self.now.reserved }
     {
-        1
+        self.reserved
+    }
+
+    /// Tells that an id was handed out for an entry that isn't added yet.
+    pub fn is_reserved(&self, id: UnitEntryId) -> bool
+        ensures { IsTrue result ↔ IsReserved self.now id.0 }
+    {
+        let index = id.index();
+        index != 0 && index < self.reserved && is_unadded(&self.entries, index)
     }
 
     /// The id of the unit's root.
@@ -108,25 +136,215 @@ impl Unit {
         self.is_written
     }
 
+    /// Tells that the unit gave its entries up.
+    pub fn is_freed(&self) -> bool
+        ensures { result ≡ self.now.is_freed }
+    {
+        self.is_freed
+    }
+}
+
+impl Unit {
+    /// Hands out the id of an entry that is to be added later, which others may refer to before.
+    pub fn reserve(&mut self) -> UnitEntryId
+        requires room { self.old.reserved < usize.MAX }
+        requires not_freed { self.old.is_freed ≡ false }
+        ensures id { result.0 ≡ self.old.reserved }
+        ensures unit { self.new ≡ record self.old { reserved = self.old.reserved + 1 } }
+    {
+        let id = UnitEntryId::new(self.reserved);
+        self.reserved += 1;
+        id
+    }
+
+    /// Adds the entry of a reserved id behind its parent's other children. The parent's own id may be
+    /// reserved alone.
+    pub fn add_reserved(
+        &mut self,
+        child: UnitEntryId,
+        parent: UnitEntryId,
+        tag: DwTag,
+    ) -> Result<()>
+        requires reserved { IsReserved self.old child.0 }
+        requires parent_in { parent.0 < self.old.reserved }
+        requires tagged { tag.0 ≢ 0 }
+        requires not_freed { self.old.is_freed ≡ false }
+        ensures ok { OnOk result (self.new ≡ record self.old { entries = with_new_child child.0 parent.0 tag.0 (filled_up self.old.reserved self.old.entries) }) }
+        ensures count { OnOk result (length self.new.entries ≡ self.old.reserved) }
+        ensures err { IfErr result (λ e. e ≡ NoMemory) }
+        ensures kept { OnErr result (self.new ≡ self.old) }
+    {
+        add_entry(&mut self.entries, self.reserved, child, parent, tag)
+    }
+
+    /// Adds an entry behind its parent's other children, and answers its id.
+    pub fn add(&mut self, parent: UnitEntryId, tag: DwTag) -> Result<UnitEntryId>
+        requires room { self.old.reserved < usize.MAX }
+        requires parent_in { parent.0 < self.old.reserved }
+        requires tagged { tag.0 ≢ 0 }
+        requires not_freed { self.old.is_freed ≡ false }
+        ensures id { IfOk result (λ id. id.0 ≡ self.old.reserved) }
+        ensures ok { OnOk result (self.new ≡ record self.old { entries = with_new_child self.old.reserved parent.0 tag.0 (filled_up (self.old.reserved + 1) self.old.entries); reserved = self.old.reserved + 1 }) }
+        ensures count { OnOk result (length self.new.entries ≡ self.old.reserved + 1) }
+        ensures err { IfErr result (λ e. e ≡ NoMemory) }
+        ensures kept { OnErr result (self.new ≡ self.old) }
+    {
+        let child = UnitEntryId::new(self.reserved);
+        add_entry(&mut self.entries, self.reserved + 1, child, parent, tag)?;
+        self.reserved += 1;
+        Ok(child)
+    }
+
+    /// An entry of the unit.
+    pub fn get(&self, id: UnitEntryId) -> &DebuggingInformationEntry
+        requires { id.0 < length self.now.entries }
+        ensures { slice_get self.now.entries id.0 ≡ Some result.now }
+    {
+        &self.entries[id.index()]
+    }
+
+    /// An entry of the unit, to be changed.
+    pub fn get_mut(&mut self, id: UnitEntryId) -> EntryMut<'_>
+        requires { id.0 < length self.old.entries }
+        ensures same_unit { result.unit.ghost_name ≡ self.entry.ghost_name }
+        ensures unit { result.unit.now ≡ self.old }
+        ensures index { result.index ≡ id.0 }
+    {
+        EntryMut::of(self, id.index())
+    }
+}
+
+impl Unit {
+    pub(crate) fn set_attribute(
+        &mut self,
+        index: usize,
+        name: DwAt,
+        value: AttributeValue,
+    ) -> Result<()>
+        requires index_in { index < length self.old.entries }
+        requires named { 1 < name.0 }
+        ensures ok { OnOk result (self.new ≡ record self.old { entries = with_changed index (with_attribute name.0 value) self.old.entries }) }
+        ensures err { IfErr result (λ e. e ≡ NoMemory) }
+        ensures kept { OnErr result (self.new ≡ self.old) }
+    {
+        let entry = &mut self.entries[index];
+        entry.set(name, value)
+    }
+
+    pub(crate) fn delete_attribute(&mut self, index: usize, name: DwAt)
+        requires { index < length self.old.entries }
+        ensures { self.new ≡ record self.old { entries = with_changed index (without_attribute name.0) self.old.entries } }
+    {
+        let entry = &mut self.entries[index];
+        entry.delete(name);
+    }
+
+    pub(crate) fn delete_child(&mut self, index: usize, id: UnitEntryId)
+        requires { index < length self.old.entries }
+        ensures { self.new ≡ record self.old { entries = with_changed index (without_child id.0) self.old.entries } }
+    {
+        let entry = &mut self.entries[index];
+        entry.delete_child(id);
+    }
+
+    pub(crate) fn reserve_attributes(&mut self, index: usize, additional: usize) -> Result<()>
+        requires { index < length self.old.entries }
+        ensures same { self.new ≡ self.old }
+        ensures err { IfErr result (λ e. e ≡ NoMemory) }
+    {
+        let entry = &mut self.entries[index];
+        entry.reserve(additional)
+    }
+}
+
+impl Unit {
+    ghost use Rattle.std.specs.Option.{option_copied_mut};
+    ghost use Rattle.std.specs.Borrow.{sem};
+    ghost use Rattle.dw_unit.specs.Entries.{attributes_of, value_of};
+    ghost use Rattle.dw_unit.specs.Lends.{LendsAttributesAt, LendsWalkAt, LendsNamedAt};
+
+    pub(crate) fn attributes_mut(&mut self, index: usize) -> &mut Attributes
+        requires { index < length self.old.entries }
+        ensures* writes_back { sem 𝓛 (LendsAttributesAt self.entry index result) }
+        ensures value { result.now ≡ attributes_of self.old.entries index }
+    {
+        let entry = &mut self.entries[index];
+        entry.attributes_mut()
+    }
+
+    pub(crate) fn walk_mut(&mut self, index: usize) -> &mut AttributeWalk
+        requires { index < length self.old.entries }
+        ensures* writes_back { sem 𝓛 (LendsWalkAt self.entry index result) }
+        ensures attributes { result.now.attributes ≡ attributes_of self.old.entries index }
+        ensures next { result.now.next ≡ 0 }
+    {
+        let entry = &mut self.entries[index];
+        entry.walk_mut()
+    }
+
+    pub(crate) fn value_mut(&mut self, index: usize, name: DwAt) -> Option<&mut AttributeValue>
+        requires { index < length self.old.entries }
+        ensures* writes_back { sem 𝓛 (LendsNamedAt self.entry index name.0 result) }
+        ensures value { option_copied_mut result ≡ value_of self.old.entries index name.0 }
+    {
+        let attributes = self.attributes_mut(index);
+        match attributes.value_mut(name) {
+            Some(value) => Some(value),
+            None => None,
+        }
+    }
+}
+
+impl Unit {
+    ghost use Rattle.dw_unit.specs.Settled.{settled_entries};
+
+    /// The entries, each at the index that its id names.
+    pub(crate) fn entries(&self) -> &[DebuggingInformationEntry]
+        ensures value { result.now ≡ self.now.entries }
+        ensures sound { IsSound self.now }
+    {
+        &self.entries
+    }
+
+    /// Moves the root's base types before its other children.
+    pub(crate) fn settle(&mut self) -> Result<()>
+        ensures ok { OnOk result (self.new ≡ record self.old { entries = settled_entries self.old.entries }) }
+        ensures err { IfErr result (λ e. e ≡ NoMemory) }
+        ensures kept { OnErr result (self.new ≡ self.old) }
+    {
+        settle(&mut self.entries)?;
+        Ok(())
+    }
+}
+
+impl Unit {
+    ghost use Rattle.std.specs.Prelude.{◌⊎◌, ◌≤◌};
+    ghost use Rattle.dw_writer.specs.Sections.{fault_sum};
+    ghost use Rattle.dw_unit.specs.Whole.{settled, marked_written};
+    ghost use Rattle.dw_unit.specs.Valid.{IsWritable};
+    ghost use Rattle.dw_unit.specs.Written.{AppendsTree};
+    ghost use Rattle.dw_unit.specs.Causes.{UnitRefused};
+
     /// Writes the unit at the end of `.debug_info` and its abbreviation table at the end of
-    /// `.debug_abbrev` (DWARF 5, 7.5.1 to 7.5.3), and marks it written. Where this is refused the
-    /// unit stays as it was, and the two sections may have got some of the bytes.
+    /// `.debug_abbrev` (DWARF 5, 7.5.1 to 7.5.3), and marks it written. The root's base types move
+    /// before its other children. Where this is refused the unit is as it was, or has its base types
+    /// moved, and the two sections may have got some of the bytes.
     pub fn write<W: Writer>(&mut self, sections: &mut Sections<W>) -> Result<()>
         requires { self.old.is_written ≡ false }
-        ensures unit { OnOk result (AppendsUnit W.meaning sections.old sections.new self.old) }
-        ensures encodable { OnOk result (IsTrue (is_encodable self.old.encoding)) }
-        ensures marked { OnOk result (self.new ≡ record self.old { is_written = true }) }
+        ensures unit { OnOk result (AppendsTree W.meaning sections.old sections.new self.old.encoding (settled self.old).entries) }
+        ensures writable { OnOk result (IsWritable (W.meaning sections.old.debug_info.0).is_big self.old) }
+        ensures marked { OnOk result (self.new ≡ marked_written (settled self.old)) }
 
         ensures err { IfErr result (UnitRefused W.meaning sections.old sections.new self.old) }
-        ensures kept { OnErr result (self.new ≡ self.old) }
+        ensures kept { OnErr result ((self.new ≡ self.old) ⊎ (self.new ≡ settled self.old)) }
 
         ensures others { sections.new ≡ record sections.old { debug_abbrev = sections.new.debug_abbrev; debug_info = sections.new.debug_info } }
         ensures faults { fault_sum W.meaning sections.old ≤ fault_sum W.meaning sections.new }
     {
         check_encoding(self.encoding)?;
-        let table = sections.debug_abbrev.0.len();
-        write_root_table(&mut sections.debug_abbrev.0)?;
-        write_compile_unit(self.encoding, table, &mut sections.debug_info.0)?;
+        self.settle()?;
+        let alloc = *self.entries.allocator();
+        write_tree(alloc, self.encoding, &self.entries, sections)?;
         self.is_written = true;
         Ok(())
     }

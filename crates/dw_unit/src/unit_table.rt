@@ -1,12 +1,13 @@
 //! The units of a `Dwarf`.
 
-ghost use Rattle.std.specs.Prelude.{◌≡◌, ◌+◌, ◌<◌, ◌≤◌, ◌++◌, ◌∷◌, [], Bool, true, false, List, length, map, Some, IsTrue, OnOk, IfOk, OnErr, IfErr, slice_get, slice_index_or};
+ghost use Rattle.std.specs.Prelude.{◌≡◌, ◌⊎◌, ◌+◌, ◌<◌, ◌≤◌, ◌++◌, ◌∷◌, [], Bool, true, false, List, length, map, Some, IsTrue, OnOk, IfOk, OnErr, IfErr, slice_get, slice_index_or};
 ghost use Rattle.dw_base.specs.declared.error.Error.TheVariants.{NoMemory};
 ghost use Rattle.std.specs.Prelude.{All};
 ghost use Rattle.std.specs.Borrow.{sem};
 ghost use Rattle.dw_writer.specs.Sections.{fault_sum};
-ghost use Rattle.dw_unit.specs.UnitValue.{UnitValue, marked_written};
-ghost use Rattle.dw_unit.specs.Valid.{is_encodable};
+ghost use Rattle.dw_unit.specs.UnitValue.{UnitValue};
+ghost use Rattle.dw_unit.specs.Valid.{IsWritable};
+ghost use Rattle.dw_unit.specs.Whole.{settled, written};
 ghost use Rattle.dw_unit.specs.Causes.{UnitsRefused};
 ghost use Rattle.dw_unit.specs.Written.{AppendsUnits};
 
@@ -29,7 +30,7 @@ impl Model for UnitTable {
 }
 
 impl UnitTable {
-    ghost use Rattle.dw_unit.specs.Lends.{LendsUnit};
+    ghost use Rattle.dw_unit.specs.TableLends.{LendsUnit};
 
     /// No units.
     pub fn new(alloc: Global) -> UnitTable
@@ -89,11 +90,11 @@ impl UnitTable {
     pub fn write<W: Writer>(&mut self, sections: &mut Sections<W>) -> Result<()>
         requires { length self.old ≤ 1 }
         ensures units { OnOk result (AppendsUnits W.meaning sections.old sections.new self.old) }
-        ensures encodable { OnOk result (All (λ u. u.is_written ≡ false → IsTrue (is_encodable u.encoding)) self.old) }
-        ensures marked { OnOk result (self.new ≡ map marked_written self.old) }
+        ensures writable { OnOk result (All (λ u. u.is_written ≡ false → IsWritable (W.meaning sections.old.debug_info.0).is_big u) self.old) }
+        ensures marked { OnOk result (self.new ≡ map written self.old) }
 
         ensures err { IfErr result (UnitsRefused W.meaning sections.old sections.new self.old) }
-        ensures kept { OnErr result (self.new ≡ self.old) }
+        ensures kept { OnErr result ((self.new ≡ self.old) ⊎ (self.new ≡ map settled self.old)) }
 
         ensures others { sections.new ≡ record sections.old { debug_abbrev = sections.new.debug_abbrev; debug_info = sections.new.debug_info } }
         ensures faults { fault_sum W.meaning sections.old ≤ fault_sum W.meaning sections.new }

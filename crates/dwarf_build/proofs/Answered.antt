@@ -1,9 +1,10 @@
 -- What the program's answers rest on.
-use Rattle.std.proofs.Common.{◌≡◌, ◌∙◌, sym, ap, ℕ, zero, suc, ◌≤◌, List, [], ◌∷◌, length, arith}
+use Rattle.std.proofs.Common.{◌≡◌, ◌∙◌, sym, ap, ℕ, zero, suc, ◌≤◌, List, [], ◌∷◌, length, map, arith}
 use Rattle.std.specs.Prelude.{Some, Option}
 use Rattle.dw_writer.specs.Contents.{Meaning}
 use Rattle.dw_writer.specs.declared.sections.Sections.{Sections}
 use Rattle.dw_unit.specs.UnitValue.{UnitValue}
+use Rattle.dw_unit.specs.Whole.{settled}
 use Rattle.dw_dwarf.specs.Valid.{AreUnwritten}
 use Rattle.dw_dwarf.specs.Written.{HoldsUnits}
 use Rattle.dwarf_build.specs.Texts.{SectionBytes, sections_text, only_units}
@@ -44,7 +45,7 @@ same_parts x1 x2 x3 x4 x5 x6 x7 x8 x9 x10 x11 info abbrevs p1 p2 p3 p4 p5 p6 p7 
 
 module _ {W : Type 0} where
   -- the listing of sections that hold a script's units lists the script
-  pub script_listed : (meaning : W → Meaning) (s : Script) (sections : Sections W) (text : List ℕ) → HoldsUnits meaning (is_big_of s.endian) sections s.dwarf.units →
+  pub script_listed : (meaning : W → Meaning) (s : Script) (sections : Sections W) (text : List ℕ) → HoldsUnits meaning (is_big_of s.endian) sections (map settled s.dwarf.units) →
       ListsSections meaning sections (is_big_of s.endian) text → ListsScript s text
   script_listed meaning s sections text held listed =
       let tells = listed.tells in

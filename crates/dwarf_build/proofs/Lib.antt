@@ -5,3 +5,5 @@ pub mod Lines
 pub mod Listings
 pub mod Answered
 pub mod ScriptUnits
+pub mod Unspelled
+pub mod Completeness

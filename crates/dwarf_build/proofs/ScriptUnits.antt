@@ -6,7 +6,7 @@ use Rattle.dw_script.specs.Lines.{parsed_line}
 use Rattle.dw_script.specs.Pieces.{pieces}
 use Rattle.dw_script.specs.Fields.{Outcome, ◌>>=◌}
 use Rattle.dw_script.specs.declared.command.Command.{Command}
-use Rattle.dw_script.specs.declared.command.Command.TheVariants.{Order, Unit as AddUnit}
+use Rattle.dw_script.specs.declared.command.Command.TheVariants.{Order, Unit as AddUnit, Add, Set}
 use Rattle.dw_script.specs.declared.reason.Reason.TheVariants.{OrderNotFirst}
 use Rattle.dw_unit.specs.UnitValue.{UnitValue, new_unit, no_line_program}
 use Rattle.dwarf_build.specs.Script.{one_more_unit, after_command, after_asked, after_line, after_lines, empty_script, script}
@@ -30,6 +30,8 @@ unit_few s (u ∷ us) e = tt
 command_few : (s : Script) (c : Command) → HasFewUnits s.dwarf.units → IfBuilds (after_command s c)
 command_few s (Order o) h = order_few s.has_begun s (record s { endian = o; has_begun = true }) h
 command_few s (AddUnit e) h = unit_few s s.dwarf.units e
+command_few s (Add _ _ _) h = tt
+command_few s (Set _ _ _ _) h = tt
 
 asked_few : (s : Script) (r : Outcome (Option Command)) → HasFewUnits s.dwarf.units → IfBuilds (r >>= after_asked s)
 asked_few s (Ok None) h = h

@@ -1,8 +1,14 @@
 -- What the program answers, by its status.
-use Rattle.std.specs.Prelude.{◌≡◌, ◌⊎◌, ℕ, ◌<◌, ◌≤◌, List, [], ◌∷◌, length, Any, Option, Some, Ok, Err, false, codes}
+use Rattle.std.specs.Prelude.{◌≡◌, ◌⊎◌, ℕ, ◌<◌, ◌≤◌, List, [], ◌∷◌, length, map, Any, Option, Some, Ok, Err, Bool, false, IsFalse, codes}
 use Rattle.dw_base.specs.Order.{is_big_of}
+use Rattle.dw_base.specs.Numbers.{length_fits}
 use Rattle.dw_base.specs.declared.error.Error.{Error}
+use Rattle.dw_base.specs.declared.error.Error.TheVariants.{InvalidAttributeValue, InitialLengthOverflow}
 use Rattle.dw_unit.specs.UnitValue.{UnitValue}
+use Rattle.dw_unit.specs.Tree.{preorder}
+use Rattle.dw_unit.specs.Coded.{are_spelled}
+use Rattle.dw_unit.specs.UnitText.{unit_length}
+use Rattle.dw_unit.specs.Whole.{settled, tree_bytes}
 use Rattle.dw_unit.specs.Causes.{EncodingRefused}
 use Rattle.dw_unit.specs.Built.{Built}
 use Rattle.dw_ends.specs.Ends.{Input, Intake, HasRisen, used_up, with_after, TakesPrefix}
@@ -37,17 +43,23 @@ HasFewUnits (u ∷ v ∷ us) = ⊥
 pub record ListsScript (s : Script) (text : List ℕ) : Type 0 where
   pub info : List ℕ
   pub abbrevs : List ℕ
-  pub built : Built s.dwarf.units (is_big_of s.endian) info abbrevs
+  pub built : Built (map settled s.dwarf.units) (is_big_of s.endian) info abbrevs
   pub listed : text ≡ sections_text (is_big_of s.endian) (only_units info abbrevs)
 
+-- a version, an address size, a string or a length has no spelling
+abbrev pub IsUnspelled : Bool → UnitValue → Error → Type 0
+IsUnspelled big u InvalidAttributeValue = IsFalse (are_spelled (settled u).entries (preorder (settled u).entries))
+IsUnspelled big u InitialLengthOverflow = IsFalse (length_fits u.encoding.format (unit_length u.encoding (tree_bytes big u.encoding (settled u).entries)))
+IsUnspelled big u e = EncodingRefused u.encoding e
+
 -- some unit has no spelling
-abbrev pub HasNoSpelling : List UnitValue → Error → Type 0
-HasNoSpelling units e = Any (λ u. EncodingRefused u.encoding e) units
+abbrev pub HasNoSpelling : Bool → List UnitValue → Error → Type 0
+HasNoSpelling big units e = Any (λ u. IsUnspelled big u e) units
 
 -- some unit of the script has no spelling, and the text says why
 pub record IsWriteRefusal (s : Script) (text : List ℕ) : Type 0 where
   pub error : Error
-  pub cause : HasNoSpelling s.dwarf.units error
+  pub cause : HasNoSpelling (is_big_of s.endian) s.dwarf.units error
   pub says : text ≡ refused_text error
 
 -- what is said of an accepted script

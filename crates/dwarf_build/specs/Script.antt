@@ -5,7 +5,7 @@ use Rattle.dw_script.specs.Fields.{Outcome, ◌>>=◌}
 use Rattle.dw_script.specs.Lines.{parsed_line}
 use Rattle.dw_script.specs.Pieces.{pieces}
 use Rattle.dw_script.specs.declared.command.Command.{Command}
-use Rattle.dw_script.specs.declared.command.Command.TheVariants.{Order, Unit as AddUnit}
+use Rattle.dw_script.specs.declared.command.Command.TheVariants.{Order, Unit as AddUnit, Add, Set}
 use Rattle.dw_script.specs.declared.reason.Reason.TheVariants.{NotBuilt, OrderNotFirst}
 use Rattle.dw_unit.specs.UnitValue.{UnitValue, new_unit, no_line_program}
 use Rattle.dwarf_build.specs.declared.script.Script.{Script}
@@ -28,6 +28,8 @@ one_more_unit (v ∷ vs) u = Err NotBuilt
 abbrev pub after_command : Script → Command → Outcome Script
 after_command s (Order o) = if s.has_begun then Err OrderNotFirst else Ok (record s { endian = o; has_begun = true })
 after_command s (AddUnit e) = one_more_unit s.dwarf.units (new_unit e no_line_program) >>= λ us. Ok (record s { dwarf = record { units = us }; has_begun = true })
+after_command s (Add _ _ _) = Err NotBuilt
+after_command s (Set _ _ _ _) = Err NotBuilt
 
 -- after a line that may ask for nothing
 abbrev pub after_asked : Script → Option Command → Outcome Script

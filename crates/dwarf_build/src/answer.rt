@@ -1,6 +1,7 @@
 //! What the program answers: a status and the text that goes with it.
 
-ghost use Rattle.std.specs.Prelude.{◌≡◌, ◌≤◌, ◌↔◌, ◌∷◌, [], List, length, map, codes, Some, IsTrue, IfOk, IfErr, string_bytes};
+ghost use Rattle.std.specs.Prelude.{◌≡◌, ◌≢◌, ◌≤◌, ◌↔◌, ◌∷◌, [], List, length, map, codes, Some, IsTrue, IfOk, IfErr, string_bytes};
+ghost use Rattle.dw_base.specs.declared.error.Error.TheVariants.{NoMemory};
 ghost use Rattle.dwarf_build.specs.Answers.{IsBuild, HasFewUnits, Says, SaysOf, SaysBuild, Reads, StopsFor};
 ghost use Rattle.dwarf_build.specs.Texts.{refusal_text, refused_text};
 
@@ -66,10 +67,14 @@ fn answer_refusal(alloc: Global, refusal: Refusal) -> Result<Answer, AllocError>
     answer_with(alloc, Status::ScriptRefused, text.as_bytes())
 }
 
-// Why writing was refused.
+// Why writing was refused. Want of memory is no refusal of what was built.
 fn answer_write_refusal(alloc: Global, error: Error) -> Result<Answer, AllocError>
-    ensures { IfOk result (λ a. (a.status ≡ Status.WriteRefused) × (a.text.items ≡ refused_text error)) }
+    ensures says { IfOk result (λ a. (a.status ≡ Status.WriteRefused) × (a.text.items ≡ refused_text error)) }
+    ensures other { IfOk result (λ _. error ≢ NoMemory) }
 {
+    if error == Error::NoMemory {
+        return Err(AllocError);
+    }
     let name = error.name();
     let text = format!(in alloc; "refused: {name}\n")?;
     answer_with(alloc, Status::WriteRefused, text.as_bytes())
@@ -93,7 +98,6 @@ fn write_script(alloc: Global, mut script: Script) -> Result<Answer, AllocError>
                 text,
             })
         }
-        Err(Error::NoMemory) => Err(AllocError),
         Err(error) => answer_write_refusal(alloc, error),
     }
 }

@@ -58,13 +58,16 @@ impl Script {
     }
 
     // Carries a command out. Where it is refused the script isn't used again.
-    fn apply(&mut self, alloc: Global, command: Command) -> Result<(), CommandError>
-        ensures ok { OnOk result (after_command self.old command ≡ Ok self.new) }
-        ensures err { IfErr result (CommandRefused self.old command) }
+    fn apply(&mut self, alloc: Global, command: Command<'_>) -> Result<(), CommandError>
+        ensures ok { OnOk result (after_command self.old command.entry ≡ Ok self.new) }
+        ensures err { IfErr result (CommandRefused self.old command.entry) }
     {
         match command {
             Command::Order(endian) => self.set_order(endian),
             Command::Unit(encoding) => self.add_unit(alloc, encoding),
+            Command::Add { .. } | Command::Set { .. } => {
+                Err(CommandError::Refused(Reason::NotBuilt))
+            }
         }
     }
 

@@ -251,7 +251,7 @@ fn spells_every_encoding(rt: HostRuntime) -> Result<(), Fail> {
 
 #[test]
 fn refuses_lines(rt: HostRuntime) -> Result<(), Fail> {
-    let rows: [(&[u8], &str); 37] = [
+    let rows: [(&[u8], &str); 42] = [
         (b"unit 5\t8 32", "line 1: bad byte\n"),
         (b"unit 5 8 32\x7f", "line 1: bad byte\n"),
         (b"\x1f", "line 1: bad byte\n"),
@@ -284,6 +284,11 @@ fn refuses_lines(rt: HostRuntime) -> Result<(), Fail> {
         (b"order big\norder big", "line 2: order not first\n"),
         (b"unit 5 8 32\nunit 5 8 32", "line 2: not built\n"),
         (b"add 0 0 1", "line 1: not built\n"),
+        (b"add 0 0 DW_TAG_base_type", "line 1: not built\n"),
+        (b"unit 5 8 32\nset 0 0 3 udata 1", "line 2: not built\n"),
+        (b"add 0 0", "line 1: wrong fields\n"),
+        (b"add 0 0 DW_TAG_frob", "line 1: unknown word\n"),
+        (b"set 0 0 3 string 6", "line 1: bad hex\n"),
         (b"end", "line 1: not built\n"),
         (b"# one\n\n#\xff\nunit\n", "line 4: wrong fields\n"),
         (b"\n\nunit 6 8 32\n\nunit 5 8 32", "line 5: not built\n"),

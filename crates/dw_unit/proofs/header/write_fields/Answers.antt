@@ -1,7 +1,5 @@
-use Rattle.std.proofs.Common.{◌≡◌}
-use Rattle.dw_base.specs.Numbers.{word_of}
 use Rattle.dw_writer.proofs.Outcomes.{OnOk-map}
-use Rattle.dw_unit.proofs.Steps.{new_fields, old_fields}
+use Rattle.dw_unit.proofs.UnitSteps.{new_fields, old_fields}
 use Rattle.dw_unit.proofs.header.write_fields.Goals as goal
 
 pub returns-in_ok-write_u8-2-clause-ok : goal.returns-in_ok-write_u8-2-clause-ok

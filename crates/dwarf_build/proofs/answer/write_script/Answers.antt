@@ -1,4 +1,6 @@
-use Rattle.std.proofs.Common.{refl}
+use Rattle.dwarf_build.proofs.Unspelled.{units_unspelled, says_refused}
+use Rattle.std.proofs.Common.{refl, arith}
+use Rattle.dwarf_build.proofs.Outcomes.{IfOk-two}
 use Rattle.dw_base.specs.Order.{is_big_of}
 use Rattle.dw_writer.proofs.NewLemmas.{IsNewPlain-from_all_mean}
 use Rattle.dwarf_build.proofs.Answered.{few_units, unwritten_units, script_listed}
@@ -15,3 +17,13 @@ returns-in-Ok-write c =
     script_listed _ c.args.script _ _
     (c.in-Ok-write.ensures.built (is_big_of c.args.script.endian) new (unwritten_units c.args.script.dwarf.units c.requires))
     c.in_ok-text-in-Ok-write.ensures
+
+pub returns : goal.returns
+returns c =
+    let s = c.args.script in
+    let error = c.in-Err-write.error in
+    let empty = rw c.new-section.ensures at c.in-Ok.ensures.writers in
+    let new = IsNewPlain-from_all_mean _ (is_big_of s.endian) _ _ empty c.in-Ok.ensures.fixups
+    (record { bytes = refl; size = refl; records = refl; order = refl; plain = refl }) in
+    IfOk-two c.answer_write_refusal.result c.answer_write_refusal.ensures.says c.answer_write_refusal.ensures.other
+    (λ a h some. says_refused s a.status a.text.items error h.0 h.1 (units_unspelled c.in-Err-write.ensures.complete (is_big_of s.endian) c.write.new.sections new s.dwarf.units error some c.in-Err-write.ensures.err (omega arith)))

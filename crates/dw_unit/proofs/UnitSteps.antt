@@ -1,0 +1,172 @@
+-- What the calls of a writer come to that write a unit, one after another.
+use Rattle.std.proofs.Common.{◌≡◌, ◌≢◌, ◌∙◌, sym, ap, subst, ℕ, ◌+◌, ◌-◌, ◌^◌, ◌<◌, ◌≤◌, Bool, true, false, List, [], ◌∷◌, ◌++◌, length, map, refl, arith, IsTrue, nat_eq, length-append}
+use Rattle.std.specs.Prelude.{nat_le, ◌&&◌, Result, Ok, Err, OnOk, All, slice_index_or}
+use Rattle.std.proofs.lemmas.List.Elements.{All-nil, All-cons}
+use Rattle.dw_unit.specs.UnitValue.{UnitValue}
+use Rattle.std.proofs.lemmas.Bool.Decides.{nat_tests}
+use Rattle.std.proofs.lemmas.Bool.{eq-eqb, ne_eqb}
+use Rattle.dw_base.specs.Numbers.{num, fits, is_width, word_of, escape_of, length_fits}
+use Rattle.dw_base.specs.Abbreviations.{Shape}
+use Rattle.dw_base.specs.Entries.{Mark, children_of, is_one_tree}
+use Rattle.dw_base.specs.Spellable.{AreDeclarations, IsUnit}
+use Rattle.dw_base.proofs.HeaderLaws.{length-content}
+use Rattle.dw_base.specs.Spelling.{fields_bytes, fields_size, header_size, body_bytes, table_bytes}
+use Rattle.dw_base.specs.declared.common.Encoding.{Encoding}
+use Rattle.dw_base.specs.declared.error.Error.{Error}
+use Rattle.dw_base.specs.declared.error.Error.TheVariants.{NoMemory, WriteFault, OffsetOutOfBounds, LengthOutOfBounds, InitialLengthOverflow, ValueTooLarge, InvalidAttributeValue}
+use Rattle.dw_base.specs.declared.section_id.SectionId.TheVariants.{DebugAbbrev}
+use Rattle.dw_writer.specs.Texts.{zeros}
+use Rattle.dw_writer.specs.Meaning.{Meaning, Adds, Replaces, Appends}
+use Rattle.dw_writer.specs.Causes.{LengthRefused, PatchRefused, HasRisen, offset_fits}
+use Rattle.dw_writer.specs.SectionTexts.{bytes_text, offset_text, after}
+use Rattle.dw_writer.proofs.Places.{length-zeros}
+use Rattle.dw_writer.proofs.Steps.{Adds-appends, Appends-then, Appends-as, Adds-filled, Patches-by}
+use Rattle.dw_writer.proofs.Plain.{Adds-number, Replaces-number}
+use Rattle.dw_abbrev.specs.Codes.{declarations}
+use Rattle.dw_unit.specs.Entries.{EntryValue, tag_of}
+use Rattle.dw_unit.specs.Arena.{AreLinked}
+use Rattle.dw_unit.specs.Valid.{is_version, is_encodable}
+use Rattle.dw_unit.specs.Tree.{preorder}
+use Rattle.dw_unit.specs.Coded.{are_spelled, shapes_of, coded, HaveOperands}
+use Rattle.dw_unit.specs.UnitText.{fields_text, unit_length, unit_text}
+use Rattle.dw_unit.specs.Causes.{FieldsRefused, BodyRefused, TreeRefused}
+use Rattle.dw_unit.specs.Whole.{tree_bytes, tree_table, tree_shapes, tree_read, tree_declared}
+use Rattle.dw_unit.proofs.TreeLaws.{preorder_one_tree}
+use Rattle.dw_unit.proofs.Tagged.{root_within}
+use Rattle.dw_unit.proofs.Seen.{children-coded}
+use Rattle.dw_unit.proofs.CodedUnit.{IsUnit-written}
+
+-- the fields of a header of version 5
+pub new_fields : {m0 m1 m2 m3 m4 : Meaning} (e : Encoding) (table : ℕ) → e.version ≡ 5 →
+    Adds m0 m1 (num m0.is_big 2 e.version) → Adds m1 m2 (num m1.is_big 1 1) → Adds m2 m3 (num m2.is_big 1 e.address_size) →
+    Appends m3 m4 (word_of e.format) (offset_text (word_of e.format) DebugAbbrev table) →
+    Appends m0 m4 (fields_size e) (fields_text e table)
+unfolding fields_text after
+new_fields e table five version type size place =
+    let new : nat_eq e.version 5 ≡ true = eq-eqb _ _ five in
+    Appends-as
+    (Appends-then (Adds-number 2 e.version version) (Appends-then (Adds-number 1 1 type) (Appends-then (Adds-number 1 e.address_size size) place)))
+    (rw new (omega arith)) (λ big l. rw new refl)
+
+-- and of one below
+pub old_fields : {m0 m1 m2 m3 : Meaning} (e : Encoding) (table : ℕ) → (e.version ≡ 5 → ⊥) →
+    Adds m0 m1 (num m0.is_big 2 e.version) →
+    Appends m1 m2 (word_of e.format) (offset_text (word_of e.format) DebugAbbrev table) →
+    Adds m2 m3 (num m2.is_big 1 e.address_size) →
+    Appends m0 m3 (fields_size e) (fields_text e table)
+unfolding fields_text after
+old_fields e table other version place size =
+    let old : nat_eq e.version 5 ≡ false = ne_eqb _ _ other in
+    Appends-as
+    (Appends-then (Adds-number 2 e.version version) (Appends-then place (Adds-number 1 e.address_size size)))
+    (rw old (omega arith)) (λ big l. rw old refl)
+
+-- a unit whose length was put in last
+pub unit_added : {m0 m1 m2 m3 m4 : Meaning} (e : Encoding) (table : ℕ) (body : List ℕ) →
+    Adds m0 m1 (escape_of e.format ++ zeros (word_of e.format)) →
+    Appends m1 m2 (fields_size e) (fields_text e table) →
+    Adds m2 m3 body →
+    Replaces m3 m4 (m0.size + length (escape_of e.format)) (num m3.is_big (word_of e.format) (unit_length e body)) →
+    Appends m0 m4 (header_size e + length body) (unit_text e table body)
+unfolding unit_text after bytes_text
+unit_added {m0} {m1} {m2} {m3} {m4} e table body start fields entries len =
+    let w : ℕ = word_of e.format in
+    let width : length (zeros w) ≡ w = length-zeros w in
+    let patch = Replaces-number w (unit_length e body) len in
+    let patch1 = Patches-by patch refl (sym width) (λ l. refl) (λ big l xs h. patch.wide big l xs h ∙ sym width) in
+    Appends-as (Adds-filled (escape_of e.format) (zeros w) start (Appends-then fields (Adds-appends entries)) patch1) (omega arith) (λ big l. refl)
+
+-- the length that is put in
+pub unit_length_is : {m1 m2 m3 : Meaning} (e : Encoding) (table n k : ℕ) (body : List ℕ) →
+    Appends m1 m2 (fields_size e) (fields_text e table) → Adds m2 m3 body → n ≡ m3.size → k ≡ m1.size → n - k ≡ unit_length e body
+unit_length_is {m1} {m2} {m3} e table n k body fields entries at from = omega (arith, fields.size, entries.size)
+
+-- the place of the length lies inside
+pub place_within : {m0 m1 : Meaning} (e : Encoding) (p : ℕ) → Adds m0 m1 (escape_of e.format ++ zeros (word_of e.format)) →
+    p ≡ m0.size + length (escape_of e.format) → p + word_of e.format ≡ m1.size
+place_within {m0} {m1} e p start at =
+    omega (arith, start.size, length-append (escape_of e.format) (zeros (word_of e.format)), length-zeros (word_of e.format))
+
+-- why putting in the length is refused
+pub length_refused : (old mid new : Meaning) (e : Encoding) (es : List EntryValue) (table k p n : ℕ) (error : Error) →
+    LengthRefused e.format k (PatchRefused mid new p n) error → k ≡ unit_length e (tree_bytes old.is_big e es) → p + n ≤ mid.size → old.faults ≤ mid.faults →
+    TreeRefused (HasRisen old new) old.is_plain table old.is_big e es error
+length_refused old mid new e es table k p n NoMemory r at within faults = tt
+length_refused old mid new e es table k p n WriteFault r at within faults = omega (arith, r.1)
+length_refused old mid new e es table k p n OffsetOutOfBounds r at within faults = absurd (omega (arith, r.1))
+length_refused old mid new e es table k p n LengthOutOfBounds r at within faults = absurd (omega (arith, r.1.1))
+length_refused old mid new e es table k p n InitialLengthOverflow r at within faults = ap (length_fits e.format) (sym at) ∙ r
+length_refused old mid new e es table k p n _ r at within faults = absurd r.1
+
+-- why the entries are refused
+pub body_refused : (old mid new : Meaning) (e : Encoding) (es : List EntryValue) (table : ℕ) (error : Error) → BodyRefused mid new (are_spelled es (preorder es)) error →
+    old.faults ≤ mid.faults → TreeRefused (HasRisen old new) old.is_plain table old.is_big e es error
+body_refused old mid new e es table NoMemory r faults = tt
+body_refused old mid new e es table WriteFault r faults = omega (arith, r)
+body_refused old mid new e es table InvalidAttributeValue r faults = r
+body_refused old mid new e es table _ r faults = absurd r
+
+-- why the header is refused
+pub fields_refused : (old mid new : Meaning) (e : Encoding) (es : List EntryValue) (table : ℕ) (error : Error) → FieldsRefused mid new e table error →
+    mid.is_plain ≡ old.is_plain → old.faults ≤ mid.faults → TreeRefused (HasRisen old new) old.is_plain table old.is_big e es error
+fields_refused old mid new e es table NoMemory r kind faults = tt
+fields_refused old mid new e es table WriteFault r kind faults = omega (arith, r)
+fields_refused old mid new e es table ValueTooLarge r kind faults = ap (λ b. offset_fits b (word_of e.format) table) (sym kind) ∙ r
+fields_refused old mid new e es table _ r kind faults = absurd r
+
+-- Conditions that hold together, one by one.
+and_left : (a b : Bool) → IsTrue (a && b) → IsTrue a
+and_left true b h = refl
+and_left false b h = cc
+
+and_right : (a b : Bool) → IsTrue (a && b) → IsTrue b
+and_right true b h = h
+and_right false b h = cc
+
+nat_le-holds : (a b : ℕ) → IsTrue (nat_le a b) → a ≤ b
+nat_le-holds a b h = grind (arith, nat_tests)
+
+-- the entries, in the words of the tree
+pub tree_added : {m2 m3 : Meaning} (big : Bool) (e : Encoding) (es : List EntryValue) (ms : List (Mark ℕ)) → ms ≡ preorder es → m2.is_big ≡ big →
+    Adds m2 m3 (body_bytes m2.is_big e (coded e es (shapes_of e es [] ms) ms)) → Adds m2 m3 (tree_bytes big e es)
+tree_added {m2} {m3} big e es ms tree order h =
+    subst (λ b. Adds m2 m3 (tree_bytes b e es)) order (subst (λ l. Adds m2 m3 (body_bytes m2.is_big e (coded e es (shapes_of e es [] l) l))) tree h)
+
+-- the shapes that were found are the tree's
+pub table_added : {m0 m1 : Meaning} (e : Encoding) (es : List EntryValue) (ms : List (Mark ℕ)) (shapes : List Shape) → ms ≡ preorder es → shapes ≡ shapes_of e es [] ms →
+    Adds m0 m1 (table_bytes (declarations shapes)) → Adds m0 m1 (tree_table e es)
+table_added {m0} {m1} e es ms shapes tree found h =
+    subst (λ t. Adds m0 m1 (table_bytes (declarations t))) (found ∙ ap (shapes_of e es []) tree) h
+
+-- a plain writer's table has room for its place
+pub place_plain : (b : Bool) (w place : ℕ) → b ≡ true → IsTrue (offset_fits b w place) → IsTrue (fits w place)
+place_plain true w place e h = h
+place_plain false w place e h = cc
+
+-- the unit that stands can be read again
+pub tree_is_unit : (big : Bool) (e : Encoding) (place : ℕ) (es : List EntryValue) (ms : List (Mark ℕ)) (shapes : List Shape) (items : ℕ) → AreLinked es → tag_of es 0 ≢ 0 →
+    ms ≡ preorder es → shapes ≡ shapes_of e es [] ms → items ≡ length ms → items < 2 ^ 64 → IsTrue (is_encodable e) → IsTrue (fits (word_of e.format) place) →
+    IsTrue (length_fits e.format (unit_length e (tree_bytes big e es))) → AreDeclarations (declarations shapes) → HaveOperands e es (preorder es) →
+    IsUnit big e place (tree_declared e es) (tree_read e es)
+tree_is_unit big e place es ms shapes items links tag tree found count few encodable place_fits long declared operands =
+    let version = and_left (is_version e.version) (is_width e.address_size) encodable in
+    let low = nat_le-holds 2 e.version (and_left (nat_le 2 e.version) (nat_le e.version 5) version) in
+    let high = nat_le-holds e.version 5 (and_right (nat_le 2 e.version) (nat_le e.version 5) version) in
+    let width = and_right (is_version e.version) (is_width e.address_size) encodable in
+    let small : length (preorder es) < 2 ^ 64 = omega (arith, count, few, ap length tree) in
+    let content : length (fields_bytes big e place ++ tree_bytes big e es) ≡ unit_length e (tree_bytes big e es) = length-content big e place (tree_bytes big e es) in
+    let some : 0 < length es = root_within es tag in
+    let one : IsTrue (is_one_tree (map children_of (tree_read e es))) = ap is_one_tree (children-coded e es (tree_shapes e es) (preorder es)) ∙ preorder_one_tree es some in
+    IsUnit-written big e place es (preorder es) low high width place_fits (ap (length_fits e.format) content ∙ long) one small
+    (subst (λ t. AreDeclarations (declarations t)) (found ∙ ap (shapes_of e es []) tree) declared) operands
+
+-- what four facts of a success come to
+pub OnOk-four : {T E A B C D G : Type 0} (r : Result T E) → (A → B → C → D → G) → OnOk r A → OnOk r B → OnOk r C → OnOk r D → OnOk r G
+OnOk-four (Ok x) f a b c d = f a b c d
+OnOk-four (Err e) f a b c d = tt
+
+-- what is true of a table's only unit is true of each
+pub All-one : (P : UnitValue → Type 0) (us : List UnitValue) (u : UnitValue) → length us ≤ 1 → u ≡ slice_index_or us 0 u → P u → All P us
+All-one P [] u few at h = All-nil P
+All-one P (x ∷ []) u few at h = All-cons P x [] (subst P at h) (All-nil P)
+All-one P (x ∷ y ∷ us) u few at h = absurd (omega arith)

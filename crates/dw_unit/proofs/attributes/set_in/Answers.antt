@@ -1,0 +1,13 @@
+use Rattle.std.proofs.Common.{◌∙◌, ap}
+use Rattle.std.specs.Prelude.{position}
+use Rattle.dw_unit.specs.Attributes.{is_named}
+use Rattle.dw_unit.proofs.Named.{set_named-found, set_named-missing}
+use Rattle.dw_unit.proofs.attributes.set_in.Goals as goal
+
+pub returns-in-Some-clause-ok : goal.returns-in-Some-clause-ok
+returns-in-Some-clause-ok c =
+    set_named-found c.args.name.0 c.in-Some.i c.args.value c.args.attributes.now.items (c.in-Some.ensures ∙ ap (position (is_named c.args.name.0)) c.deref.ensures.value)
+
+pub returns-in_ok-push-in-None-clause-ok : goal.returns-in_ok-push-in-None-clause-ok
+returns-in_ok-push-in-None-clause-ok c =
+    c.in_ok-push-in-None.ensures.items ∙ set_named-missing c.args.name.0 c.args.value c.args.attributes.now.items (c.in-None.ensures ∙ ap (position (is_named c.args.name.0)) c.deref.ensures.value)

@@ -1,0 +1,77 @@
+-- The codes of entries, which those of one shape share.
+use Rattle.std.specs.Prelude.{◌≢◌, ℕ, List, [], ◌∷◌, map, Bool, true, All, get_or}
+use Rattle.std.specs.List.{list_all}
+use Rattle.dw_base.specs.Abbreviations.{Shape}
+use Rattle.dw_base.specs.Entries.{ReadEntry, Mark, Open, Close}
+use Rattle.dw_base.specs.Spellable.{IsAttribute}
+use Rattle.dw_base.specs.declared.common.Encoding.{Encoding}
+use Rattle.dw_abbrev.specs.Codes.{code_in, with_shape}
+use Rattle.dw_unit.specs.declared.attribute.Attribute.{Attribute}
+use Rattle.dw_unit.specs.Entries.{EntryValue, blank_entry}
+use Rattle.dw_unit.specs.Values.{is_spelled}
+use Rattle.dw_unit.specs.Shapes.{read_attribute, read_entry, shape_of_entry}
+
+-- the entry at an index, and a blank one past the end
+abbrev pub entry_at : List EntryValue → ℕ → EntryValue
+entry_at es i = get_or es i blank_entry
+
+-- the shapes with that of a mark's entry, if it isn't there
+abbrev pub with_mark : Encoding → List EntryValue → List Shape → Mark ℕ → List Shape
+with_mark e es shapes (Open i) = with_shape shapes (shape_of_entry e (entry_at es i))
+with_mark e es shapes Close = shapes
+
+-- the shapes with those of the marks' entries, in the order in which each first comes
+abbrev pub shapes_of : Encoding → List EntryValue → List Shape → List (Mark ℕ) → List Shape
+shapes_of e es shapes [] = shapes
+shapes_of e es shapes (m ∷ ms) = shapes_of e es (with_mark e es shapes m) ms
+
+-- the code of a mark among the shapes; that of a closing mark is zero
+abbrev pub code_at : Encoding → List EntryValue → List Shape → Mark ℕ → ℕ
+code_at e es shapes (Open i) = code_in shapes (shape_of_entry e (entry_at es i))
+code_at e es shapes Close = 0
+
+-- what is read of a mark that is written with a code
+abbrev pub read_mark : Encoding → List EntryValue → ℕ → Mark ℕ → Mark ReadEntry
+read_mark e es code (Open i) = Open (read_entry e code (entry_at es i))
+read_mark e es code Close = Close
+
+abbrev pub coded_mark : Encoding → List EntryValue → List Shape → Mark ℕ → Mark ReadEntry
+coded_mark e es shapes m = read_mark e es (code_at e es shapes m) m
+
+-- the marks with what is read of each, where the shapes give the codes
+abbrev pub coded : Encoding → List EntryValue → List Shape → List (Mark ℕ) → List (Mark ReadEntry)
+coded e es shapes ms = map (coded_mark e es shapes) ms
+
+-- the mark's entry has a tag
+abbrev pub IsTagged : List EntryValue → Mark ℕ → Type 0
+IsTagged es (Open i) = (entry_at es i).tag ≢ 0
+IsTagged es Close = Unit {0}
+
+-- each entry has a tag
+abbrev pub AreTagged : List EntryValue → List (Mark ℕ) → Type 0
+AreTagged es [] = Unit {0}
+AreTagged es (m ∷ ms) = IsTagged es m × AreTagged es ms
+
+-- the values of attributes have a spelling
+abbrev pub are_values_spelled : List Attribute → Bool
+are_values_spelled xs = list_all (λ a. is_spelled a.value) xs
+
+abbrev pub is_mark_spelled : List EntryValue → Mark ℕ → Bool
+is_mark_spelled es (Open i) = are_values_spelled (entry_at es i).attributes
+is_mark_spelled es Close = true
+
+-- each value of each entry has a spelling
+abbrev pub are_spelled : List EntryValue → List (Mark ℕ) → Bool
+are_spelled es ms = list_all (is_mark_spelled es) ms
+
+-- each form has its operand
+abbrev pub AreOperands : Encoding → List Attribute → Type 0
+AreOperands e xs = All (IsAttribute e) (map (read_attribute e) xs)
+
+abbrev pub HasOperands : Encoding → List EntryValue → Mark ℕ → Type 0
+HasOperands e es (Open i) = AreOperands e (entry_at es i).attributes
+HasOperands e es Close = Unit {0}
+
+-- in each entry each form has its operand
+abbrev pub HaveOperands : Encoding → List EntryValue → List (Mark ℕ) → Type 0
+HaveOperands e es ms = All (HasOperands e es) ms

@@ -1,0 +1,103 @@
+-- The entries of a unit, each named by its index, and what the calls make of them.
+use Rattle.std.specs.Prelude.{ℕ, zero, suc, List, [], ◌∷◌, ◌++◌, Option, Some, None, not, ◌==◌, filter, slice_get, option_and_then}
+use Rattle.dw_base.specs.declared.ids.UnitEntryId.{UnitEntryId}
+use Rattle.dw_unit.specs.declared.attribute.Attribute.{Attribute}
+use Rattle.dw_unit.specs.declared.attribute.AttributeValue.{AttributeValue}
+use Rattle.dw_unit.specs.Attributes.{get_named, set_named, without_name}
+
+-- the index that an id names
+abbrev pub index_of : UnitEntryId → ℕ
+index_of i = i.0
+
+-- the index of a parent
+abbrev pub parent_index : Option UnitEntryId → Option ℕ
+parent_index None = None
+parent_index (Some i) = Some i.0
+
+-- an entry, without its capacities; its tag is 0 as long as its index is only reserved
+pub record EntryValue : Type 0 where
+  pub parent : Option ℕ
+  pub tag : ℕ
+  pub attributes : List Attribute
+  pub children : List ℕ
+
+-- an entry that is only reserved
+abbrev pub blank_entry : EntryValue
+blank_entry = record { parent = None; tag = 0; attributes = []; children = [] }
+
+-- the root as it is made: a compile unit's
+abbrev pub new_root : EntryValue
+new_root = record blank_entry { tag = 0x11 }
+
+-- the entries with one of them changed
+abbrev pub with_changed : ℕ → (EntryValue → EntryValue) → List EntryValue → List EntryValue
+with_changed i f [] = []
+with_changed zero f (e ∷ es) = f e ∷ es
+with_changed (suc i) f (e ∷ es) = e ∷ with_changed i f es
+
+-- the entries with blank ones behind them, up to a count
+abbrev pub filled_up : ℕ → List EntryValue → List EntryValue
+filled_up zero es = es
+filled_up (suc n) [] = blank_entry ∷ filled_up n []
+filled_up (suc n) (e ∷ es) = e ∷ filled_up n es
+
+-- an entry with a child behind its others
+abbrev pub with_child : ℕ → EntryValue → EntryValue
+with_child c e = record e { children = e.children ++ c ∷ [] }
+
+-- an entry that is added under a parent
+abbrev pub placed_under : ℕ → ℕ → EntryValue → EntryValue
+placed_under parent tag e = record e { parent = Some parent; tag = tag }
+
+-- the entries with a child added under its parent
+abbrev pub with_new_child : ℕ → ℕ → ℕ → List EntryValue → List EntryValue
+with_new_child child parent tag es =
+    with_changed child (placed_under parent tag) (with_changed parent (with_child child) es)
+
+-- an entry with a value put under a name
+abbrev pub with_attribute : ℕ → AttributeValue → EntryValue → EntryValue
+with_attribute n v e = record e { attributes = set_named n v e.attributes }
+
+-- an entry with other attributes
+abbrev pub with_attributes : List Attribute → EntryValue → EntryValue
+with_attributes xs e = record e { attributes = xs }
+
+-- an entry without the attribute of a name
+abbrev pub without_attribute : ℕ → EntryValue → EntryValue
+without_attribute n e = record e { attributes = without_name n e.attributes }
+
+-- an entry without a child
+abbrev pub without_child : ℕ → EntryValue → EntryValue
+without_child c e = record e { children = filter (λ x. not (x == c)) e.children }
+
+abbrev pub tag_or_zero : Option EntryValue → ℕ
+tag_or_zero None = 0
+tag_or_zero (Some e) = e.tag
+
+abbrev pub children_or_none : Option EntryValue → List ℕ
+children_or_none None = []
+children_or_none (Some e) = e.children
+
+abbrev pub attributes_or_none : Option EntryValue → List Attribute
+attributes_or_none None = []
+attributes_or_none (Some e) = e.attributes
+
+-- the parent of the entry at an index
+abbrev pub parent_of : List EntryValue → ℕ → Option ℕ
+parent_of es i = option_and_then (λ e. e.parent) (slice_get es i)
+
+-- its tag, which is 0 where no entry was added
+abbrev pub tag_of : List EntryValue → ℕ → ℕ
+tag_of es i = tag_or_zero (slice_get es i)
+
+-- its children
+abbrev pub children_of : List EntryValue → ℕ → List ℕ
+children_of es i = children_or_none (slice_get es i)
+
+-- its attributes
+abbrev pub attributes_of : List EntryValue → ℕ → List Attribute
+attributes_of es i = attributes_or_none (slice_get es i)
+
+-- its value under a name
+abbrev pub value_of : List EntryValue → ℕ → ℕ → Option AttributeValue
+value_of es i n = get_named n (attributes_of es i)

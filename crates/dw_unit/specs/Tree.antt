@@ -1,0 +1,48 @@
+-- The tree that the lists of children make of a unit's entries.
+use Rattle.std.specs.Prelude.{◌<◌, ℕ, zero, suc, List, [], ◌∷◌, ◌++◌, length, map, Bool, true, false}
+use Rattle.std.specs.List.{flat_map}
+use Rattle.dw_base.specs.Entries.{Mark, Open, Close}
+use Rattle.dw_unit.specs.declared.tree.Item.{Item}
+use Rattle.dw_unit.specs.declared.tree.Item.TheVariants as items
+use Rattle.dw_unit.specs.Entries.{EntryValue, children_of}
+
+-- an entry's list of children is closed where it has any
+abbrev pub closed : List ℕ → List (Mark ℕ) → List (Mark ℕ)
+closed [] ms = []
+closed (c ∷ cs) ms = ms ++ Close ∷ []
+
+-- the entries from i down in preorder, with a mark behind each list of children, at most n deep
+unfoldable pub tree_from : ℕ → List EntryValue → ℕ → List (Mark ℕ)
+tree_from zero es i = []
+tree_from (suc n) es i = Open i ∷ closed (children_of es i) (flat_map (tree_from n es) (children_of es i))
+
+-- The tree. No way down from the root is longer than there are entries.
+unfoldable pub preorder : List EntryValue → List (Mark ℕ)
+preorder es = tree_from (length es) es 0
+
+abbrev pub has_any : List ℕ → Bool
+has_any [] = false
+has_any (c ∷ cs) = true
+
+-- each entry of the tree tells whether it has children
+abbrev pub children_in : List EntryValue → Mark ℕ → Mark Bool
+children_in es (Open i) = Open (has_any (children_of es i))
+children_in es Close = Close
+
+-- the entry is one of the first n
+abbrev pub IsIn : ℕ → Mark ℕ → Type 0
+IsIn n (Open i) = i < n
+IsIn n Close = Unit {0}
+
+-- each entry is one of the first n
+abbrev pub AreIn : ℕ → List (Mark ℕ) → Type 0
+AreIn n [] = Unit {0}
+AreIn n (m ∷ ms) = IsIn n m × AreIn n ms
+
+-- an item of the code is a mark
+abbrev pub mark_of : Item → Mark ℕ
+mark_of (items.Open i) = Open i
+mark_of items.Close = Close
+
+abbrev pub marks : List Item → List (Mark ℕ)
+marks all = map mark_of all

@@ -1,0 +1,43 @@
+-- A unit as it is written: settled, in preorder, with codes.
+use Rattle.std.specs.Prelude.{ℕ, Bool, true, List, [], if◌then◌else◌}
+use Rattle.dw_base.specs.Abbreviations.{Shape, Declaration}
+use Rattle.dw_base.specs.Entries.{ReadEntry, Mark}
+use Rattle.dw_base.specs.Spelling.{body_bytes, table_bytes}
+use Rattle.dw_base.specs.declared.common.Encoding.{Encoding}
+use Rattle.dw_abbrev.specs.Codes.{declarations}
+use Rattle.dw_unit.specs.Entries.{EntryValue}
+use Rattle.dw_unit.specs.Tree.{preorder}
+use Rattle.dw_unit.specs.Coded.{shapes_of, coded}
+use Rattle.dw_unit.specs.Settled.{settled_entries}
+use Rattle.dw_unit.specs.UnitValue.{UnitValue}
+
+-- the shapes of the tree's entries, in the order in which each first comes
+abbrev pub tree_shapes : Encoding → List EntryValue → List Shape
+tree_shapes e es = shapes_of e es [] (preorder es)
+
+-- what is read of the tree
+abbrev pub tree_read : Encoding → List EntryValue → List (Mark ReadEntry)
+tree_read e es = coded e es (tree_shapes e es) (preorder es)
+
+-- what is declared for it
+abbrev pub tree_declared : Encoding → List EntryValue → List Declaration
+tree_declared e es = declarations (tree_shapes e es)
+
+-- the bytes of the tree, and of its table
+abbrev pub tree_bytes : Bool → Encoding → List EntryValue → List ℕ
+tree_bytes big e es = body_bytes big e (tree_read e es)
+
+abbrev pub tree_table : Encoding → List EntryValue → List ℕ
+tree_table e es = table_bytes (tree_declared e es)
+
+-- a unit with its root's base types first
+abbrev pub settled : UnitValue → UnitValue
+settled u = record u { entries = settled_entries u.entries }
+
+-- as it is once it was written
+abbrev pub marked_written : UnitValue → UnitValue
+marked_written u = record u { is_written = true }
+
+-- what writing makes of a unit: one that was written before stays
+abbrev pub written : UnitValue → UnitValue
+written u = if u.is_written then u else marked_written (settled u)

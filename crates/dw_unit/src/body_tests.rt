@@ -1,0 +1,95 @@
+//! The codes and the bytes of a small unit.
+
+ghost use Rattle.std.specs.Prelude.{◌≡◌, IfOk};
+
+use crate::attribute::AttributeValue;
+use crate::body::write_items;
+use crate::bytes::Bytes;
+use crate::codes::assign_codes;
+use crate::entry::DebuggingInformationEntry;
+use crate::tree::Item;
+use dw_base::constants::{
+    DW_AT_byte_size, DW_AT_name, DW_FORM_data1, DW_FORM_string, DW_FORM_udata, DW_TAG_base_type,
+    DW_TAG_compile_unit,
+};
+use dw_base::{Encoding, Error, Format, LittleEndian, Result, UnitEntryId};
+use dw_writer::EndianVec;
+use std::alloc::Global;
+use std::test::Fail;
+
+const ENCODING: Encoding = Encoding {
+    address_size: 8,
+    format: Format::Dwarf32,
+    version: 5,
+};
+
+fn compile_unit(alloc: Global) -> Result<DebuggingInformationEntry>
+    ensures { IfOk result (λ e. e.tag ≡ 0x11) }
+{
+    let mut entry = DebuggingInformationEntry::blank(alloc);
+    entry.set_tag(DW_TAG_compile_unit);
+    entry.add_child(UnitEntryId::new(1))?;
+    entry.add_child(UnitEntryId::new(2))?;
+    Ok(entry)
+}
+
+fn base_type(alloc: Global, name: &[u8], size: u8) -> Result<DebuggingInformationEntry>
+    ensures { IfOk result (λ e. e.tag ≡ 0x24) }
+{
+    let mut entry = DebuggingInformationEntry::blank(alloc);
+    entry.set_tag(DW_TAG_base_type);
+    entry.set(DW_AT_name, AttributeValue::String(Bytes::new(alloc, name)?))?;
+    entry.set(DW_AT_byte_size, AttributeValue::Data1(size))?;
+    Ok(entry)
+}
+
+#[test]
+fn entries_of_one_shape_share_a_code(rt: HostRuntime) -> std::result::Result<(), Fail> {
+    let entries = [
+        compile_unit(rt.alloc())?,
+        base_type(rt.alloc(), b"int", 4)?,
+        base_type(rt.alloc(), b"char", 1)?,
+    ];
+    let items = [Item::Open(0), Item::Open(1), Item::Open(2), Item::Close];
+    let coded = assign_codes(rt.alloc(), ENCODING, &entries, &items)?;
+    assert_eq!(rt; coded.table.count(), 2);
+    assert_eq!(rt; coded.codes.as_slice(), [1, 2, 2, 0].as_slice());
+    let mut w = EndianVec::new(rt.alloc(), LittleEndian);
+    write_items(ENCODING, &entries, &items, coded.codes.as_slice(), &mut w)?;
+    assert_eq!(rt;
+        w.slice(),
+        [
+            0x01, 0x02, b'i', b'n', b't', 0x00, 0x04, 0x02, b'c', b'h', b'a', b'r', 0x00, 0x01,
+            0x00,
+        ]
+        .as_slice()
+    );
+    Ok(())
+}
+
+#[test]
+fn a_form_follows_from_the_value(rt: HostRuntime) -> std::result::Result<(), Fail> {
+    let text = AttributeValue::String(Bytes::new(rt.alloc(), b"int")?);
+    assert_eq!(rt; text.form(ENCODING)?, (DW_FORM_string, None));
+    assert_eq!(rt;
+        AttributeValue::Data1(4).form(ENCODING)?,
+        (DW_FORM_data1, None)
+    );
+    assert_eq!(rt;
+        AttributeValue::Udata(4).form(ENCODING)?,
+        (DW_FORM_udata, None)
+    );
+    Ok(())
+}
+
+#[test]
+fn a_zero_byte_in_a_string_is_refused(rt: HostRuntime) -> std::result::Result<(), Fail> {
+    let entries = [base_type(rt.alloc(), b"a\0b", 4)?];
+    let items = [Item::Open(0)];
+    let coded = assign_codes(rt.alloc(), ENCODING, &entries, &items)?;
+    let mut w = EndianVec::new(rt.alloc(), LittleEndian);
+    let written = write_items(ENCODING, &entries, &items, coded.codes.as_slice(), &mut w);
+    assert_eq!(rt; written, Err(Error::InvalidAttributeValue));
+    assert_eq!(rt; w.slice(), [0x01].as_slice());
+    Ok(())
+}

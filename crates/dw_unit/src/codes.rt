@@ -1,0 +1,67 @@
+//! The codes of a unit's entries.
+
+ghost use Rattle.std.specs.Prelude.{◌≡◌, [], length, map, IfOk, OnOk, IfErr};
+ghost use Rattle.dw_base.specs.declared.error.Error.TheVariants.{NoMemory};
+ghost use Rattle.dw_unit.specs.Tree.{IsIn, AreIn, mark_of, marks};
+ghost use Rattle.dw_unit.specs.Coded.{with_mark, shapes_of, code_at, IsTagged, AreTagged};
+
+use crate::entry::DebuggingInformationEntry;
+use crate::shape::abbreviation_of;
+use crate::tree::Item;
+use dw_abbrev::AbbreviationTable;
+use dw_base::{Encoding, Result};
+use std::alloc::Global;
+
+/// The abbreviations of a unit's entries, and the code of each item.
+#[derive(Drop)]
+pub(crate) struct Codes {
+    pub(crate) table: AbbreviationTable,
+    pub(crate) codes: Vec<u64>,
+}
+
+/// The code of one item, whose abbreviation is added if none equals it.
+fn code_for(
+    alloc: Global,
+    encoding: Encoding,
+    entries: &[DebuggingInformationEntry],
+    item: Item,
+    table: &mut AbbreviationTable,
+) -> Result<u64>
+    requires within { IsIn (length entries.now) (mark_of item) }
+    requires tagged { IsTagged entries.now (mark_of item) }
+    ensures code { IfOk result (λ c. c ≡ code_at encoding entries.now table.old (mark_of item)) }
+    ensures table { OnOk result
+        (table.new ≡ with_mark encoding entries.now table.old (mark_of item)) }
+    ensures err { IfErr result (λ e. e ≡ NoMemory) }
+{
+    match item {
+        Item::Open(index) => {
+            let abbreviation = abbreviation_of(alloc, encoding, &entries[index])?;
+            table.add(abbreviation)
+        }
+        Item::Close => Ok(0),
+    }
+}
+
+/// Gives each entry its code; those of one shape share it.
+pub(crate) fn assign_codes(
+    alloc: Global,
+    encoding: Encoding,
+    entries: &[DebuggingInformationEntry],
+    items: &[Item],
+) -> Result<Codes>
+    requires within { AreIn (length entries.now) (marks items.now) }
+    requires tagged { AreTagged entries.now (marks items.now) }
+    ensures table { IfOk result (λ c. c.table ≡ shapes_of encoding entries.now [] (marks items.now)) }
+    ensures codes { IfOk result
+        (λ c. c.codes.items ≡ map (code_at encoding entries.now (shapes_of encoding entries.now [] (marks items.now))) (marks items.now)) }
+    ensures err { IfErr result (λ e. e ≡ NoMemory) }
+{
+    let mut table = AbbreviationTable::new(alloc);
+    let mut codes = Vec::with_capacity(alloc, items.len())?;
+    for item in items {
+        let code = code_for(alloc, encoding, entries, *item, &mut table)?;
+        codes.push(code)?;
+    }
+    Ok(Codes { table, codes })
+}

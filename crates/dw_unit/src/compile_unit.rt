@@ -1,0 +1,91 @@
+//! A compile unit with its entries, and the table of its abbreviations.
+
+ghost use Rattle.std.specs.Prelude.{◌≡◌, ◌≢◌, ◌+◌, ◌<◌, ◌≤◌, length, map, IsTrue, OnOk, IfErr};
+ghost use Rattle.dw_base.specs.Numbers.{word_of, length_fits};
+ghost use Rattle.dw_base.specs.Spelling.{header_size};
+ghost use Rattle.dw_writer.specs.Meaning.{IsSameWriter, Appends};
+ghost use Rattle.dw_writer.specs.Causes.{HasRisen, offset_fits};
+ghost use Rattle.dw_writer.specs.Sections.{fault_sum};
+ghost use Rattle.dw_unit.specs.Entries.{tag_of};
+ghost use Rattle.dw_unit.specs.Arena.{AreLinked};
+ghost use Rattle.dw_unit.specs.Valid.{is_encodable, IsWritableTree};
+ghost use Rattle.dw_unit.specs.UnitText.{unit_length, unit_text};
+ghost use Rattle.dw_unit.specs.Causes.{TreeRefused};
+ghost use Rattle.dw_unit.specs.Tree.{AreIn, marks, preorder};
+ghost use Rattle.dw_unit.specs.Coded.{code_at, are_spelled, HaveOperands};
+ghost use Rattle.dw_unit.specs.Whole.{tree_shapes, tree_bytes};
+ghost use Rattle.dw_unit.specs.Written.{AppendsTree};
+
+use crate::body::write_items;
+use crate::codes::assign_codes;
+use crate::entry::DebuggingInformationEntry;
+use crate::header::write_fields;
+use crate::tree::{Item, flatten};
+use dw_base::{Encoding, Result};
+use dw_writer::{Sections, Writer};
+use std::alloc::Global;
+
+/// Adds a unit with its entries. Its length is put in once the unit stands.
+fn write_compile_unit<W: Writer>(
+    encoding: Encoding,
+    table: usize,
+    entries: &[DebuggingInformationEntry],
+    items: &[Item],
+    codes: &[u64],
+    w: &mut W,
+) -> Result<()>
+    requires within { AreIn (length entries.now) (marks items.now) }
+    requires tree { marks items.now ≡ preorder entries.now }
+    requires codes { codes.now ≡ map (code_at encoding entries.now (tree_shapes encoding entries.now)) (marks items.now) }
+    ensures ok { OnOk result
+        (Appends (W.meaning w.old) (W.meaning w.new) (header_size encoding + length (tree_bytes (W.meaning w.old).is_big encoding entries.now))
+        (unit_text encoding table (tree_bytes (W.meaning w.old).is_big encoding entries.now))) }
+    ensures place { OnOk result
+        (IsTrue (offset_fits (W.meaning w.old).is_plain (word_of encoding.format) table)) }
+    ensures fits { OnOk result
+        (IsTrue (length_fits encoding.format (unit_length encoding (tree_bytes (W.meaning w.old).is_big encoding entries.now)))) }
+    ensures operands { OnOk result (HaveOperands encoding entries.now (preorder entries.now)) }
+    ensures spelled { OnOk result (IsTrue (are_spelled entries.now (preorder entries.now))) }
+    ensures err { IfErr result
+        (TreeRefused (HasRisen (W.meaning w.old) (W.meaning w.new)) (W.meaning w.old).is_plain table (W.meaning w.old).is_big encoding entries.now) }
+    ensures same { IsSameWriter (W.meaning w.old) (W.meaning w.new) }
+{
+    let place = w.write_initial_length(encoding.format)?;
+    let start = w.len();
+    write_fields(encoding, table, w)?;
+    write_items(encoding, entries, items, codes, w)?;
+    let length = (w.len() - start) as u64;
+    w.write_initial_length_at(place, length, encoding.format)
+}
+
+/// Adds a unit with its entries to `.debug_info`, and the table of its abbreviations to
+/// `.debug_abbrev`, where the unit tells the table's place.
+pub(crate) fn write_tree<W: Writer>(
+    alloc: Global,
+    encoding: Encoding,
+    entries: &[DebuggingInformationEntry],
+    sections: &mut Sections<W>,
+) -> Result<()>
+    requires encodable { IsTrue (is_encodable encoding) }
+    requires linked { AreLinked entries.now }
+    requires rooted { tag_of entries.now 0 ≢ 0 }
+    ensures unit { OnOk result (AppendsTree W.meaning sections.old sections.new encoding entries.now) }
+    ensures writable { OnOk result (IsWritableTree (W.meaning sections.old.debug_info.0).is_big encoding entries.now) }
+    ensures err { IfErr result
+        (TreeRefused (fault_sum W.meaning sections.old < fault_sum W.meaning sections.new) (W.meaning sections.old.debug_info.0).is_plain (W.meaning sections.old.debug_abbrev.0).size (W.meaning sections.old.debug_info.0).is_big encoding entries.now) }
+    ensures others { sections.new ≡ record sections.old { debug_abbrev = sections.new.debug_abbrev; debug_info = sections.new.debug_info } }
+    ensures faults { fault_sum W.meaning sections.old ≤ fault_sum W.meaning sections.new }
+{
+    let items = flatten(alloc, entries)?;
+    let assigned = assign_codes(alloc, encoding, entries, &items)?;
+    let place = sections.debug_abbrev.0.len();
+    assigned.table.write(&mut sections.debug_abbrev)?;
+    write_compile_unit(
+        encoding,
+        place,
+        entries,
+        &items,
+        &assigned.codes,
+        &mut sections.debug_info.0,
+    )
+}

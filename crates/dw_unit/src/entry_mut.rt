@@ -1,0 +1,116 @@
+//! An entry that is being changed, by a handle that borrows its whole unit.
+
+ghost use Rattle.std.specs.Prelude.{◌≡◌, ◌≢◌, ◌<◌, ℕ, length, Some, None, slice_get, OnOk, OnErr, IfErr};
+ghost use Rattle.dw_base.specs.declared.error.Error.TheVariants.{NoMemory};
+ghost use Rattle.dw_unit.specs.Entries.{with_changed, with_attribute, without_attribute, without_child, value_of};
+
+use crate::attribute::AttributeValue;
+use crate::attribute_walk::AttrsMut;
+use crate::entry::DebuggingInformationEntry;
+use crate::unit::Unit;
+use dw_base::constants::DW_AT_sibling;
+use dw_base::{DwAt, Result, UnitEntryId};
+
+/// An entry of a unit, to be changed.
+#[derive(Drop)]
+pub struct EntryMut<'a> {
+    unit: &'a mut Unit,
+    index: usize,
+    ghost within: { index < length unit.now.entries },
+}
+
+impl<'a> EntryMut<'a> {
+    pub(crate) fn of(unit: &'a mut Unit, index: usize) -> EntryMut<'a>
+        requires { index < length unit.old.entries }
+        ensures same_unit { result.unit.ghost_name ≡ unit.entry.ghost_name }
+        ensures unit { result.unit.now ≡ unit.old }
+        ensures index { result.index ≡ index }
+    {
+        EntryMut { unit, index }
+    }
+
+    /// The entry as it is now.
+    pub fn entry(&self) -> &DebuggingInformationEntry
+        ensures { slice_get self.now.unit.now.entries self.now.index ≡ Some result.now }
+    {
+        self.unit.get(UnitEntryId::new(self.index))
+    }
+
+    /// Replaces the value under a name in its position, or appends an attribute. `DW_AT_sibling`
+    /// is not among the names that are set.
+    pub fn set(&mut self, name: DwAt, value: AttributeValue) -> Result<()>
+        requires named { name.0 ≢ 0 }
+        requires not_sibling { name ≢ DW_AT_sibling }
+        ensures same_unit { self.new.unit.ghost_name ≡ self.old.unit.ghost_name }
+        ensures index { self.new.index ≡ self.old.index }
+
+        ensures ok { OnOk result (self.new.unit.now ≡ record self.old.unit.now { entries = with_changed self.old.index (with_attribute name.0 value) self.old.unit.now.entries }) }
+        ensures count { length self.new.unit.now.entries ≡ length self.old.unit.now.entries }
+        ensures stored { OnOk result (value_of self.new.unit.now.entries self.old.index name.0 ≡ Some value) }
+        ensures others { (n : ℕ) → n ≢ name.0 → value_of self.new.unit.now.entries self.old.index n ≡ value_of self.old.unit.now.entries self.old.index n }
+
+        ensures err { IfErr result (λ e. e ≡ NoMemory) }
+        ensures kept { OnErr result (self.new.unit.now ≡ self.old.unit.now) }
+    {
+        self.unit.set_attribute(self.index, name, value)
+    }
+
+    /// Leaves the attribute of a name out, if there is one.
+    pub fn delete(&mut self, name: DwAt)
+        ensures same_unit { self.new.unit.ghost_name ≡ self.old.unit.ghost_name }
+        ensures index { self.new.index ≡ self.old.index }
+        ensures unit { self.new.unit.now ≡ record self.old.unit.now { entries = with_changed self.old.index (without_attribute name.0) self.old.unit.now.entries } }
+        ensures count { length self.new.unit.now.entries ≡ length self.old.unit.now.entries }
+        ensures gone { value_of self.new.unit.now.entries self.old.index name.0 ≡ None }
+        ensures others { (n : ℕ) → n ≢ name.0 → value_of self.new.unit.now.entries self.old.index n ≡ value_of self.old.unit.now.entries self.old.index n }
+    {
+        self.unit.delete_attribute(self.index, name);
+    }
+
+    /// Takes a child out of the entry's children, if it is there. The entry that was the child stays
+    /// in the unit, and neither it nor what is under it is written.
+    pub fn delete_child(&mut self, id: UnitEntryId)
+        ensures same_unit { self.new.unit.ghost_name ≡ self.old.unit.ghost_name }
+        ensures index { self.new.index ≡ self.old.index }
+        ensures unit { self.new.unit.now ≡ record self.old.unit.now { entries = with_changed self.old.index (without_child id.0) self.old.unit.now.entries } }
+        ensures count { length self.new.unit.now.entries ≡ length self.old.unit.now.entries }
+    {
+        self.unit.delete_child(self.index, id);
+    }
+
+    /// Makes room for more attributes.
+    pub fn reserve(&mut self, additional: usize) -> Result<()>
+        ensures same_unit { self.new.unit.ghost_name ≡ self.old.unit.ghost_name }
+        ensures index { self.new.index ≡ self.old.index }
+        ensures unit { self.new.unit.now ≡ self.old.unit.now }
+        ensures err { IfErr result (λ e. e ≡ NoMemory) }
+    {
+        self.unit.reserve_attributes(self.index, additional)
+    }
+}
+
+impl EntryMut<'_> {
+    ghost use Rattle.std.specs.Option.{option_copied_mut};
+    ghost use Rattle.std.specs.Borrow.{sem};
+    ghost use Rattle.dw_unit.specs.Entries.{attributes_of};
+    ghost use Rattle.dw_unit.specs.Lends.{LendsOut, LendsWalkOut};
+
+    /// The value under a name, to be changed.
+    pub fn get_mut(&mut self, name: DwAt) -> Option<&mut AttributeValue>
+        ensures* writes_back { sem 𝓛 (LendsOut self.entry name.0 result) }
+        ensures value { option_copied_mut result ≡ value_of self.old.unit.now.entries self.old.index name.0 }
+    {
+        let index = self.index;
+        self.unit.value_mut(index, name)
+    }
+
+    /// A walk over the attributes, to change their values.
+    pub fn attrs_mut(&mut self) -> AttrsMut<'_>
+        ensures* writes_back { sem 𝓛 (LendsWalkOut self.entry result) }
+        ensures attributes { result.now.attributes ≡ attributes_of self.old.unit.now.entries self.old.index }
+        ensures next { result.now.next ≡ 0 }
+    {
+        let index = self.index;
+        self.unit.walk_mut(index)
+    }
+}

@@ -1,0 +1,48 @@
+-- Where a script's units have a spelling and nothing fails, they are listed.
+use Rattle.std.proofs.Common.{◌≡◌, ◌∙◌, sym, ap, subst, ℕ, ◌<◌, ◌≤◌, List, length, refl, arith, inl, inr}
+use Rattle.std.specs.Prelude.{◌⊎◌, Option, Some, Result, Ok, Err}
+use Rattle.dw_base.specs.Order.{is_big_of}
+use Rattle.dw_dwarf.specs.Valid.{IsValid}
+use Rattle.dw_ends.specs.Ends.{Intake, HasRisen}
+use Rattle.dwarf_build.specs.Script.{script}
+use Rattle.dwarf_build.specs.Answers.{IsBuild, IsShort, HasNoSpelling, Says, SaysRead, Prints, code_of}
+use Rattle.dwarf_build.specs.declared.script.Script.{Script}
+use Rattle.dwarf_build.specs.declared.script.Refusal.{Refusal}
+use Rattle.dwarf_build.specs.declared.status.Status.{Status}
+use Rattle.dwarf_build.specs.declared.status.Status.TheVariants.{Listed, Usage, ScriptRefused, WriteRefused, SourceFailed, SinkFailed, NoMemory, TooLong}
+use Rattle.dwarf_build.proofs.Unspelled.{valid_spelled}
+
+same_script : (a b : Script) (r : Result Script Refusal) → r ≡ Ok a → r ≡ Ok b → a ≡ b
+same_script a b r p q = let e : ◌≡◌ {A = Result Script Refusal} (Ok a) (Ok b) = sym p ∙ q in cc
+
+not_refused : (a : Script) (x : Refusal) (r : Result Script Refusal) → r ≡ Ok a → r ≡ Err x → ⊥
+not_refused a x r p q = let e : ◌≡◌ {A = Result Script Refusal} (Ok a) (Err x) = sym p ∙ q in cc
+
+module _ (words : List (List ℕ)) (left : Option (List ℕ)) (bytes : List ℕ) (s : Script) (build : IsBuild words) (told : left ≡ Some bytes) (short : IsShort bytes) (accepted : script bytes ≡ Ok s) (valid : IsValid (is_big_of s.endian) s.dwarf.units) where
+  listed_only : (status : Status) (text : List ℕ) → Says words left status text → status ≡ Listed
+  listed_only Listed text h = refl
+  listed_only Usage text h = absurd (h.0 build)
+  listed_only ScriptRefused text h =
+      let same = h.1.told bytes told in
+      absurd (not_refused s h.1.says.1.refusal (script bytes) accepted (ap script (sym same) ∙ h.1.says.1.refused))
+  listed_only WriteRefused text h =
+      let same = h.1.told bytes told in
+      let value = h.1.says.1.value in
+      let refusal = h.1.says.1.says in
+      let is : value ≡ s = same_script value s (script bytes) (ap script (sym same) ∙ h.1.says.1.accepted) accepted in
+      let unspelled : Script → Type 0 = λ v. HasNoSpelling (is_big_of v.endian) v.dwarf.units refusal.error in
+      absurd (valid_spelled (is_big_of s.endian) s.dwarf.units refusal.error valid (subst unspelled is refusal.cause))
+  listed_only SourceFailed text h = absurd h
+  listed_only SinkFailed text h = absurd h
+  listed_only NoMemory text h = absurd h
+  listed_only TooLong text h = absurd (omega (arith, h.2 bytes told, short))
+
+  -- what the status of the printed answer comes to
+  pub printed_complete : (status result : Status) (text : List ℕ) (old new : Intake) → Says words left status text → Prints status text old new result → (HasRisen old.faults new.faults → ⊥) →
+      (code_of result ≡ 0) ⊎ (code_of result ≡ 6)
+  printed_complete status result text old new says (inl h) calm = inl (ap code_of (h.0 ∙ listed_only status text says))
+  printed_complete status result text old new says (inr h) calm = stopped h.1
+    where
+      stopped : ((result ≡ SinkFailed) × HasRisen old.faults new.faults) ⊎ (result ≡ NoMemory) → (code_of result ≡ 0) ⊎ (code_of result ≡ 6)
+      stopped (inl k) = absurd (calm k.1)
+      stopped (inr k) = inr (ap code_of k)

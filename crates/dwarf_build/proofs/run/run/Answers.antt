@@ -1,0 +1,22 @@
+use Rattle.std.proofs.Common.{◌≡◌, ◌∙◌, sym, ap, subst, ℕ, ◌⊎◌, inr}
+use Rattle.dw_ends.specs.Ends.{HasRisen}
+use Rattle.dwarf_build.specs.Answers.{StopsFor, code_of}
+use Rattle.dwarf_build.proofs.Completeness.{printed_complete}
+use Rattle.dwarf_build.proofs.run.run.Goals.{in-Ok, in-Err-SourceFailed, in-Err-NoMemory}
+use Rattle.dwarf_build.proofs.run.run.Goals as goal
+
+-- the listing was printed, or memory lacked
+is_done : ℕ → Type 0
+is_done n = (n ≡ 0) ⊎ (n ≡ 6)
+
+pub returns-clause-complete : goal.returns-clause-complete
+unfolding is_done
+returns-clause-complete g c = λ build bytes told short s accepted valid source_calm sink_calm.
+    elim c.match-answer_to.branch [
+      | in-Ok w ↦
+          let calm : HasRisen (g.K.Sink.intake c.args.sink.now).faults (g.K.Sink.intake w.print-status.new.sink).faults → ⊥ = λ h. sink_calm (subst (λ k. HasRisen (g.K.Sink.intake c.args.sink.now).faults (g.K.Sink.intake k).faults) (sym w.sink-is) h) in
+          subst is_done (sym (c.code.ensures ∙ ap code_of w.status-is))
+          (printed_complete _ _ bytes s build told short accepted valid _ _ _ _ _ w.in-Ok.ensures.ok w.print-status.ensures.prints calm)
+      | in-Err-SourceFailed w ↦ absurd (source_calm (subst (StopsFor (g.S.Source.input c.args.source.now) (g.S.Source.input c.answer_to.new.source)) w.in-Err-SourceFailed.field-0-is w.in-Err-SourceFailed.ensures.err))
+      | in-Err-NoMemory w ↦ inr (c.code.ensures ∙ ap code_of w.status-is)
+    ]
