@@ -134,3 +134,36 @@ fn refuses_a_zero_byte_in_a_string(rt: HostRuntime) -> std::result::Result<(), F
     assert_eq!(rt; answer, Err(Error::InvalidAttributeValue));
     Ok(())
 }
+
+/// The abbreviations of the root, of a variable with children, and of one without.
+const CHAIN_TABLE: [u8; 16] = [1, 0x11, 1, 0, 0, 2, 0x34, 1, 0, 0, 3, 0x34, 0, 0, 0, 0];
+
+/// Each entry is the only child of the one before, 100,000 with the root.
+#[test]
+fn writes_a_long_chain(rt: HostRuntime) -> std::result::Result<(), Fail> {
+    let mut unit = Unit::new(rt.alloc(), encoding(5), LineProgram::none())?;
+    let mut last = unit.root();
+    for _ in 1..100_000 {
+        assert!(rt; last.index() < unit.reserved() && unit.reserved() < usize::MAX);
+        assert!(rt; !unit.is_freed());
+        last = unit.add(last, DW_TAG_variable)?;
+    }
+    let mut dwarf = Dwarf::new(rt.alloc());
+    dwarf.units.add(unit)?;
+    let mut sections = new_sections(rt.alloc())?;
+    assert_eq!(rt; dwarf.units.count(), 1);
+    dwarf.write(&mut sections)?;
+    // The length counts 8 bytes of the header, a code for each entry, and a zero for each that has
+    // children: 200,007, which is 0x30d47.
+    let mut info = vec![in rt.alloc(); 0x47, 0x0d, 3, 0, 5, 0, 1, 8, 0, 0, 0, 0, 1]?;
+    for _ in 2..100_000 {
+        info.push(2)?;
+    }
+    info.push(3)?;
+    for _ in 1..100_000 {
+        info.push(0)?;
+    }
+    assert!(rt; sections.debug_info.0.slice() == info.as_slice());
+    assert_eq!(rt; sections.debug_abbrev.0.slice(), CHAIN_TABLE.as_slice());
+    Ok(())
+}

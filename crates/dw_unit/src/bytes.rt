@@ -66,6 +66,14 @@ impl Bytes {
     }
 }
 
+impl From<Vec<u8>> for Bytes {
+    ghost from_gives = { λ items b. b ≡ items.items };
+
+    fn from(items: Vec<u8>) -> Bytes {
+        Bytes { items }
+    }
+}
+
 impl Clone for Bytes {
     ghost is_clone = { λ a b. b ≡ a };
 

@@ -1,28 +1,15 @@
 -- What the program's answers rest on.
-use Rattle.std.proofs.Common.{◌≡◌, ◌∙◌, sym, ap, ℕ, zero, suc, ◌≤◌, List, [], ◌∷◌, length, map, arith}
+use Rattle.std.proofs.Common.{◌≡◌, ◌∙◌, sym, ap, ℕ, List, [], map}
 use Rattle.std.specs.Prelude.{Some, Option}
 use Rattle.dw_writer.specs.Contents.{Meaning}
 use Rattle.dw_writer.specs.declared.sections.Sections.{Sections}
-use Rattle.dw_unit.specs.UnitValue.{UnitValue}
 use Rattle.dw_unit.specs.Whole.{settled}
-use Rattle.dw_dwarf.specs.Valid.{AreUnwritten}
 use Rattle.dw_dwarf.specs.Written.{HoldsUnits}
 use Rattle.dwarf_build.specs.Texts.{SectionBytes, sections_text, only_units}
 use Rattle.dwarf_build.specs.Listed.{ListsSections}
-use Rattle.dwarf_build.specs.Answers.{HasFewUnits, ListsScript}
+use Rattle.dwarf_build.specs.Answers.{ListsScript}
 use Rattle.dwarf_build.specs.declared.script.Script.{Script}
 use Rattle.dw_base.specs.Order.{is_big_of}
-
-pub few_units : (us : List UnitValue) → HasFewUnits us → length us ≤ 1
-few_units [] h = omega arith
-few_units (u ∷ []) h = omega arith
-few_units (u ∷ v ∷ us) h = absurd h
-
-pub unwritten_units : (us : List UnitValue) → HasFewUnits us → AreUnwritten us
-unwritten_units [] h k d within = absurd (omega arith)
-unwritten_units (u ∷ []) h zero d within = h
-unwritten_units (u ∷ []) h (suc k) d within = absurd (omega arith)
-unwritten_units (u ∷ v ∷ us) h k d within = absurd h
 
 same_told : (a b : List ℕ) (o : Option (List ℕ)) → o ≡ Some a → o ≡ Some b → a ≡ b
 same_told a b o p q = let e : Some a ≡ Some b = sym p ∙ q in cc

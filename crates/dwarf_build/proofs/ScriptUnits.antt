@@ -1,16 +1,19 @@
 -- The units that a script builds.
-use Rattle.std.proofs.Common.{◌≡◌, subst, ℕ, ◌+◌, List, [], ◌∷◌, refl, true, false, Bool}
-use Rattle.std.specs.Prelude.{Result, Ok, Err, Option, Some, None, if◌then◌else◌}
+use Rattle.std.proofs.Common.{◌≡◌, sym, subst, ℕ, zero, suc, ◌+◌, ◌≤◌, List, [], ◌∷◌, length, refl, arith, true, false, Bool, All, slice_get, slice_set, length-set}
+use Rattle.std.specs.Prelude.{Result, Ok, Err, Option, Some, None, ok_or, not, nat_lt, ◌==◌, if◌then◌else◌}
+use Rattle.std.proofs.lemmas.List.Elements.{All-set}
+use Rattle.std.proofs.lemmas.Option.{slice_get_within, get_or_from_slice_get}
 use Rattle.dw_base.specs.declared.common.Encoding.{Encoding}
 use Rattle.dw_script.specs.Lines.{parsed_line}
 use Rattle.dw_script.specs.Pieces.{pieces}
 use Rattle.dw_script.specs.Fields.{Outcome, ◌>>=◌}
 use Rattle.dw_script.specs.declared.command.Command.{Command}
 use Rattle.dw_script.specs.declared.command.Command.TheVariants.{Order, Unit as AddUnit, Add, Set}
-use Rattle.dw_script.specs.declared.reason.Reason.TheVariants.{OrderNotFirst}
+use Rattle.dw_script.specs.declared.reason.Reason.{Reason}
+use Rattle.dw_script.specs.declared.reason.Reason.TheVariants.{OrderNotFirst, NoSuchUnit, NoSuchEntry, BadTag, BadName}
+use Rattle.dw_unit.specs.declared.attribute.AttributeValue.{AttributeValue}
 use Rattle.dw_unit.specs.UnitValue.{UnitValue, new_unit, no_line_program}
-use Rattle.dwarf_build.specs.Script.{one_more_unit, after_command, after_asked, after_line, after_lines, empty_script, script}
-use Rattle.dwarf_build.specs.Answers.{HasFewUnits}
+use Rattle.dwarf_build.specs.Script.{one_more_unit, with_units, with_unit_changed, attribute_value, after_add, after_set, after_command, after_asked, after_line, after_lines, empty_script, script, IsOpen, HasFewUnits}
 use Rattle.dwarf_build.specs.declared.script.Script.{Script}
 use Rattle.dwarf_build.specs.declared.script.Refusal.{Refusal}
 
@@ -19,24 +22,75 @@ abbrev IfBuilds : {E : Type 0} → Result Script E → Type 0
 IfBuilds (Ok s) = HasFewUnits s.dwarf.units
 IfBuilds (Err e) = Unit {0}
 
+-- the unit at an index is still built
+pub open_at : (us : List UnitValue) (i : ℕ) (u : UnitValue) → All IsOpen us → slice_get us i ≡ Some u → IsOpen u
+open_at us i u all at = subst IsOpen (get_or_from_slice_get us i u u at) (all i u (slice_get_within us i u at))
+
+none_open : All IsOpen []
+none_open k d within = absurd (omega arith)
+
+one_open : (u : UnitValue) → IsOpen u → All IsOpen (u ∷ [])
+one_open u h zero d within = h
+one_open u h (suc k) d within = absurd (omega arith)
+
+pub empty_few : HasFewUnits []
+empty_few = (omega arith, none_open)
+
 order_few : (b : Bool) (s t : Script) → HasFewUnits t.dwarf.units → IfBuilds (if b then Err OrderNotFirst else Ok t)
 order_few true s t h = tt
 order_few false s t h = h
 
-unit_few : (s : Script) (us : List UnitValue) (e : Encoding) → IfBuilds (one_more_unit us (new_unit e no_line_program) >>= λ vs. Ok (record s { dwarf = record { units = vs }; has_begun = true }))
-unit_few s [] e = refl
+unit_few : (s : Script) (us : List UnitValue) (e : Encoding) → IfBuilds (one_more_unit us (new_unit e no_line_program) >>= λ vs. Ok (with_units s vs))
+unit_few s [] e = (omega arith, one_open (new_unit e no_line_program) (refl, refl))
 unit_few s (u ∷ us) e = tt
+
+-- a change of a unit doesn't end it
+abbrev LeavesOpen : (UnitValue → Outcome UnitValue) → Type 0
+LeavesOpen change = (u v : UnitValue) → change u ≡ Ok v → IsOpen u → IsOpen v
+
+changed_few : (change : UnitValue → Outcome UnitValue) (s : Script) (us : List UnitValue) (i : ℕ) → LeavesOpen change → HasFewUnits us → IfBuilds (with_unit_changed i change us >>= λ vs. Ok (with_units s vs))
+changed_few change s us i leaves h = found (slice_get us i) refl
+  where
+    done : (u : UnitValue) (r : Outcome UnitValue) → slice_get us i ≡ Some u → change u ≡ r → IfBuilds ((r >>= λ v. Ok (slice_set us i v)) >>= λ vs. Ok (with_units s vs))
+    done u (Ok v) at e = (subst (λ n. n ≤ 1) (sym (length-set us i v)) h.0, All-set IsOpen us i v (leaves u v e (open_at us i u h.1 at)) h.1)
+    done u (Err reason) at e = tt
+
+    found : (o : Option UnitValue) → slice_get us i ≡ o → IfBuilds ((ok_or o NoSuchUnit >>= λ u. (change u >>= λ v. Ok (slice_set us i v))) >>= λ vs. Ok (with_units s vs))
+    found (Some u) at = done u (change u) at refl
+    found None at = tt
+
+-- after two conditions a value is what it is
+conditions_leave : (a b : Bool) (r q : Reason) (w v : UnitValue) → (if a then Err r else (if b then Err q else Ok w)) ≡ Ok v → IsOpen w → IsOpen v
+conditions_leave true b r q w v e h = cc
+conditions_leave false true r q w v e h = cc
+conditions_leave false false r q w v e h =
+    let same : w ≡ v = (let equal : ◌≡◌ {A = Outcome UnitValue} (Ok w) (Ok v) = e in cc) in
+    subst IsOpen same h
+
+add_leaves : (parent tag : ℕ) → LeavesOpen (after_add parent tag)
+add_leaves parent tag u v e h = conditions_leave (not (nat_lt parent u.reserved)) (tag == 0) NoSuchEntry BadTag _ v e h
+
+set_leaves : (entry name : ℕ) (x : AttributeValue) → LeavesOpen (after_set entry name x)
+set_leaves entry name x u v e h = conditions_leave (not (nat_lt entry (length u.entries))) (not (nat_lt 1 name)) NoSuchEntry BadName _ v e h
 
 command_few : (s : Script) (c : Command) → HasFewUnits s.dwarf.units → IfBuilds (after_command s c)
 command_few s (Order o) h = order_few s.has_begun s (record s { endian = o; has_begun = true }) h
 command_few s (AddUnit e) h = unit_few s s.dwarf.units e
-command_few s (Add _ _ _) h = tt
-command_few s (Set _ _ _ _) h = tt
+command_few s (Add unit parent tag) h = changed_few (after_add parent tag.0) s s.dwarf.units unit (add_leaves parent tag.0) h
+command_few s (Set unit entry name x) h = changed_few (after_set entry name.0 (attribute_value x)) s s.dwarf.units unit (set_leaves entry name.0 (attribute_value x)) h
 
 asked_few : (s : Script) (r : Outcome (Option Command)) → HasFewUnits s.dwarf.units → IfBuilds (r >>= after_asked s)
 asked_few s (Ok None) h = h
 asked_few s (Ok (Some c)) h = command_few s c h
 asked_few s (Err reason) h = tt
+
+built_few : {E : Type 0} (r : Result Script E) (s : Script) → r ≡ Ok s → IfBuilds r → HasFewUnits s.dwarf.units
+built_few {E = E} (Ok t) s e h = let P : Result Script E → Type 0 = λ q. IfBuilds q in subst P e h
+built_few (Err r) s e h = cc
+
+-- a line leaves few units
+pub line_few : (s t : Script) (line : List ℕ) → after_line s line ≡ Ok t → HasFewUnits s.dwarf.units → HasFewUnits t.dwarf.units
+line_few s t line e h = built_few (after_line s line) t e (asked_few s (parsed_line line) h)
 
 outcome_few : (n : ℕ) (lines : List (List ℕ)) (r : Outcome Script) → ((t : Script) → HasFewUnits t.dwarf.units → IfBuilds (after_lines (n + 1) t lines)) → IfBuilds r →
     IfBuilds (elim r as (λ _. Result Script Refusal) [ Ok t ↦ after_lines (n + 1) t lines | Err reason ↦ Err (record { line = n; reason = reason }) ])
@@ -47,10 +101,6 @@ lines_few : (lines : List (List ℕ)) (n : ℕ) (s : Script) → HasFewUnits s.d
 lines_few [] n s h = h
 lines_few (line ∷ lines) n s h = outcome_few n lines (after_line s line) (λ t k. lines_few lines (n + 1) t k) (asked_few s (parsed_line line) h)
 
-built_few : (r : Result Script Refusal) (s : Script) → r ≡ Ok s → IfBuilds r → HasFewUnits s.dwarf.units
-built_few (Ok t) s e h = let P : Result Script Refusal → Type 0 = λ q. IfBuilds q in subst P e h
-built_few (Err r) s e h = cc
-
 pub script_few : (bytes : List ℕ) (s : Script) → script bytes ≡ Ok s → HasFewUnits s.dwarf.units
 unfolding script
-script_few bytes s e = built_few (script bytes) s e (lines_few (pieces 10 bytes) 1 empty_script tt)
+script_few bytes s e = built_few (script bytes) s e (lines_few (pieces 10 bytes) 1 empty_script empty_few)

@@ -1,5 +1,5 @@
 -- What the program answers, by its status.
-use Rattle.std.specs.Prelude.{◌≡◌, ◌⊎◌, ℕ, ◌<◌, ◌≤◌, List, [], ◌∷◌, length, map, Any, Option, Some, Ok, Err, Bool, false, IsFalse, codes}
+use Rattle.std.specs.Prelude.{◌≡◌, ◌⊎◌, ℕ, ◌<◌, ◌≤◌, List, [], ◌∷◌, length, map, Any, Option, Some, Ok, Err, Bool, IsFalse, codes}
 use Rattle.dw_base.specs.Order.{is_big_of}
 use Rattle.dw_base.specs.Numbers.{length_fits}
 use Rattle.dw_base.specs.declared.error.Error.{Error}
@@ -32,12 +32,6 @@ IfTold told P = (xs : List ℕ) → told ≡ Some xs → P xs
 -- a script may have so many bytes
 abbrev pub IsShort : List ℕ → Type 0
 IsShort bytes = length bytes ≤ 16777216
-
--- no unit or one, which wasn't written yet
-abbrev pub HasFewUnits : List UnitValue → Type 0
-HasFewUnits [] = Unit {0}
-HasFewUnits (u ∷ []) = u.is_written ≡ false
-HasFewUnits (u ∷ v ∷ us) = ⊥
 
 -- the listing of sections that are read as exactly the script's units, with nothing in other sections
 pub record ListsScript (s : Script) (text : List ℕ) : Type 0 where

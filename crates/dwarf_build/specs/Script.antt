@@ -1,13 +1,18 @@
 -- What a script builds: each line does what it says to what the lines before it built.
-use Rattle.std.specs.Prelude.{◌≡◌, ℕ, ◌+◌, List, [], ◌∷◌, Option, Some, None, Result, Ok, Err, true, false, if◌then◌else◌}
+use Rattle.std.specs.Prelude.{◌≡◌, ℕ, ◌+◌, ◌≤◌, List, [], ◌∷◌, length, Option, Some, None, Result, Ok, Err, ok_or, true, false, not, nat_lt, ◌==◌, if◌then◌else◌, slice_get, slice_set, All}
 use Rattle.dw_base.specs.declared.endianity.RunTimeEndian.TheVariants.{Little}
 use Rattle.dw_script.specs.Fields.{Outcome, ◌>>=◌}
 use Rattle.dw_script.specs.Lines.{parsed_line}
 use Rattle.dw_script.specs.Pieces.{pieces}
 use Rattle.dw_script.specs.declared.command.Command.{Command}
 use Rattle.dw_script.specs.declared.command.Command.TheVariants.{Order, Unit as AddUnit, Add, Set}
-use Rattle.dw_script.specs.declared.reason.Reason.TheVariants.{NotBuilt, OrderNotFirst}
+use Rattle.dw_script.specs.declared.reason.Reason.TheVariants.{NotBuilt, OrderNotFirst, NoSuchUnit, NoSuchEntry, BadTag, BadName}
+use Rattle.dw_script.specs.declared.value.Value.{Value}
+use Rattle.dw_script.specs.declared.value.Value.TheVariants as value
+use Rattle.dw_unit.specs.Entries.{with_changed, filled_up, with_new_child, with_attribute}
 use Rattle.dw_unit.specs.UnitValue.{UnitValue, new_unit, no_line_program}
+use Rattle.dw_unit.specs.declared.attribute.AttributeValue.{AttributeValue}
+use Rattle.dw_unit.specs.declared.attribute.AttributeValue.TheVariants as stored
 use Rattle.dwarf_build.specs.declared.script.Script.{Script}
 use Rattle.dwarf_build.specs.declared.script.Refusal.{Refusal}
 use Rattle.dwarf_build.specs.declared.script.CommandError.{CommandError}
@@ -24,12 +29,43 @@ abbrev pub one_more_unit : List UnitValue → UnitValue → Outcome (List UnitVa
 one_more_unit [] u = Ok (u ∷ [])
 one_more_unit (v ∷ vs) u = Err NotBuilt
 
+-- the value that an attribute gets
+abbrev pub attribute_value : Value → AttributeValue
+attribute_value (value.String bytes) = stored.String bytes
+attribute_value (value.Udata n) = stored.Udata n
+attribute_value (value.Data1 n) = stored.Data1 n
+
+-- a unit with an entry added under a parent, for which an id was handed out
+abbrev pub after_add : ℕ → ℕ → UnitValue → Outcome UnitValue
+after_add parent tag u =
+    if not (nat_lt parent u.reserved) then Err NoSuchEntry
+    else (if tag == 0 then Err BadTag
+    else Ok (record u { entries = with_new_child u.reserved parent tag (filled_up (u.reserved + 1) u.entries); reserved = u.reserved + 1 }))
+
+-- a unit with an attribute set in an entry; no name is 0, and that of a sibling, which is 1, is not set by values
+abbrev pub after_set : ℕ → ℕ → AttributeValue → UnitValue → Outcome UnitValue
+after_set entry name v u =
+    if not (nat_lt entry (length u.entries)) then Err NoSuchEntry
+    else (if not (nat_lt 1 name) then Err BadName
+    else Ok (record u { entries = with_changed entry (with_attribute name v) u.entries }))
+
+-- the units with one of them changed
+abbrev pub with_unit_changed : ℕ → (UnitValue → Outcome UnitValue) → List UnitValue → Outcome (List UnitValue)
+with_unit_changed i change us = do
+  u ← ok_or (slice_get us i) NoSuchUnit
+  v ← change u
+  Ok (slice_set us i v)
+
+-- a script with other units
+abbrev pub with_units : Script → List UnitValue → Script
+with_units s us = record s { dwarf = record { units = us }; has_begun = true }
+
 -- after a command
 abbrev pub after_command : Script → Command → Outcome Script
 after_command s (Order o) = if s.has_begun then Err OrderNotFirst else Ok (record s { endian = o; has_begun = true })
-after_command s (AddUnit e) = one_more_unit s.dwarf.units (new_unit e no_line_program) >>= λ us. Ok (record s { dwarf = record { units = us }; has_begun = true })
-after_command s (Add _ _ _) = Err NotBuilt
-after_command s (Set _ _ _ _) = Err NotBuilt
+after_command s (AddUnit e) = one_more_unit s.dwarf.units (new_unit e no_line_program) >>= λ us. Ok (with_units s us)
+after_command s (Add unit parent tag) = with_unit_changed unit (after_add parent tag.0) s.dwarf.units >>= λ us. Ok (with_units s us)
+after_command s (Set unit entry name v) = with_unit_changed unit (after_set entry name.0 (attribute_value v)) s.dwarf.units >>= λ us. Ok (with_units s us)
 
 -- after a line that may ask for nothing
 abbrev pub after_asked : Script → Option Command → Outcome Script
@@ -48,10 +84,18 @@ after_lines n s (line ∷ lines) = elim (after_line s line) [ Ok t ↦ after_lin
 unfoldable pub script : List ℕ → Result Script Refusal
 script bytes = after_lines 1 empty_script (pieces 10 bytes)
 
--- why a command isn't carried out: its condition, or want of memory
-abbrev pub CommandRefused : Script → Command → CommandError → Type 0
-CommandRefused s c (command.Refused reason) = after_command s c ≡ Err reason
-CommandRefused s c command.NoMemory = Unit {0}
+-- a unit that is still built: it was neither written nor freed
+abbrev pub IsOpen : UnitValue → Type 0
+IsOpen u = (u.is_written ≡ false) × (u.is_freed ≡ false)
+
+-- no unit or one, which is still built
+abbrev pub HasFewUnits : List UnitValue → Type 0
+HasFewUnits us = (length us ≤ 1) × All IsOpen us
+
+-- why something isn't done: its condition, or want of memory
+abbrev pub RefusedFor : {T : Type 0} → Outcome T → CommandError → Type 0
+RefusedFor outcome (command.Refused reason) = outcome ≡ Err reason
+RefusedFor outcome command.NoMemory = Unit {0}
 
 -- the same of a line
 abbrev pub LineRefused : Script → List ℕ → ℕ → ScriptError → Type 0

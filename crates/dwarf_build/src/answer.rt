@@ -2,7 +2,8 @@
 
 ghost use Rattle.std.specs.Prelude.{◌≡◌, ◌≢◌, ◌≤◌, ◌↔◌, ◌∷◌, [], List, length, map, codes, Some, IsTrue, IfOk, IfErr, string_bytes};
 ghost use Rattle.dw_base.specs.declared.error.Error.TheVariants.{NoMemory};
-ghost use Rattle.dwarf_build.specs.Answers.{IsBuild, HasFewUnits, Says, SaysOf, SaysBuild, Reads, StopsFor};
+ghost use Rattle.dwarf_build.specs.Answers.{IsBuild, Says, SaysOf, SaysBuild, Reads, StopsFor};
+ghost use Rattle.dwarf_build.specs.Script.{HasFewUnits};
 ghost use Rattle.dwarf_build.specs.Texts.{refusal_text, refused_text};
 
 use crate::listing::list_sections;

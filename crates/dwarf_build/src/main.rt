@@ -2,12 +2,15 @@
 #![tactic(auto)]
 
 mod answer;
+mod entries;
 mod listing;
 pub mod run;
 mod script;
 mod status;
 #[cfg(test)]
 mod tests;
+#[cfg(test)]
+mod tree_tests;
 
 use crate::run::run;
 use crate::status::Status;

@@ -2,9 +2,10 @@
 
 ghost use Rattle.std.specs.Prelude.{◌≡◌, ◌≤◌, length, Ok, Err, OnOk, IfOk, IfErr};
 
-use dw_base::{Encoding, RunTimeEndian};
+use crate::entries::{add_entry, index_below, set_attribute};
+use dw_base::{DwAt, DwTag, Encoding, RunTimeEndian, UnitId};
 use dw_dwarf::Dwarf;
-use dw_script::{Command, Reason, lines, parse_line};
+use dw_script::{Command, Reason, Value, lines, parse_line};
 use dw_unit::{LineProgram, Unit};
 use std::alloc::Global;
 
@@ -44,7 +45,7 @@ pub enum CommandError {
 }
 
 impl Script {
-    ghost use Rattle.dwarf_build.specs.Script.{empty_script, after_command, after_line, CommandRefused, LineRefused};
+    ghost use Rattle.dwarf_build.specs.Script.{empty_script, after_command, after_line, HasFewUnits, RefusedFor, LineRefused};
 
     // Before the first line.
     fn new(alloc: Global) -> Script
@@ -57,22 +58,10 @@ impl Script {
         }
     }
 
-    // Carries a command out. Where it is refused the script isn't used again.
-    fn apply(&mut self, alloc: Global, command: Command<'_>) -> Result<(), CommandError>
-        ensures ok { OnOk result (after_command self.old command.entry ≡ Ok self.new) }
-        ensures err { IfErr result (CommandRefused self.old command.entry) }
-    {
-        match command {
-            Command::Order(endian) => self.set_order(endian),
-            Command::Unit(encoding) => self.add_unit(alloc, encoding),
-            Command::Add { .. } | Command::Set { .. } => {
-                Err(CommandError::Refused(Reason::NotBuilt))
-            }
-        }
-    }
-
-    // Does what a line says, the number-th of the script.
+    // Does what a line says, the number-th of the script. Where it is refused the script isn't used
+    // again.
     fn read_line(&mut self, alloc: Global, line: &[u8], number: usize) -> Result<(), ScriptError>
+        requires { HasFewUnits self.old.dwarf.units }
         ensures ok { OnOk result (after_line self.old line.now ≡ Ok self.new) }
         ensures err { IfErr result (LineRefused self.old line.now number) }
     {
@@ -87,9 +76,27 @@ impl Script {
         }
     }
 
+    fn apply(&mut self, alloc: Global, command: Command<'_>) -> Result<(), CommandError>
+        requires { HasFewUnits self.old.dwarf.units }
+        ensures ok { OnOk result (after_command self.old command.entry ≡ Ok self.new) }
+        ensures err { IfErr result (RefusedFor (after_command self.old command.entry)) }
+    {
+        match command {
+            Command::Order(endian) => self.set_order(endian),
+            Command::Unit(encoding) => self.add_unit(alloc, encoding),
+            Command::Add { unit, parent, tag } => self.add(unit, parent, tag),
+            Command::Set {
+                unit,
+                entry,
+                name,
+                value,
+            } => self.set(alloc, unit, entry, name, value),
+        }
+    }
+
     fn set_order(&mut self, endian: RunTimeEndian) -> Result<(), CommandError>
         ensures ok { OnOk result (after_command self.old (Command.Order endian) ≡ Ok self.new) }
-        ensures err { IfErr result (CommandRefused self.old (Command.Order endian)) }
+        ensures err { IfErr result (RefusedFor (after_command self.old (Command.Order endian))) }
     {
         if self.has_begun {
             return Err(CommandError::Refused(Reason::OrderNotFirst));
@@ -101,7 +108,7 @@ impl Script {
 
     fn add_unit(&mut self, alloc: Global, encoding: Encoding) -> Result<(), CommandError>
         ensures ok { OnOk result (after_command self.old (Command.Unit encoding) ≡ Ok self.new) }
-        ensures err { IfErr result (CommandRefused self.old (Command.Unit encoding)) }
+        ensures err { IfErr result (RefusedFor (after_command self.old (Command.Unit encoding))) }
     {
         if self.dwarf.units.count() != 0 {
             return Err(CommandError::Refused(Reason::NotBuilt));
@@ -113,6 +120,36 @@ impl Script {
             .units
             .add(unit)
             .map_err(|_| CommandError::NoMemory)?;
+        self.has_begun = true;
+        Ok(())
+    }
+
+    fn add(&mut self, unit: u64, parent: u64, tag: DwTag) -> Result<(), CommandError>
+        requires { HasFewUnits self.old.dwarf.units }
+        ensures ok { OnOk result (after_command self.old (Command.Add unit parent tag) ≡ Ok self.new) }
+        ensures err { IfErr result (RefusedFor (after_command self.old (Command.Add unit parent tag))) }
+    {
+        let index = index_below(unit, self.dwarf.units.count(), Reason::NoSuchUnit)?;
+        let unit = self.dwarf.units.get_mut(UnitId::new(index));
+        add_entry(unit, parent, tag)?;
+        self.has_begun = true;
+        Ok(())
+    }
+
+    fn set(
+        &mut self,
+        alloc: Global,
+        unit: u64,
+        entry: u64,
+        name: DwAt,
+        value: Value<'_>,
+    ) -> Result<(), CommandError>
+        ensures ok { OnOk result (after_command self.old (Command.Set unit entry name value.entry) ≡ Ok self.new) }
+        ensures err { IfErr result (RefusedFor (after_command self.old (Command.Set unit entry name value.entry))) }
+    {
+        let index = index_below(unit, self.dwarf.units.count(), Reason::NoSuchUnit)?;
+        let unit = self.dwarf.units.get_mut(UnitId::new(index));
+        set_attribute(alloc, unit, entry, name, value)?;
         self.has_begun = true;
         Ok(())
     }

@@ -50,7 +50,7 @@ fn owned(alloc: Global, words: &[&str]) -> Result<Vec<String>, AllocError> {
 }
 
 /// The status and the text of `build` over a script.
-fn build(alloc: Global, script: &[u8]) -> Result<(u8, String), AllocError> {
+pub(crate) fn build(alloc: Global, script: &[u8]) -> Result<(u8, String), AllocError> {
     let words = owned(alloc, &["build"])?;
     let mut sink = VecSink::new(alloc);
     let status = run(alloc, &words, &mut SliceSource::new(script), &mut sink);
@@ -58,7 +58,7 @@ fn build(alloc: Global, script: &[u8]) -> Result<(u8, String), AllocError> {
 }
 
 /// What a listing tells of a section: its length and its bytes.
-fn told_of<'a>(listing: &'a str, section: &str) -> Option<&'a str> {
+pub(crate) fn told_of<'a>(listing: &'a str, section: &str) -> Option<&'a str> {
     for line in listing.lines() {
         if let Some((name, told)) = line.split_once(' ')
             && name == section
@@ -103,7 +103,7 @@ fn lists_nothing(rt: HostRuntime) -> Result<(), Fail> {
 }
 
 /// What a listing tells of a section that has these bytes, given in hex with spaces between.
-fn told(alloc: Global, hex: &str) -> Result<String, AllocError> {
+pub(crate) fn told(alloc: Global, hex: &str) -> Result<String, AllocError> {
     let mut digits = String::new(alloc);
     for field in hex.split_whitespace() {
         digits.push_str(field)?;
@@ -283,9 +283,9 @@ fn refuses_lines(rt: HostRuntime) -> Result<(), Fail> {
         (b"unit 5 8 32\norder big", "line 2: order not first\n"),
         (b"order big\norder big", "line 2: order not first\n"),
         (b"unit 5 8 32\nunit 5 8 32", "line 2: not built\n"),
-        (b"add 0 0 1", "line 1: not built\n"),
-        (b"add 0 0 DW_TAG_base_type", "line 1: not built\n"),
-        (b"unit 5 8 32\nset 0 0 3 udata 1", "line 2: not built\n"),
+        (b"add 0 0 1", "line 1: no such unit\n"),
+        (b"add 0 0 DW_TAG_base_type", "line 1: no such unit\n"),
+        (b"set 0 0 1 udata 1", "line 1: no such unit\n"),
         (b"add 0 0", "line 1: wrong fields\n"),
         (b"add 0 0 DW_TAG_frob", "line 1: unknown word\n"),
         (b"set 0 0 3 string 6", "line 1: bad hex\n"),

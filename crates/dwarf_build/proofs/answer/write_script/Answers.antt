@@ -3,11 +3,11 @@ use Rattle.std.proofs.Common.{refl, arith}
 use Rattle.dwarf_build.proofs.Outcomes.{IfOk-two}
 use Rattle.dw_base.specs.Order.{is_big_of}
 use Rattle.dw_writer.proofs.NewLemmas.{IsNewPlain-from_all_mean}
-use Rattle.dwarf_build.proofs.Answered.{few_units, unwritten_units, script_listed}
+use Rattle.dwarf_build.proofs.Answered.{script_listed}
 use Rattle.dwarf_build.proofs.answer.write_script.Goals as goal
 
 pub write-requires : goal.write-requires
-write-requires c = few_units c.args.script.dwarf.units c.requires
+write-requires c = c.requires.0
 
 pub returns-in-Ok-write : goal.returns-in-Ok-write
 returns-in-Ok-write c =
@@ -15,7 +15,7 @@ returns-in-Ok-write c =
     let new = IsNewPlain-from_all_mean _ (is_big_of c.args.script.endian) _ _ empty c.in-Ok.ensures.fixups
     (record { bytes = refl; size = refl; records = refl; order = refl; plain = refl }) in
     script_listed _ c.args.script _ _
-    (c.in-Ok-write.ensures.built (is_big_of c.args.script.endian) new (unwritten_units c.args.script.dwarf.units c.requires))
+    (c.in-Ok-write.ensures.built (is_big_of c.args.script.endian) new (λ k d within. (c.requires.1 k d within).0))
     c.in_ok-text-in-Ok-write.ensures
 
 pub returns : goal.returns
