@@ -6,7 +6,7 @@ use Rattle.dw_base.specs.Numbers.{is_width, word_of, length_fits}
 use Rattle.dw_base.specs.declared.common.Format.{Format}
 use Rattle.dw_base.specs.declared.common.Format.TheVariants.{Dwarf32, Dwarf64}
 use Rattle.dw_base.specs.declared.error.Error.{Error}
-use Rattle.dw_base.specs.declared.error.Error.TheVariants.{NoMemory, WriteFault, ValueTooLarge, UnsupportedWordSize, UnsupportedVersion, InvalidAttributeValue, InitialLengthOverflow}
+use Rattle.dw_base.specs.declared.error.Error.TheVariants.{NoMemory, WriteFault, ValueTooLarge, UnsupportedWordSize, UnsupportedVersion, InvalidAttributeValue, InvalidReference, InitialLengthOverflow}
 use Rattle.dw_writer.specs.Contents.{Meaning}
 use Rattle.dw_writer.specs.Causes.{offset_fits}
 use Rattle.dw_writer.specs.New.{IsNewPlain}
@@ -35,6 +35,7 @@ module _ {W : Type 0} where
   unit_complete meaning big old new u empty valid calm ValueTooLarge r =
       absurd (not_both _ (place_fits _ u.encoding.format _ empty.writers.debug_info.plain empty.writers.debug_abbrev.size) r)
   unit_complete meaning big old new u empty valid calm InvalidAttributeValue r = absurd (not_both _ valid.spelled r)
+  unit_complete meaning big old new u empty valid calm InvalidReference r = absurd (not_both _ valid.inside r)
   unit_complete meaning big old new u empty valid calm InitialLengthOverflow r =
       let order = ap (λ b. length_fits u.encoding.format (unit_length u.encoding (tree_bytes b u.encoding (settled u).entries))) empty.writers.debug_info.order in
       absurd (not_both _ (order ∙ valid.fits) r)

@@ -2,9 +2,8 @@
 use Rattle.std.proofs.Common.{◌≡◌, ◌∙◌, sym, ap, subst, ℕ, ◌+◌, ◌<◌, ◌≤◌, Bool, true, false, List, [], ◌∷◌, length, map, Some, refl, arith}
 use Rattle.std.specs.Prelude.{None}
 use Rattle.dw_dwarf.proofs.Conditions.{is_width-lt, MatchBool-false}
-use Rattle.dw_base.specs.Entries.{ReadEntry, Mark, next_depth}
 use Rattle.dw_base.specs.Info.{units_at, read_info}
-use Rattle.dw_base.specs.Spelling.{header_size, unit_bytes, mark_bytes, rows_of, read_unit}
+use Rattle.dw_base.specs.Spelling.{header_size, unit_bytes, read_unit}
 use Rattle.dw_base.specs.Spellable.{IsUnit}
 use Rattle.dw_base.proofs.HeaderLaws.{length-unit_bytes}
 use Rattle.dw_base.proofs.InfoLaws.{read_one}
@@ -21,6 +20,7 @@ use Rattle.dw_unit.specs.UnitText.{unit_text}
 use Rattle.dw_unit.specs.Whole.{tree_read, tree_declared, tree_bytes, tree_table, settled}
 use Rattle.dw_unit.specs.Written.{AppendsTree, AppendsUnits}
 use Rattle.dw_unit.specs.Built.{Built}
+use Rattle.dw_unit.proofs.ReadPlaces.{marks_read}
 use Rattle.dw_dwarf.specs.Valid.{AreUnwritten}
 use Rattle.dw_dwarf.specs.Written.{HoldsUnits}
 use Rattle.dw_dwarf.proofs.PlainText.{at_zero, resolved-plain, unit_shown}
@@ -53,13 +53,6 @@ none_built : (big : Bool) → Built [] big [] []
 unfolding read_info units_at
 none_built big = record { read = []; reads = refl; units_are = tt; info_size = refl; abbrevs_size = refl }
 
--- the marks of rows are those that were spelled
-marks-rows_of : (big : Bool) (e : Encoding) (from depth : ℕ) (ms : List (Mark ReadEntry)) → map (λ row. row.mark) (rows_of big e from depth ms) ≡ ms
-unfolding rows_of
-marks-rows_of big e from depth [] = refl
-marks-rows_of big e from depth (m ∷ ms) =
-    ap (λ rest. m ∷ rest) (marks-rows_of big e (from + length (mark_bytes big e m)) (next_depth m depth) ms)
-
 -- one unit is read from its bytes
 one_built : (u : UnitValue) (big : Bool) → IsUnit big u.encoding 0 (tree_declared u.encoding u.entries) (tree_read u.encoding u.entries) →
     Built (u ∷ []) big (unit_bytes big u.encoding 0 (tree_bytes big u.encoding u.entries)) (tree_table u.encoding u.entries)
@@ -69,7 +62,7 @@ one_built u big is_unit =
     record {
       read = read_unit big e 0 0 (tree_declared e u.entries) (tree_read e u.entries) ∷ [];
       reads = read_one big e (tree_declared e u.entries) (tree_read e u.entries) is_unit;
-      units_are = (record { encoding = refl; unit_type = refl; entries = marks-rows_of big e (header_size e) 0 (tree_read e u.entries); declarations = refl }, tt);
+      units_are = (record { encoding = refl; unit_type = refl; entries = marks_read big e u.entries; declarations = refl }, tt);
       info_size = omega (arith, length-unit_bytes big e 0 body);
       abbrevs_size = omega arith;
     }

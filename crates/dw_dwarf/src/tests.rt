@@ -1,7 +1,9 @@
 //! A unit, written into memory.
 
 use crate::Dwarf;
-use dw_base::constants::{DW_AT_byte_size, DW_AT_name, DW_TAG_base_type, DW_TAG_variable};
+use dw_base::constants::{
+    DW_AT_byte_size, DW_AT_name, DW_AT_type, DW_TAG_base_type, DW_TAG_variable,
+};
 use dw_base::{Encoding, Error, Format, Result, RunTimeEndian, UnitId};
 use dw_unit::{AttributeValue, Bytes, LineProgram, Unit};
 use dw_writer::{EndianVec, Sections};
@@ -132,6 +134,49 @@ fn refuses_a_zero_byte_in_a_string(rt: HostRuntime) -> std::result::Result<(), F
     assert_eq!(rt; dwarf.units.count(), 1);
     let answer = dwarf.write(&mut sections);
     assert_eq!(rt; answer, Err(Error::InvalidAttributeValue));
+    Ok(())
+}
+
+/// A unit whose root has one child, with a place past its own child, a name, and the root as its type.
+const CHANGED: [u8; 27] = [
+    23, 0, 0, 0, 5, 0, 1, 8, 0, 0, 0, 0, 1, 2, 26, 0, 0, 0, b'b', 0, 12, 0, 0, 0, 3, 0, 0,
+];
+
+/// Its abbreviations.
+const CHANGED_TABLE: [u8; 22] = [
+    1, 0x11, 1, 0, 0, 2, 0x34, 1, 1, 0x13, 3, 8, 0x49, 0x13, 0, 0, 3, 0x24, 0, 0, 0, 0,
+];
+
+#[test]
+fn changes_an_entry_through_its_handle(rt: HostRuntime) -> std::result::Result<(), Fail> {
+    let mut unit = Unit::new(rt.alloc(), encoding(5), LineProgram::none())?;
+    let root = unit.root();
+    let child = unit.add(root, DW_TAG_variable)?;
+    unit.add(child, DW_TAG_base_type)?;
+    let mut entry = unit.get_mut(child);
+    entry.set_sibling(true);
+    let name = Bytes::new(rt.alloc(), b"a")?;
+    entry.set(DW_AT_name, AttributeValue::String(name))?;
+    entry.set(DW_AT_byte_size, AttributeValue::Data1(4))?;
+    entry.set(DW_AT_type, AttributeValue::Udata(0))?;
+    entry.delete(DW_AT_byte_size);
+    if let Some(value) = entry.get_mut(DW_AT_type) {
+        *value = AttributeValue::UnitRef(root);
+    }
+    let attributes = entry.attrs_mut();
+    if let Some(mut attribute) = attributes.next() {
+        assert_eq!(rt; attribute.name(), DW_AT_name);
+        let name = Bytes::new(rt.alloc(), b"b")?;
+        attribute.set(AttributeValue::String(name));
+    }
+    assert!(rt; entry.entry().sibling());
+    let mut dwarf = Dwarf::new(rt.alloc());
+    dwarf.units.add(unit)?;
+    let mut sections = new_sections(rt.alloc())?;
+    assert_eq!(rt; dwarf.units.count(), 1);
+    dwarf.write(&mut sections)?;
+    assert_eq!(rt; sections.debug_info.0.slice(), CHANGED.as_slice());
+    assert_eq!(rt; sections.debug_abbrev.0.slice(), CHANGED_TABLE.as_slice());
     Ok(())
 }
 

@@ -1,7 +1,8 @@
 -- Lines, read on the definition.
-use Rattle.std.proofs.Common.{◌≡◌, ◌∷◌, [], Some, None, Ok, Err, codes, refl}
+use Rattle.std.proofs.Common.{◌≡◌, true, false, ◌∷◌, [], Some, None, Ok, Err, codes, refl}
 use Rattle.dw_base.specs.declared.common.Format.TheVariants.{Dwarf32}
 use Rattle.dw_base.specs.declared.endianity.RunTimeEndian.TheVariants.{Big}
+use Rattle.dw_script.specs.declared.change.Change.TheVariants as change
 use Rattle.dw_script.specs.declared.command.Command.TheVariants as command
 use Rattle.dw_script.specs.declared.reason.Reason.TheVariants.{BadByte, UnknownWord, BadNumber, BadHex, WrongFields, NotBuilt}
 use Rattle.dw_script.specs.declared.value.Value.TheVariants as value
@@ -41,7 +42,7 @@ unfolding parsed_line
 unknown = refl
 
 -- a word whose other fields are not looked at yet
-not_built : parsed_line (codes "delete 0 0 1") ≡ Err NotBuilt
+not_built : parsed_line (codes "range 0 0 1") ≡ Err NotBuilt
 unfolding parsed_line
 not_built = refl
 
@@ -66,12 +67,12 @@ unfolding parsed_line
 first_cause = refl
 
 -- an entry, by the number of its tag
-add_number : parsed_line (codes "add 0 0 0x34") ≡ Ok (Some (command.Add 0 0 (record { 0 = 52 })))
+add_number : parsed_line (codes "add 0 0 0x34") ≡ Ok (Some (command.Change 0 (change.Add 0 (record { 0 = 52 }))))
 unfolding parsed_line tag_of
 add_number = refl
 
 -- the same, by its name
-add_name : parsed_line (codes "add 0 0 DW_TAG_variable") ≡ Ok (Some (command.Add 0 0 (record { 0 = 52 })))
+add_name : parsed_line (codes "add 0 0 DW_TAG_variable") ≡ Ok (Some (command.Change 0 (change.Add 0 (record { 0 = 52 }))))
 unfolding parsed_line tag_of
 add_name = refl
 
@@ -85,20 +86,60 @@ no_tag : parsed_line (codes "add 0 0") ≡ Err WrongFields
 unfolding parsed_line
 no_tag = refl
 
+-- an id for later
+reserve : parsed_line (codes "reserve 7") ≡ Ok (Some (command.Change 7 change.Reserve))
+unfolding parsed_line
+reserve = refl
+
+-- an entry of a reserved id: the id comes before the entry above it
+add_reserved : parsed_line (codes "add_reserved 1 2 3 DW_TAG_variable") ≡ Ok (Some (command.Change 1 (change.AddReserved 2 3 (record { 0 = 52 }))))
+unfolding parsed_line tag_of
+add_reserved = refl
+
+-- an entry that names the place past its children
+sibling_yes : parsed_line (codes "sibling 1 2 0x01") ≡ Ok (Some (command.Change 1 (change.Sibling 2 true)))
+unfolding parsed_line
+sibling_yes = refl
+
+-- one that doesn't
+sibling_no : parsed_line (codes "sibling 1 2 00") ≡ Ok (Some (command.Change 1 (change.Sibling 2 false)))
+unfolding parsed_line
+sibling_no = refl
+
+-- a number that is neither yes nor no
+no_flag : parsed_line (codes "sibling 1 2 2") ≡ Err BadNumber
+unfolding parsed_line
+no_flag = refl
+
+-- an attribute, left out
+delete : parsed_line (codes "delete 1 2 DW_AT_name") ≡ Ok (Some (command.Change 1 (change.Delete 2 (record { 0 = 3 }))))
+unfolding parsed_line attribute_of
+delete = refl
+
+-- a child, taken out: the entry above it comes first
+delete_child : parsed_line (codes "delete_child 1 2 3") ≡ Ok (Some (command.Change 1 (change.DeleteChild 2 3)))
+unfolding parsed_line
+delete_child = refl
+
 -- a string of the byte 0x61
-set_string : parsed_line (codes "set 0 1 DW_AT_name string 61") ≡ Ok (Some (command.Set 0 1 (record { 0 = 3 }) (value.String (97 ∷ []))))
+set_string : parsed_line (codes "set 0 1 DW_AT_name string 61") ≡ Ok (Some (command.Change 0 (change.Set 1 (record { 0 = 3 }) (value.String (97 ∷ [])))))
 unfolding parsed_line attribute_of kind_of decode_pairs
 set_string = refl
 
 -- a string of no bytes
-set_empty : parsed_line (codes "set 0 0 3 string -") ≡ Ok (Some (command.Set 0 0 (record { 0 = 3 }) (value.String [])))
+set_empty : parsed_line (codes "set 0 0 3 string -") ≡ Ok (Some (command.Change 0 (change.Set 0 (record { 0 = 3 }) (value.String []))))
 unfolding parsed_line attribute_of kind_of
 set_empty = refl
 
 -- a number of any length
-set_udata : parsed_line (codes "set 0 1 3 udata 300") ≡ Ok (Some (command.Set 0 1 (record { 0 = 3 }) (value.Udata 300)))
+set_udata : parsed_line (codes "set 0 1 3 udata 300") ≡ Ok (Some (command.Change 0 (change.Set 1 (record { 0 = 3 }) (value.Udata 300))))
 unfolding parsed_line attribute_of kind_of
 set_udata = refl
+
+-- an entry of the same unit
+set_unit_ref : parsed_line (codes "set 0 1 3 unit_ref 2") ≡ Ok (Some (command.Change 0 (change.Set 1 (record { 0 = 3 }) (value.UnitRef 2))))
+unfolding parsed_line attribute_of kind_of
+set_unit_ref = refl
 
 -- a number that is past its byte
 past_byte : parsed_line (codes "set 0 1 0x0b data1 256") ≡ Err BadNumber

@@ -1,5 +1,5 @@
 -- The typed fields of a line, each read from the front of those that are left.
-use Rattle.std.specs.Prelude.{ℕ, ◌^◌, List, [], ◌∷◌, Result, Ok, Err, ok_or, ◌==◌, if◌then◌else◌, bytes_eq, codes}
+use Rattle.std.specs.Prelude.{ℕ, ◌^◌, Bool, true, false, List, [], ◌∷◌, Result, Ok, Err, ok_or, ◌==◌, if◌then◌else◌, bytes_eq, codes}
 use Rattle.dw_base.specs.declared.common.Format.{Format}
 use Rattle.dw_base.specs.declared.common.Format.TheVariants.{Dwarf32, Dwarf64}
 use Rattle.dw_base.specs.declared.endianity.RunTimeEndian.{RunTimeEndian}
@@ -59,6 +59,13 @@ format_field fields = do
   (n, fields) ← number_field (2 ^ 8) fields
   format ← (if n == 32 then Ok Dwarf32 else (if n == 64 then Ok Dwarf64 else Err BadNumber))
   Ok (format, fields)
+
+-- yes or no, as 1 or 0, and the fields after it
+abbrev pub flag_field : Fields → Outcome (Bool × Fields)
+flag_field fields = do
+  (n, fields) ← number_field (2 ^ 8) fields
+  flag ← (if n == 0 then Ok false else (if n == 1 then Ok true else Err BadNumber))
+  Ok (flag, fields)
 
 -- a byte order, and the fields after it
 abbrev pub byte_order_field : Fields → Outcome (RunTimeEndian × Fields)

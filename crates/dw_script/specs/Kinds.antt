@@ -21,7 +21,7 @@ kinds =
     ∷ (codes "exprloc", kind.Unbuilt)
     ∷ (codes "flag", kind.Unbuilt)
     ∷ (codes "flag_present", kind.Unbuilt)
-    ∷ (codes "unit_ref", kind.Unbuilt)
+    ∷ (codes "unit_ref", kind.UnitRef)
     ∷ (codes "info_ref", kind.Unbuilt)
     ∷ (codes "info_ref_sup", kind.Unbuilt)
     ∷ (codes "line_program_ref", kind.Unbuilt)

@@ -1,13 +1,14 @@
 -- What a line of a script asks for, or why it is refused.
 use Rattle.std.specs.Prelude.{ℕ, ◌^◌, Bool, true, ◌&&◌, List, [], ◌∷◌, Option, Some, None, Ok, Err, nat_le, ◌==◌, if◌then◌else◌}
 use Rattle.std.specs.List.{list_all}
+use Rattle.dw_script.specs.declared.change.Change.TheVariants as change
 use Rattle.dw_script.specs.declared.command.Command.{Command}
 use Rattle.dw_script.specs.declared.command.Command.TheVariants as command
 use Rattle.dw_script.specs.declared.reason.Reason.TheVariants.{BadByte, NotBuilt}
 use Rattle.dw_script.specs.declared.word.Word.{Word}
 use Rattle.dw_script.specs.declared.word.Word.TheVariants as word
 use Rattle.dw_script.specs.Pieces.{pieces, space}
-use Rattle.dw_script.specs.Fields.{Fields, Outcome, ◌>>=◌, word_field, end_of_fields, number_field, format_field, byte_order_field}
+use Rattle.dw_script.specs.Fields.{Fields, Outcome, ◌>>=◌, word_field, end_of_fields, number_field, format_field, flag_field, byte_order_field}
 use Rattle.dw_script.specs.Values.{tag_field, attribute_field, value_field}
 
 -- an empty line, and one that begins with `#`, which is 35, asks for nothing
@@ -42,7 +43,33 @@ add_line fields = do
   (parent, fields) ← number_field (2 ^ 64) fields
   (tag, fields) ← tag_field fields
   _ ← end_of_fields fields
-  Ok (command.Add unit parent tag)
+  Ok (command.Change unit (change.Add parent tag))
+
+-- the fields after `reserve`: the unit
+abbrev pub reserve_line : Fields → Outcome Command
+reserve_line fields = do
+  (unit, fields) ← number_field (2 ^ 64) fields
+  _ ← end_of_fields fields
+  Ok (command.Change unit change.Reserve)
+
+-- the fields after `add_reserved`: the unit, the reserved id, the entry above the new one, and the tag
+abbrev pub add_reserved_line : Fields → Outcome Command
+add_reserved_line fields = do
+  (unit, fields) ← number_field (2 ^ 64) fields
+  (entry, fields) ← number_field (2 ^ 64) fields
+  (parent, fields) ← number_field (2 ^ 64) fields
+  (tag, fields) ← tag_field fields
+  _ ← end_of_fields fields
+  Ok (command.Change unit (change.AddReserved entry parent tag))
+
+-- the fields after `sibling`: the unit, the entry, and whether it names the place past its children
+abbrev pub sibling_line : Fields → Outcome Command
+sibling_line fields = do
+  (unit, fields) ← number_field (2 ^ 64) fields
+  (entry, fields) ← number_field (2 ^ 64) fields
+  (sibling, fields) ← flag_field fields
+  _ ← end_of_fields fields
+  Ok (command.Change unit (change.Sibling entry sibling))
 
 -- the fields after `set`: the unit, the entry, the attribute's name, and its value
 abbrev pub set_line : Fields → Outcome Command
@@ -52,14 +79,37 @@ set_line fields = do
   (name, fields) ← attribute_field fields
   (value, fields) ← value_field fields
   _ ← end_of_fields fields
-  Ok (command.Set unit entry name value)
+  Ok (command.Change unit (change.Set entry name value))
+
+-- the fields after `delete`: the unit, the entry, and the attribute's name
+abbrev pub delete_line : Fields → Outcome Command
+delete_line fields = do
+  (unit, fields) ← number_field (2 ^ 64) fields
+  (entry, fields) ← number_field (2 ^ 64) fields
+  (name, fields) ← attribute_field fields
+  _ ← end_of_fields fields
+  Ok (command.Change unit (change.Delete entry name))
+
+-- the fields after `delete_child`: the unit, the entry above the child, and the child
+abbrev pub delete_child_line : Fields → Outcome Command
+delete_child_line fields = do
+  (unit, fields) ← number_field (2 ^ 64) fields
+  (parent, fields) ← number_field (2 ^ 64) fields
+  (entry, fields) ← number_field (2 ^ 64) fields
+  _ ← end_of_fields fields
+  Ok (command.Change unit (change.DeleteChild parent entry))
 
 -- what the fields after a word ask for
 abbrev pub line_of : Word → Fields → Outcome Command
 line_of word.Order fields = order_line fields
 line_of word.Unit fields = unit_line fields
 line_of word.Add fields = add_line fields
+line_of word.Reserve fields = reserve_line fields
+line_of word.AddReserved fields = add_reserved_line fields
+line_of word.Sibling fields = sibling_line fields
 line_of word.Set fields = set_line fields
+line_of word.Delete fields = delete_line fields
+line_of word.DeleteChild fields = delete_child_line fields
 line_of _ fields = Err NotBuilt
 
 -- what the fields of a line ask for, from its word on

@@ -51,6 +51,9 @@ value_of_kind kind.Udata fields = do
 value_of_kind kind.Data1 fields = do
   (n, fields) ← number_field (2 ^ 8) fields
   Ok (value.Data1 n, fields)
+value_of_kind kind.UnitRef fields = do
+  (entry, fields) ← number_field (2 ^ 64) fields
+  Ok (value.UnitRef entry, fields)
 value_of_kind kind.Unbuilt fields = Err NotBuilt
 
 -- a value, its kind before it, and the fields after it

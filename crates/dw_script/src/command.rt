@@ -1,7 +1,7 @@
 //! What a line of a script asks for.
 
-use crate::value::Value;
-use dw_base::{DwAt, DwTag, Encoding, RunTimeEndian};
+use crate::change::Change;
+use dw_base::{Encoding, RunTimeEndian};
 
 /// One line's request.
 #[derive(Debug, Drop)]
@@ -10,17 +10,6 @@ pub enum Command<'a> {
     Order(RunTimeEndian),
     /// A new unit, encoded so.
     Unit(Encoding),
-    /// A new entry, the last child of another of its unit.
-    Add {
-        unit: u64,
-        parent: u64,
-        tag: DwTag,
-    },
-    /// A value for an attribute of an entry.
-    Set {
-        unit: u64,
-        entry: u64,
-        name: DwAt,
-        value: Value<'a>,
-    },
+    /// A change of the unit at an index.
+    Change { unit: u64, change: Change<'a> },
 }

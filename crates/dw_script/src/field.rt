@@ -3,7 +3,7 @@
 
 ghost use Rattle.std.specs.Prelude.{◌≡◌, ◌^◌, Ok, Err, MatchResult};
 ghost use Rattle.dw_script.specs.Pieces.{pieces_left};
-ghost use Rattle.dw_script.specs.Fields.{byte_order_field, end_of_fields, format_field, next_field, number_field, with_rest, word_field};
+ghost use Rattle.dw_script.specs.Fields.{byte_order_field, end_of_fields, flag_field, format_field, next_field, number_field, with_rest, word_field};
 ghost use Rattle.dw_script.specs.Values.{attribute_field, hex_field, kind_field, tag_field};
 
 use crate::code::{parse_attribute, parse_tag};
@@ -64,6 +64,18 @@ pub(crate) fn next_format(fields: &mut Pieces<'_>) -> Result<Format, Reason>
     match next_u8(fields)? {
         32 => Ok(Format::Dwarf32),
         64 => Ok(Format::Dwarf64),
+        _ => Err(Reason::BadNumber),
+    }
+}
+
+/// Yes or no, as 1 or 0.
+pub(crate) fn next_flag(fields: &mut Pieces<'_>) -> Result<bool, Reason>
+    ensures { with_rest result (pieces_left fields.new) ≡
+        flag_field (pieces_left fields.old) }
+{
+    match next_u8(fields)? {
+        0 => Ok(false),
+        1 => Ok(true),
         _ => Err(Reason::BadNumber),
     }
 }

@@ -11,6 +11,7 @@ pub(crate) enum Kind {
     String,
     Udata,
     Data1,
+    UnitRef,
     /// The kind is known, and its values not built yet.
     Unbuilt,
 }
@@ -30,7 +31,7 @@ const KINDS: [(&[u8], Kind); 39] = [
     (b"exprloc", Kind::Unbuilt),
     (b"flag", Kind::Unbuilt),
     (b"flag_present", Kind::Unbuilt),
-    (b"unit_ref", Kind::Unbuilt),
+    (b"unit_ref", Kind::UnitRef),
     (b"info_ref", Kind::Unbuilt),
     (b"info_ref_sup", Kind::Unbuilt),
     (b"line_program_ref", Kind::Unbuilt),

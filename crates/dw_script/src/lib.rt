@@ -2,6 +2,7 @@
 //! `parsed_line` in `specs/`.
 #![tactic(auto)]
 
+mod change;
 mod code;
 mod command;
 mod field;
@@ -16,6 +17,7 @@ mod table;
 mod value;
 mod word;
 
+pub use change::Change;
 pub use command::Command;
 pub use hex_bytes::HexBytes;
 pub use line::parse_line;

@@ -2,12 +2,13 @@
 
 ghost use Rattle.std.specs.Prelude.{◌≡◌};
 ghost use Rattle.dw_script.specs.Pieces.{pieces_left};
-ghost use Rattle.dw_script.specs.Lines.{add_line, all_printable, command_of, order_line, parsed_line, passed_over, set_line, unit_line};
+ghost use Rattle.dw_script.specs.Lines.{add_line, add_reserved_line, all_printable, command_of, delete_child_line, delete_line, order_line, parsed_line, passed_over, reserve_line, set_line, sibling_line, unit_line};
 
+use crate::change::Change;
 use crate::command::Command;
 use crate::field::{
-    expect_end, next_attribute, next_byte_order, next_format, next_tag, next_u8, next_u16,
-    next_u64, next_word,
+    expect_end, next_attribute, next_byte_order, next_flag, next_format, next_tag, next_u8,
+    next_u16, next_u64, next_word,
 };
 use crate::pieces::Pieces;
 use crate::reason::Reason;
@@ -54,9 +55,20 @@ fn parse_fields(mut fields: Pieces<'_>) -> Result<Command<'_>, Reason>
         Word::Order => parse_order(fields),
         Word::Unit => parse_unit(fields),
         Word::Add => parse_add(fields),
+        Word::Reserve => parse_reserve(fields),
+        Word::AddReserved => parse_add_reserved(fields),
+        Word::Sibling => parse_sibling(fields),
         Word::Set => parse_set(fields),
+        Word::Delete => parse_delete(fields),
+        Word::DeleteChild => parse_delete_child(fields),
         _ => Err(Reason::NotBuilt),
     }
+}
+
+fn change_of(unit: u64, change: Change<'_>) -> Command<'_>
+    ensures { result ≡ Command.Change unit change.entry }
+{
+    Command::Change { unit, change }
 }
 
 fn parse_order(mut fields: Pieces<'_>) -> Result<Command<'_>, Reason>
@@ -88,7 +100,36 @@ fn parse_add(mut fields: Pieces<'_>) -> Result<Command<'_>, Reason>
     let parent = next_u64(&mut fields)?;
     let tag = next_tag(&mut fields)?;
     expect_end(fields)?;
-    Ok(Command::Add { unit, parent, tag })
+    Ok(change_of(unit, Change::Add { parent, tag }))
+}
+
+fn parse_reserve(mut fields: Pieces<'_>) -> Result<Command<'_>, Reason>
+    ensures { result ≡ reserve_line (pieces_left fields.entry) }
+{
+    let unit = next_u64(&mut fields)?;
+    expect_end(fields)?;
+    Ok(change_of(unit, Change::Reserve))
+}
+
+fn parse_add_reserved(mut fields: Pieces<'_>) -> Result<Command<'_>, Reason>
+    ensures { result ≡ add_reserved_line (pieces_left fields.entry) }
+{
+    let unit = next_u64(&mut fields)?;
+    let entry = next_u64(&mut fields)?;
+    let parent = next_u64(&mut fields)?;
+    let tag = next_tag(&mut fields)?;
+    expect_end(fields)?;
+    Ok(change_of(unit, Change::AddReserved { entry, parent, tag }))
+}
+
+fn parse_sibling(mut fields: Pieces<'_>) -> Result<Command<'_>, Reason>
+    ensures { result ≡ sibling_line (pieces_left fields.entry) }
+{
+    let unit = next_u64(&mut fields)?;
+    let entry = next_u64(&mut fields)?;
+    let sibling = next_flag(&mut fields)?;
+    expect_end(fields)?;
+    Ok(change_of(unit, Change::Sibling { entry, sibling }))
 }
 
 fn parse_set(mut fields: Pieces<'_>) -> Result<Command<'_>, Reason>
@@ -99,10 +140,25 @@ fn parse_set(mut fields: Pieces<'_>) -> Result<Command<'_>, Reason>
     let name = next_attribute(&mut fields)?;
     let value = next_value(&mut fields)?;
     expect_end(fields)?;
-    Ok(Command::Set {
-        unit,
-        entry,
-        name,
-        value,
-    })
+    Ok(change_of(unit, Change::Set { entry, name, value }))
+}
+
+fn parse_delete(mut fields: Pieces<'_>) -> Result<Command<'_>, Reason>
+    ensures { result ≡ delete_line (pieces_left fields.entry) }
+{
+    let unit = next_u64(&mut fields)?;
+    let entry = next_u64(&mut fields)?;
+    let name = next_attribute(&mut fields)?;
+    expect_end(fields)?;
+    Ok(change_of(unit, Change::Delete { entry, name }))
+}
+
+fn parse_delete_child(mut fields: Pieces<'_>) -> Result<Command<'_>, Reason>
+    ensures { result ≡ delete_child_line (pieces_left fields.entry) }
+{
+    let unit = next_u64(&mut fields)?;
+    let parent = next_u64(&mut fields)?;
+    let entry = next_u64(&mut fields)?;
+    expect_end(fields)?;
+    Ok(change_of(unit, Change::DeleteChild { parent, entry }))
 }

@@ -24,6 +24,8 @@ pub enum Reason {
     NoSuchUnit,
     /// No entry of the unit has the index.
     NoSuchEntry,
+    /// The id isn't reserved, or has its entry already.
+    NotReserved,
     /// The tag is one that no entry may have.
     BadTag,
     /// The name is one that no attribute may have.
@@ -45,6 +47,7 @@ impl Reason {
             Reason::OrderNotFirst => "order not first",
             Reason::NoSuchUnit => "no such unit",
             Reason::NoSuchEntry => "no such entry",
+            Reason::NotReserved => "not reserved",
             Reason::BadTag => "bad tag",
             Reason::BadName => "bad name",
         }

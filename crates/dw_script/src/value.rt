@@ -20,6 +20,8 @@ pub enum Value<'a> {
     Udata(u64),
     /// A number of one byte.
     Data1(u8),
+    /// An entry of the same unit.
+    UnitRef(u64),
 }
 
 /// A value, its kind before it.
@@ -31,6 +33,7 @@ pub(crate) fn next_value<'a>(fields: &mut Pieces<'a>) -> Result<Value<'a>, Reaso
         Kind::String => Ok(Value::String(next_hex_bytes(fields)?)),
         Kind::Udata => Ok(Value::Udata(next_u64(fields)?)),
         Kind::Data1 => Ok(Value::Data1(next_u8(fields)?)),
+        Kind::UnitRef => Ok(Value::UnitRef(next_u64(fields)?)),
         Kind::Unbuilt => Err(Reason::NotBuilt),
     }
 }

@@ -1,10 +1,11 @@
 -- One entry changed, and what is seen of the others.
-use Rattle.std.proofs.Common.{◌≡◌, ◌≢◌, ◌∙◌, sym, ap, ℕ, zero, suc, ◌<◌, List, [], ◌∷◌, Option, Some, refl, arith, length}
+use Rattle.std.proofs.Common.{◌≡◌, ◌≢◌, ◌∙◌, sym, ap, ℕ, zero, suc, ◌<◌, List, [], ◌∷◌, Option, Some, None, refl, arith, length}
 use Rattle.std.specs.Prelude.{slice_get, slice_set}
 use Rattle.std.proofs.Math.ListN.{get_or, length-set}
 use Rattle.std.proofs.lemmas.Option.{slice_get_read}
 use Rattle.std.proofs.lemmas.List.{set-get_or}
 use Rattle.dw_unit.specs.Entries.{EntryValue, with_changed, with_child, placed_under, with_new_child}
+use Rattle.dw_unit.specs.Arena.{AreNumbered}
 
 set_is_changed : (i : ℕ) (f : EntryValue → EntryValue) (es : List EntryValue) (e : EntryValue) → slice_get es i ≡ Some e → slice_set es i (f e) ≡ with_changed i f es
 set_is_changed i f [] e h = refl
@@ -47,3 +48,22 @@ module _ {X : Type 0} (see : Option EntryValue → X) where
   seen_changed i f [] g makes within = absurd (omega arith)
   seen_changed zero f (e ∷ es) g makes within = makes e
   seen_changed (suc i) f (e ∷ es) g makes within = seen_changed i f es g makes (omega arith)
+
+-- the id of an entry that is there
+abbrev id_if_any : Option EntryValue → Option ℕ
+id_if_any None = None
+id_if_any (Some e) = Some e.id
+
+-- a change that keeps the entry's id
+pub numbered_changed : (i : ℕ) (f : EntryValue → EntryValue) (es : List EntryValue) → ((e : EntryValue) → (f e).id ≡ e.id) → AreNumbered es → AreNumbered (with_changed i f es)
+numbered_changed i f es ids numbers k e h =
+    go (slice_get es k) refl (sym (ap id_if_any h) ∙ seen_kept id_if_any i f es (λ x. ap Some (ids x)) k)
+  where
+    go : (o : Option EntryValue) → slice_get es k ≡ o → Some e.id ≡ id_if_any o → e.id ≡ k
+    go None at same = absurd cc
+    go (Some x) at same = let was : x.id ≡ k = numbers k x at in cc
+
+-- a child added under its parent
+pub numbered_new_child : (child parent tag : ℕ) (es : List EntryValue) → AreNumbered es → AreNumbered (with_new_child child parent tag es)
+numbered_new_child child parent tag es numbers =
+    numbered_changed child (placed_under parent tag) (with_changed parent (with_child child) es) (λ e. refl) (numbered_changed parent (with_child child) es (λ e. refl) numbers)

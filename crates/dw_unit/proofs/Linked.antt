@@ -31,7 +31,7 @@ linked_changed i f es ps ts cs links =
 -- blank entries behind the others
 pub linked_filled : (n : ℕ) (es : List EntryValue) → AreLinked es → AreLinked (filled_up n es)
 linked_filled n es links =
-    linked_same es (filled_up n es) links (seen_filled parent_or_none refl n es) (seen_filled tag_or_zero refl n es) (seen_filled children_or_none refl n es)
+    linked_same es (filled_up n es) links (seen_filled parent_or_none (λ i. refl) n es) (seen_filled tag_or_zero (λ i. refl) n es) (seen_filled children_or_none (λ i. refl) n es)
 
 -- Without a child.
 
@@ -47,7 +47,8 @@ absent x (c ∷ cs) h = (here (x == c) refl, absent x cs (λ t. h (later (x == c
     here true e = absurd (h (ap (λ t. t || list_any (λ y. x == y) cs) e))
     here false e = e
 
-not_in : (x : ℕ) (cs : List ℕ) → AllByRecursion (λ y. (x == y) ≡ false) cs → HasChild cs x → ⊥
+-- an index that no member equals is no child
+pub not_in : (x : ℕ) (cs : List ℕ) → AllByRecursion (λ y. (x == y) ≡ false) cs → HasChild cs x → ⊥
 not_in x [] a h = false≢true h
 not_in x (c ∷ cs) a h = not_in x cs a.1 (sym (ap (λ t. t || list_any (λ y. x == y) cs) a.0) ∙ h)
 

@@ -39,4 +39,4 @@ mark_at items k d below = sym (get_or-map mark_of items k d (mark_of (get_or ite
 
 -- the entry that was indexed
 pub indexed : (es : List EntryValue) (i : ℕ) (x : EntryValue) → i < length es → x ≡ get_or es i x → x ≡ entry_at es i
-indexed es i x below is = is ∙ get_or_default es i x blank_entry below
+indexed es i x below is = is ∙ get_or_default es i x (blank_entry 0) below

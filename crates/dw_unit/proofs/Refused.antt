@@ -1,14 +1,15 @@
 -- Why a unit is refused whose entries are.
-use Rattle.std.proofs.Common.{◌≡◌, ◌<◌, subst, List}
+use Rattle.std.proofs.Common.{◌≡◌, ◌<◌, subst, Bool, List}
 use Rattle.dw_base.specs.declared.common.Encoding.{Encoding}
 use Rattle.dw_base.specs.declared.error.Error.{Error}
-use Rattle.dw_base.specs.declared.error.Error.TheVariants.{NoMemory, WriteFault, ValueTooLarge, InvalidAttributeValue, InitialLengthOverflow}
+use Rattle.dw_base.specs.declared.error.Error.TheVariants.{NoMemory, WriteFault, ValueTooLarge, InvalidAttributeValue, InvalidReference, InitialLengthOverflow}
 use Rattle.dw_writer.specs.Contents.{Meaning}
 use Rattle.dw_writer.specs.Sections.{fault_sum}
 use Rattle.dw_writer.specs.declared.sections.Sections.{Sections}
 use Rattle.dw_unit.specs.Entries.{EntryValue}
 use Rattle.dw_unit.specs.UnitValue.{UnitValue}
 use Rattle.dw_unit.specs.Whole.{settled}
+use Rattle.dw_unit.specs.Valid.{IsWritableTree, IsWritable}
 use Rattle.dw_unit.specs.Causes.{TreeRefused, UnitRefused}
 
 module _ {W : Type 0} (meaning : W → Meaning) (old new : Sections W) (u : UnitValue) where
@@ -18,6 +19,7 @@ module _ {W : Type 0} (meaning : W → Meaning) (old new : Sections W) (u : Unit
   settled_refused WriteFault h = h
   settled_refused ValueTooLarge h = h
   settled_refused InvalidAttributeValue h = h
+  settled_refused InvalidReference h = h
   settled_refused InitialLengthOverflow h = h
   settled_refused _ h = absurd h
 
@@ -31,3 +33,8 @@ module _ {W : Type 0} (meaning : W → Meaning) (old new : Sections W) (u : Unit
       let big = (meaning old.debug_info.0).is_big in
       settled_refused error
       (subst (λ x. TreeRefused rise plain place big u.encoding x error) is_es (subst (λ x. TreeRefused rise plain place big x es error) is_e h))
+
+-- a tree that can be written, where its entries are those of the settled unit
+pub settled_writable : (big : Bool) (u : UnitValue) (e : Encoding) (es : List EntryValue) → e ≡ u.encoding → es ≡ (settled u).entries → IsWritableTree big e es → IsWritable big u
+settled_writable big u e es is_e is_es h =
+    subst (λ x. IsWritableTree big u.encoding x) is_es (subst (λ x. IsWritableTree big x es) is_e h)

@@ -10,7 +10,7 @@ use Rattle.dw_unit.specs.Entries.{EntryValue, parent_of, tag_of, children_of, ta
 use Rattle.dw_unit.specs.Arena.{AreLinked, HasChild, IsArena}
 use Rattle.dw_unit.specs.Settled.{with_children, is_base, base_children, other_children, bases_first, settled_entries}
 use Rattle.dw_unit.specs.Lends.{length-with_changed}
-use Rattle.dw_unit.proofs.Changed.{seen_kept}
+use Rattle.dw_unit.proofs.Changed.{seen_kept, numbered_changed}
 use Rattle.dw_unit.proofs.Filtered.{kept, distinct_filter, distinct_append}
 
 pub has-bases_first : (es : List EntryValue) (cs : List ℕ) (c : ℕ) → HasChild (bases_first es cs) c → HasChild cs c
@@ -71,7 +71,7 @@ linked_settled es links = record {
 pub arena_settled : (es : List EntryValue) (reserved : ℕ) (is_written is_freed : Bool) → IsArena es reserved is_written is_freed → IsArena (settled_entries es) reserved is_written is_freed
 arena_settled es reserved is_written is_freed s =
     let len = length-with_changed 0 (λ e. with_children (bases_first es e.children) e) es in
-    record { linked = linked_settled es s.linked; within = omega (arith, s.within, len); rooted = λ h. omega (arith, s.rooted h, len); tagged = λ h none. s.tagged h (sym (tag_of-settled es 0) ∙ none); written = s.written }
+    record { linked = linked_settled es s.linked; numbered = numbered_changed 0 (λ e. with_children (bases_first es e.children) e) es (λ e. refl) s.numbered; within = omega (arith, s.within, len); rooted = λ h. omega (arith, s.rooted h, len); tagged = λ h none. s.tagged h (sym (tag_of-settled es 0) ∙ none); written = s.written }
 
 -- Twice is once.
 

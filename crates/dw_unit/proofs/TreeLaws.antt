@@ -34,6 +34,11 @@ module _ (es : List EntryValue) where
   skip zero i d rest = refl
   skip (suc n) i d rest = under (tree_from n es) (skip n) (children_of es i) d rest
 
+  -- the tree leaves as many lists open as there were
+  pub preorder_closes : closes 1 (map (children_in es) (preorder es) ++ Close ∷ []) ≡ true
+  unfolding kinds preorder closes
+  preorder_closes = skip (length es) 0 0 (Close ∷ [])
+
   root_alone : (f : ℕ → List (Mark ℕ)) → ((i d : ℕ) (rest : List (Mark Bool)) → closes (suc d) (kinds (f i) ++ rest) ≡ closes (suc d) rest) → (cs : List ℕ) → is_one_tree (Open (has_any cs) ∷ kinds (closed cs (flat_map f cs))) ≡ true
   unfolding kinds closes is_one_tree
   root_alone f h [] = refl

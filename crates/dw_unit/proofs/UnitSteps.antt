@@ -13,7 +13,7 @@ use Rattle.dw_base.proofs.HeaderLaws.{length-content}
 use Rattle.dw_base.specs.Spelling.{fields_bytes, fields_size, header_size, body_bytes, table_bytes}
 use Rattle.dw_base.specs.declared.common.Encoding.{Encoding}
 use Rattle.dw_base.specs.declared.error.Error.{Error}
-use Rattle.dw_base.specs.declared.error.Error.TheVariants.{NoMemory, WriteFault, OffsetOutOfBounds, LengthOutOfBounds, InitialLengthOverflow, ValueTooLarge, InvalidAttributeValue}
+use Rattle.dw_base.specs.declared.error.Error.TheVariants.{NoMemory, WriteFault, OffsetOutOfBounds, LengthOutOfBounds, InitialLengthOverflow, ValueTooLarge, InvalidAttributeValue, InvalidReference}
 use Rattle.dw_base.specs.declared.section_id.SectionId.TheVariants.{DebugAbbrev}
 use Rattle.dw_writer.specs.Texts.{zeros}
 use Rattle.dw_writer.specs.Meaning.{Meaning, Adds, Replaces, Appends}
@@ -25,13 +25,19 @@ use Rattle.dw_writer.proofs.Plain.{Adds-number, Replaces-number}
 use Rattle.dw_abbrev.specs.Codes.{declarations}
 use Rattle.dw_unit.specs.Entries.{EntryValue, tag_of}
 use Rattle.dw_unit.specs.Arena.{AreLinked}
-use Rattle.dw_unit.specs.Valid.{is_version, is_encodable}
-use Rattle.dw_unit.specs.Tree.{preorder}
-use Rattle.dw_unit.specs.Coded.{are_spelled, shapes_of, coded, HaveOperands}
+use Rattle.dw_unit.specs.Valid.{is_version, is_encodable, are_references_inside}
+use Rattle.dw_unit.specs.Shapes.{Placement}
+use Rattle.dw_unit.specs.Laid.{sizes_of}
+use Rattle.dw_unit.specs.Places.{has_place, IsSamePlacement}
+use Rattle.dw_unit.specs.Tree.{preorder, has_entry}
+use Rattle.dw_unit.specs.Coded.{are_spelled, are_placed, shapes_of, coded, HaveOperands}
 use Rattle.dw_unit.specs.UnitText.{fields_text, unit_length, unit_text}
 use Rattle.dw_unit.specs.Causes.{FieldsRefused, BodyRefused, TreeRefused}
-use Rattle.dw_unit.specs.Whole.{tree_bytes, tree_table, tree_shapes, tree_read, tree_declared}
+use Rattle.dw_unit.specs.Whole.{tree_bytes, tree_table, tree_shapes, tree_size, tree_placement, tree_read, tree_declared}
 use Rattle.dw_unit.proofs.TreeLaws.{preorder_one_tree}
+use Rattle.dw_unit.proofs.ReadPlaces.{coded-same}
+use Rattle.dw_unit.proofs.SamePlaces.{are_placed-same}
+use Rattle.dw_unit.proofs.SizeLaws.{length-body_bytes}
 use Rattle.dw_unit.proofs.Tagged.{root_within}
 use Rattle.dw_unit.proofs.Seen.{children-coded}
 use Rattle.dw_unit.proofs.CodedUnit.{IsUnit-written}
@@ -99,11 +105,12 @@ length_refused old mid new e es table k p n InitialLengthOverflow r at within fa
 length_refused old mid new e es table k p n _ r at within faults = absurd r.1
 
 -- why the entries are refused
-pub body_refused : (old mid new : Meaning) (e : Encoding) (es : List EntryValue) (table : ℕ) (error : Error) → BodyRefused mid new (are_spelled es (preorder es)) error →
+pub body_refused : (old mid new : Meaning) (e : Encoding) (es : List EntryValue) (table : ℕ) (error : Error) → BodyRefused mid new (are_spelled es (preorder es)) (are_references_inside es) error →
     old.faults ≤ mid.faults → TreeRefused (HasRisen old new) old.is_plain table old.is_big e es error
 body_refused old mid new e es table NoMemory r faults = tt
 body_refused old mid new e es table WriteFault r faults = omega (arith, r)
 body_refused old mid new e es table InvalidAttributeValue r faults = r
+body_refused old mid new e es table InvalidReference r faults = r
 body_refused old mid new e es table _ r faults = absurd r
 
 -- why the header is refused
@@ -127,10 +134,26 @@ nat_le-holds : (a b : ℕ) → IsTrue (nat_le a b) → a ≤ b
 nat_le-holds a b h = grind (arith, nat_tests)
 
 -- the entries, in the words of the tree
-pub tree_added : {m2 m3 : Meaning} (big : Bool) (e : Encoding) (es : List EntryValue) (ms : List (Mark ℕ)) → ms ≡ preorder es → m2.is_big ≡ big →
-    Adds m2 m3 (body_bytes m2.is_big e (coded e es (shapes_of e es [] ms) ms)) → Adds m2 m3 (tree_bytes big e es)
-tree_added {m2} {m3} big e es ms tree order h =
-    subst (λ b. Adds m2 m3 (tree_bytes b e es)) order (subst (λ l. Adds m2 m3 (body_bytes m2.is_big e (coded e es (shapes_of e es [] l) l))) tree h)
+pub tree_added : {m2 m3 : Meaning} (big : Bool) (e : Encoding) (es : List EntryValue) (p : Placement) (ms : List (Mark ℕ)) → ms ≡ preorder es → m2.is_big ≡ big → IsSamePlacement p (tree_placement e es) →
+    Adds m2 m3 (body_bytes m2.is_big e (coded e es p (shapes_of e es [] ms) ms)) → Adds m2 m3 (tree_bytes big e es)
+tree_added {m2} {m3} big e es p ms tree order same h =
+    let of_tree = subst (λ l. Adds m2 m3 (body_bytes m2.is_big e (coded e es p (shapes_of e es [] l) l))) tree h in
+    let at_places = subst (λ l. Adds m2 m3 (body_bytes m2.is_big e l)) (coded-same e es p (tree_placement e es) (tree_shapes e es) (preorder es) same) of_tree in
+    subst (λ b. Adds m2 m3 (tree_bytes b e es)) order at_places
+
+-- A unit that a writer holds is not longer than its numbers tell, so no place in it was cut off.
+pub unit_small : {m0 m1 m2 m3 : Meaning} (e : Encoding) (es : List EntryValue) (p : Placement) (ms : List (Mark ℕ)) (big : Bool) (table k : ℕ) → ms ≡ preorder es →
+    Adds m0 m1 (escape_of e.format ++ zeros (word_of e.format)) → Appends m1 m2 (fields_size e) (fields_text e table) →
+    Adds m2 m3 (body_bytes big e (coded e es p (shapes_of e es [] ms) ms)) → k ≡ m3.size → k < 2 ^ 64 → header_size e + tree_size e es < 2 ^ 64
+unit_small {m0} {m1} {m2} {m3} e es p ms big table k tree start fields body at small =
+    let size = length-body_bytes big e es p (shapes_of e es [] ms) ms in
+    let of_tree : sizes_of e es (shapes_of e es [] ms) ms ≡ tree_size e es = ap (λ l. sizes_of e es (shapes_of e es [] l) l) tree in
+    omega (arith, start.size, fields.size, body.size, size, of_tree, length-append (escape_of e.format) (zeros (word_of e.format)), length-zeros (word_of e.format))
+
+-- the entries that have a place are those of the tree
+pub references_are : (es : List EntryValue) (p : Placement) (ms : List (Mark ℕ)) → ms ≡ preorder es → ((i : ℕ) → has_place p i ≡ has_entry (preorder es) i) → are_placed (has_place p) es ms ≡ are_references_inside es
+references_are es p ms tree inside =
+    ap (are_placed (has_place p) es) tree ∙ are_placed-same (has_place p) (has_entry (preorder es)) es (preorder es) inside
 
 -- the shapes that were found are the tree's
 pub table_added : {m0 m1 : Meaning} (e : Encoding) (es : List EntryValue) (ms : List (Mark ℕ)) (shapes : List Shape) → ms ≡ preorder es → shapes ≡ shapes_of e es [] ms →
@@ -146,7 +169,7 @@ place_plain false w place e h = cc
 -- the unit that stands can be read again
 pub tree_is_unit : (big : Bool) (e : Encoding) (place : ℕ) (es : List EntryValue) (ms : List (Mark ℕ)) (shapes : List Shape) (items : ℕ) → AreLinked es → tag_of es 0 ≢ 0 →
     ms ≡ preorder es → shapes ≡ shapes_of e es [] ms → items ≡ length ms → items < 2 ^ 64 → IsTrue (is_encodable e) → IsTrue (fits (word_of e.format) place) →
-    IsTrue (length_fits e.format (unit_length e (tree_bytes big e es))) → AreDeclarations (declarations shapes) → HaveOperands e es (preorder es) →
+    IsTrue (length_fits e.format (unit_length e (tree_bytes big e es))) → AreDeclarations (declarations shapes) → HaveOperands e es (tree_placement e es) (preorder es) →
     IsUnit big e place (tree_declared e es) (tree_read e es)
 tree_is_unit big e place es ms shapes items links tag tree found count few encodable place_fits long declared operands =
     let version = and_left (is_version e.version) (is_width e.address_size) encodable in
@@ -156,8 +179,8 @@ tree_is_unit big e place es ms shapes items links tag tree found count few encod
     let small : length (preorder es) < 2 ^ 64 = omega (arith, count, few, ap length tree) in
     let content : length (fields_bytes big e place ++ tree_bytes big e es) ≡ unit_length e (tree_bytes big e es) = length-content big e place (tree_bytes big e es) in
     let some : 0 < length es = root_within es tag in
-    let one : IsTrue (is_one_tree (map children_of (tree_read e es))) = ap is_one_tree (children-coded e es (tree_shapes e es) (preorder es)) ∙ preorder_one_tree es some in
-    IsUnit-written big e place es (preorder es) low high width place_fits (ap (length_fits e.format) content ∙ long) one small
+    let one : IsTrue (is_one_tree (map children_of (tree_read e es))) = ap is_one_tree (children-coded e es (tree_placement e es) (tree_shapes e es) (preorder es)) ∙ preorder_one_tree es some in
+    IsUnit-written big e place es (tree_placement e es) (preorder es) low high width place_fits (ap (length_fits e.format) content ∙ long) one small
     (subst (λ t. AreDeclarations (declarations t)) (found ∙ ap (shapes_of e es []) tree) declared) operands
 
 -- what four facts of a success come to

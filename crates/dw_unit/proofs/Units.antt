@@ -6,32 +6,33 @@ use Rattle.std.proofs.lemmas.Bool.{false≢true}
 use Rattle.std.proofs.lemmas.Option.{slice_get_past, slice_get_read}
 use Rattle.std.proofs.Math.ListN.{get_or}
 use Rattle.dw_unit.specs.Entries.{EntryValue, parent_of, tag_of, children_of, attributes_of, tag_or_zero, attributes_or_none, with_changed, filled_up, with_child, placed_under, with_new_child, without_child}
-use Rattle.dw_unit.specs.Arena.{AreLinked, HasChild, IsArena}
+use Rattle.dw_unit.specs.Arena.{AreLinked, AreNumbered, HasChild, IsArena}
 use Rattle.dw_unit.specs.UnitValue.{UnitValue, IsReserved, IsSound}
-use Rattle.dw_unit.proofs.Changed.{changed_at, same_at, seen_kept, seen_other}
+use Rattle.dw_unit.proofs.Changed.{changed_at, same_at, seen_kept, seen_other, numbered_changed, numbered_new_child}
 use Rattle.dw_unit.specs.Lends.{length-with_changed}
-use Rattle.dw_unit.proofs.Filled.{length-filled_up, seen_filled}
+use Rattle.dw_unit.proofs.Filled.{length-filled_up, seen_filled, numbered_filled}
 use Rattle.dw_unit.proofs.Linked.{linked_changed, linked_without, linked_filled, linked_new_child}
 
-pub sound_changed : (i : ℕ) (f : EntryValue → EntryValue) (u : UnitValue) → ((e : EntryValue) → (f e).tag ≡ e.tag) → AreLinked (with_changed i f u.entries) → IsSound u → IsSound (record u { entries = with_changed i f u.entries })
-sound_changed i f u tags links s =
+pub sound_changed : (i : ℕ) (f : EntryValue → EntryValue) (u : UnitValue) → ((e : EntryValue) → (f e).id ≡ e.id) → ((e : EntryValue) → (f e).tag ≡ e.tag) → AreLinked (with_changed i f u.entries) → IsSound u → IsSound (record u { entries = with_changed i f u.entries })
+sound_changed i f u ids tags links s =
     let len = length-with_changed i f u.entries in
     let root : tag_of (with_changed i f u.entries) 0 ≡ tag_of u.entries 0 = seen_kept tag_or_zero i f u.entries tags 0 in
-    record { linked = links; within = omega (arith, s.within, len); rooted = λ h. omega (arith, s.rooted h, len); tagged = λ h none. s.tagged h (sym root ∙ none); written = s.written }
+    record { linked = links; numbered = numbered_changed i f u.entries ids s.numbered; within = omega (arith, s.within, len); rooted = λ h. omega (arith, s.rooted h, len); tagged = λ h none. s.tagged h (sym root ∙ none); written = s.written }
 
--- parents, tags and children stay
+-- ids, parents, tags and children stay
 pub record IsInner (f : EntryValue → EntryValue) : Type 0 where
+  pub id : (e : EntryValue) → (f e).id ≡ e.id
   pub parent : (e : EntryValue) → (f e).parent ≡ e.parent
   pub tag : (e : EntryValue) → (f e).tag ≡ e.tag
   pub children : (e : EntryValue) → (f e).children ≡ e.children
 
 pub sound_inner : (i : ℕ) (f : EntryValue → EntryValue) (u : UnitValue) → IsInner f → IsSound u → IsSound (record u { entries = with_changed i f u.entries })
 sound_inner i f u inner s =
-    sound_changed i f u inner.tag (linked_changed i f u.entries inner.parent inner.tag inner.children s.linked) s
+    sound_changed i f u inner.id inner.tag (linked_changed i f u.entries inner.parent inner.tag inner.children s.linked) s
 
 pub sound_without : (i c : ℕ) (u : UnitValue) → IsSound u → IsSound (record u { entries = with_changed i (without_child c) u.entries })
 sound_without i c u s =
-    sound_changed i (without_child c) u (λ e. refl) (linked_without c i u.entries s.linked) s
+    sound_changed i (without_child c) u (λ e. refl) (λ e. refl) (linked_without c i u.entries s.linked) s
 
 -- The entry at an index was changed: `u` is the unit as its fields were, and `v` its value.
 module _ (i n : ℕ) (u v : UnitValue) (e new : EntryValue) (is : u ≡ v) (len : n ≡ length u.entries) (within : i < length v.entries) (read : e ≡ get_or u.entries i e) where
@@ -89,9 +90,10 @@ arena_added es reserved count child parent tag is_written is_freed s more fresh 
     let all : length (with_new_child child parent tag filled) ≡ count = length-with_new_child child parent tag count es (omega (arith, s.within)) in
     let above = with_changed parent (with_child child) filled in
     let root : tag_of (with_new_child child parent tag filled) 0 ≡ tag_of es 0 =
-    seen_other tag_or_zero child (placed_under parent tag) above 0 (λ same. omega (arith, same)) ∙ seen_kept tag_or_zero parent (with_child child) filled (λ e. refl) 0 ∙ seen_filled tag_or_zero refl count es 0 in
+    seen_other tag_or_zero child (placed_under parent tag) above 0 (λ same. omega (arith, same)) ∙ seen_kept tag_or_zero parent (with_child child) filled (λ e. refl) 0 ∙ seen_filled tag_or_zero (λ i. refl) count es 0 in
     record {
-      linked = linked_new_child filled child parent tag (omega arith) (omega arith) (linked_filled count es s.linked) (seen_filled tag_or_zero refl count es child ∙ fresh) some tagged;
+      linked = linked_new_child filled child parent tag (omega arith) (omega arith) (linked_filled count es s.linked) (seen_filled tag_or_zero (λ i. refl) count es child ∙ fresh) some tagged;
+      numbered = numbered_new_child child parent tag filled (numbered_filled count es s.numbered);
       within = omega arith;
       rooted = λ h. omega arith;
       tagged = λ h none. s.tagged h (sym root ∙ none);
@@ -119,10 +121,14 @@ arena_added_next u v new child parent tag is next parent_in tagged in_use ok s =
     subst sound (sym ok) (arena_added u.entries u.reserved (u.reserved + 1) child parent tag u.is_written u.is_freed s (omega arith) (tag_past u.entries child (omega (arith, s.within))) (omega (arith, s.within)) (omega arith) (omega arith) tagged)
 
 -- the root alone
-pub arena_new : (e : EntryValue) (es : List EntryValue) → es ≡ e ∷ [] → e.parent ≡ None → e.tag ≢ 0 → e.children ≡ [] → IsArena es 1 false false
+pub arena_new : (e : EntryValue) (es : List EntryValue) → es ≡ e ∷ [] → e.id ≡ 0 → e.parent ≡ None → e.tag ≢ 0 → e.children ≡ [] → IsArena es 1 false false
 unfolding IsDistinct
-arena_new e es is parent tag children = subst (λ xs. IsArena xs 1 false false) (sym is) (record { linked = record { own = own; once = once; root = parent; unadded = unadded }; within = omega arith; rooted = λ h. omega arith; tagged = λ h. tag; written = λ h. absurd (false≢true h) })
+arena_new e es is id parent tag children = subst (λ xs. IsArena xs 1 false false) (sym is) (record { linked = record { own = own; once = once; root = parent; unadded = unadded }; numbered = numbered; within = omega arith; rooted = λ h. omega arith; tagged = λ h. tag; written = λ h. absurd (false≢true h) })
   where
+    numbered : AreNumbered (e ∷ [])
+    numbered zero x h = let same : x ≡ e = cc in ap (λ y. y.id) same ∙ id
+    numbered (suc i) x h = absurd cc
+
     unadded : (i : ℕ) → tag_of (e ∷ []) i ≡ 0 → parent_of (e ∷ []) i ≡ None
     unadded zero h = parent
     unadded (suc i) h = refl

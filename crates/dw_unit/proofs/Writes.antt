@@ -7,7 +7,7 @@ use Rattle.std.proofs.lemmas.List.{map_more, flat_map_more}
 use Rattle.std.proofs.lemmas.List.Folds.{list_all_more, list_all_at}
 use Rattle.std.proofs.lemmas.List.Elements.{All-nil, All-cons, All-append}
 use Rattle.dw_base.specs.declared.error.Error.{Error}
-use Rattle.dw_base.specs.declared.error.Error.TheVariants.{NoMemory, WriteFault, InvalidAttributeValue}
+use Rattle.dw_base.specs.declared.error.Error.TheVariants.{NoMemory, WriteFault, InvalidAttributeValue, InvalidReference}
 use Rattle.dw_writer.specs.Meaning.{Meaning, IsSameWriter, Adds}
 use Rattle.dw_writer.proofs.Steps.{Adds-then}
 use Rattle.dw_unit.specs.Causes.{BodyRefused}
@@ -39,8 +39,9 @@ module _ {X : Type 0} (test : X → Bool) (xs : List X) (i : ℕ) (x : X) (below
   fails_at here = list_all_at test xs i x below (ap test (sym is) ∙ here)
 
 -- why values are refused after calls that wrote
-pub refused_after : (a b c : Meaning) (s t : Bool) (e : Error) → IsSameWriter a b → (IsFalse s → IsFalse t) → BodyRefused b c s e → BodyRefused a c t e
-refused_after a b c s t NoMemory same f h = tt
-refused_after a b c s t WriteFault same f h = omega (arith, same.faults)
-refused_after a b c s t InvalidAttributeValue same f h = f h
-refused_after a b c s t e same f h = absurd h
+pub refused_after : (a b c : Meaning) (s t p q : Bool) (e : Error) → IsSameWriter a b → (IsFalse s → IsFalse t) → (IsFalse p → IsFalse q) → BodyRefused b c s p e → BodyRefused a c t q e
+refused_after a b c s t p q NoMemory same f g h = tt
+refused_after a b c s t p q WriteFault same f g h = omega (arith, same.faults)
+refused_after a b c s t p q InvalidAttributeValue same f g h = f h
+refused_after a b c s t p q InvalidReference same f g h = g h
+refused_after a b c s t p q e same f g h = absurd h

@@ -1,5 +1,5 @@
 -- What is true of the entries of each unit.
-use Rattle.std.specs.Prelude.{◌≡◌, ◌≢◌, ◌<◌, ◌≤◌, ℕ, List, length, Some, None, Bool, true, false, ◌==◌}
+use Rattle.std.specs.Prelude.{◌≡◌, ◌≢◌, ◌<◌, ◌≤◌, ℕ, List, length, Some, None, Bool, true, false, ◌==◌, slice_get}
 use Rattle.std.specs.List.{list_any, IsDistinct}
 use Rattle.dw_unit.specs.Entries.{EntryValue, parent_of, tag_of, children_of}
 
@@ -15,10 +15,15 @@ pub record AreLinked (es : List EntryValue) : Type 0 where
   pub root : parent_of es 0 ≡ None
   pub unadded : (i : ℕ) → tag_of es i ≡ 0 → parent_of es i ≡ None
 
--- each entry has an index that was handed out, the root is there, with a tag, until the unit is freed, and only a unit that
--- was written is freed
+-- the id of each entry is its index
+abbrev pub AreNumbered : List EntryValue → Type 0
+AreNumbered es = (i : ℕ) (e : EntryValue) → slice_get es i ≡ Some e → e.id ≡ i
+
+-- each entry has an index that was handed out, and this index as its id, the root is there, with a tag, until the unit is
+-- freed, and only a unit that was written is freed
 pub record IsArena (es : List EntryValue) (reserved : ℕ) (is_written is_freed : Bool) : Type 0 where
   pub linked : AreLinked es
+  pub numbered : AreNumbered es
   pub within : length es ≤ reserved
   pub rooted : is_freed ≡ false → 0 < length es
   pub tagged : is_freed ≡ false → tag_of es 0 ≢ 0

@@ -1,22 +1,58 @@
 -- The units that are read are those that were built.
-use Rattle.std.specs.Prelude.{◌≡◌, ℕ, ◌+◌, List, [], ◌∷◌, length, map, sum_by, Option, Some, None, Bool, ◌==◌, if◌then◌else◌}
+use Rattle.std.specs.Prelude.{◌≡◌, ℕ, suc, ◌+◌, List, [], ◌∷◌, length, map, sum_by, Option, Some, None, Bool, false, ◌==◌, if◌then◌else◌}
+use Rattle.dw_base.specs.Entries.{Mark, Open, Close, Row}
 use Rattle.dw_base.specs.Info.{ReadUnit, read_info}
 use Rattle.dw_base.specs.Spelling.{header_size}
 use Rattle.dw_unit.specs.UnitValue.{UnitValue}
-use Rattle.dw_unit.specs.Whole.{tree_read, tree_declared, tree_bytes, tree_table}
+use Rattle.dw_unit.specs.Coded.{coded}
+use Rattle.dw_unit.specs.Shapes.{Placement}
+use Rattle.dw_unit.specs.Tree.{preorder}
+use Rattle.dw_unit.specs.Whole.{tree_shapes, tree_declared, tree_bytes, tree_table}
 
 -- the type that a header of version 5 tells, that of a compile unit
 abbrev pub unit_type_of : ℕ → Option ℕ
 unit_type_of version = if version == 5 then Some 1 else None
 
+-- where the row is read that has the same number in preorder as an entry
+abbrev pub place_read : List (Mark ℕ) → List Row → ℕ → ℕ
+place_read [] rows i = 0
+place_read (m ∷ ms) [] i = 0
+place_read (Open j ∷ ms) (r ∷ rows) i = if j == i then r.from else place_read ms rows i
+place_read (Close ∷ ms) (r ∷ rows) i = place_read ms rows i
+
+-- the row closes a list of children at a depth
+abbrev pub is_closing : ℕ → Row → Bool
+is_closing depth r = elim r.mark [ Open x ↦ false | Close ↦ r.depth == depth ]
+
+-- the place behind the first row that closes a list of children at a depth
+abbrev pub behind_read : ℕ → List Row → ℕ
+behind_read depth [] = 0
+behind_read depth (r ∷ rows) = if is_closing depth r then r.to else behind_read depth rows
+
+-- the place past a row's entry: behind the zero that closes its children, or behind itself
+abbrev pub past_row : Row → List Row → ℕ
+past_row r rows = elim r.mark [ Open x ↦ (if x.has_children then behind_read (suc r.depth) rows else r.to) | Close ↦ r.to ]
+
+-- the same of the row that has the same number in preorder as an entry
+abbrev pub past_read : List (Mark ℕ) → List Row → ℕ → ℕ
+past_read [] rows i = 0
+past_read (m ∷ ms) [] i = 0
+past_read (Open j ∷ ms) (r ∷ rows) i = if j == i then past_row r rows else past_read ms rows i
+past_read (Close ∷ ms) (r ∷ rows) i = past_read ms rows i
+
+-- where the entries of a tree are read
+abbrev pub placement_read : List (Mark ℕ) → List Row → Placement
+placement_read ms rows = record { place = place_read ms rows; past = past_read ms rows }
+
 -- A unit that is read has the encoding that was built, and in version 5 the type of a compile unit. Its entries are the
 -- tree's, in preorder, with a closing zero behind each list of children that isn't empty: tags, names, forms and operands are
--- those of the entries, and each code stands for the entry's shape. Its table declares the shapes, each once, in the order in
--- which each first comes, with the codes 1, 2, 3 and so on.
+-- those of the entries, and each code stands for the entry's shape. A reference holds the place where its entry is read, and
+-- a sibling attribute, which stands first, the place past its own entry. Its table declares the shapes, each once, in the
+-- order in which each first comes, with the codes 1, 2, 3 and so on.
 pub record IsBuilt (u : UnitValue) (r : ReadUnit) : Type 0 where
   pub encoding : r.header.encoding ≡ u.encoding
   pub unit_type : r.header.unit_type ≡ unit_type_of u.encoding.version
-  pub entries : map (λ row. row.mark) r.rows ≡ tree_read u.encoding u.entries
+  pub entries : map (λ row. row.mark) r.rows ≡ coded u.encoding u.entries (placement_read (preorder u.entries) r.rows) (tree_shapes u.encoding u.entries) (preorder u.entries)
   pub declarations : r.table ≡ tree_declared u.encoding u.entries
 
 -- as many units, each as it was built

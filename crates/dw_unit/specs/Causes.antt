@@ -3,7 +3,7 @@ use Rattle.std.specs.Prelude.{◌≡◌, ◌<◌, ℕ, Bool, false, List, Any, I
 use Rattle.dw_base.specs.Numbers.{is_width, word_of, length_fits}
 use Rattle.dw_base.specs.declared.common.Encoding.{Encoding}
 use Rattle.dw_base.specs.declared.error.Error.{Error}
-use Rattle.dw_base.specs.declared.error.Error.TheVariants.{NoMemory, WriteFault, ValueTooLarge, UnsupportedWordSize, UnsupportedVersion, InvalidAttributeValue, InitialLengthOverflow}
+use Rattle.dw_base.specs.declared.error.Error.TheVariants.{NoMemory, WriteFault, ValueTooLarge, UnsupportedWordSize, UnsupportedVersion, InvalidAttributeValue, InvalidReference, InitialLengthOverflow}
 use Rattle.dw_writer.specs.Meaning.{Meaning}
 use Rattle.dw_writer.specs.Causes.{HasRisen, offset_fits}
 use Rattle.dw_writer.specs.Sections.{fault_sum}
@@ -13,7 +13,7 @@ use Rattle.dw_unit.specs.Tree.{preorder}
 use Rattle.dw_unit.specs.Coded.{are_spelled}
 use Rattle.dw_unit.specs.UnitValue.{UnitValue}
 use Rattle.dw_unit.specs.UnitText.{unit_length}
-use Rattle.dw_unit.specs.Valid.{is_version}
+use Rattle.dw_unit.specs.Valid.{is_version, are_references_inside}
 use Rattle.dw_unit.specs.Whole.{tree_bytes, settled}
 
 -- a version or an address size has no spelling
@@ -29,12 +29,13 @@ FieldsRefused old new e table WriteFault = HasRisen old new
 FieldsRefused old new e table ValueTooLarge = IsFalse (offset_fits old.is_plain (word_of e.format) table)
 FieldsRefused old new e table _ = ⊥
 
--- values are refused as bytes are, and where one has no spelling
-abbrev pub BodyRefused : Meaning → Meaning → Bool → Error → Type 0
-BodyRefused old new is_spelled NoMemory = Unit {0}
-BodyRefused old new is_spelled WriteFault = HasRisen old new
-BodyRefused old new is_spelled InvalidAttributeValue = IsFalse is_spelled
-BodyRefused old new is_spelled _ = ⊥
+-- values are refused as bytes are, where one has no spelling, and where one names an entry that has no place
+abbrev pub BodyRefused : Meaning → Meaning → Bool → Bool → Error → Type 0
+BodyRefused old new is_spelled is_placed NoMemory = Unit {0}
+BodyRefused old new is_spelled is_placed WriteFault = HasRisen old new
+BodyRefused old new is_spelled is_placed InvalidAttributeValue = IsFalse is_spelled
+BodyRefused old new is_spelled is_placed InvalidReference = IsFalse is_placed
+BodyRefused old new is_spelled is_placed _ = ⊥
 
 -- why the entries of a tree are refused, whose table is to stand at a place: there was a rise of faults or not
 abbrev pub TreeRefused : Type 0 → Bool → ℕ → Bool → Encoding → List EntryValue → Error → Type 0
@@ -42,6 +43,7 @@ TreeRefused rise is_plain table big e es NoMemory = Unit {0}
 TreeRefused rise is_plain table big e es WriteFault = rise
 TreeRefused rise is_plain table big e es ValueTooLarge = IsFalse (offset_fits is_plain (word_of e.format) table)
 TreeRefused rise is_plain table big e es InvalidAttributeValue = IsFalse (are_spelled es (preorder es))
+TreeRefused rise is_plain table big e es InvalidReference = IsFalse (are_references_inside es)
 TreeRefused rise is_plain table big e es InitialLengthOverflow = IsFalse (length_fits e.format (unit_length e (tree_bytes big e es)))
 TreeRefused rise is_plain table big e es _ = ⊥
 

@@ -8,12 +8,12 @@ use Rattle.dw_base.specs.declared.common.Encoding.{Encoding}
 use Rattle.dw_abbrev.specs.Codes.{code_in, with_shape}
 use Rattle.dw_unit.specs.declared.attribute.Attribute.{Attribute}
 use Rattle.dw_unit.specs.Entries.{EntryValue, blank_entry}
-use Rattle.dw_unit.specs.Values.{is_spelled}
-use Rattle.dw_unit.specs.Shapes.{read_attribute, read_entry, shape_of_entry}
+use Rattle.dw_unit.specs.Values.{is_spelled, names_entry}
+use Rattle.dw_unit.specs.Shapes.{Placement, read_attribute, read_attributes, read_entry, shape_of_entry}
 
 -- the entry at an index, and a blank one past the end
 abbrev pub entry_at : List EntryValue → ℕ → EntryValue
-entry_at es i = get_or es i blank_entry
+entry_at es i = get_or es i (blank_entry 0)
 
 -- the shapes with that of a mark's entry, if it isn't there
 abbrev pub with_mark : Encoding → List EntryValue → List Shape → Mark ℕ → List Shape
@@ -31,16 +31,16 @@ code_at e es shapes (Open i) = code_in shapes (shape_of_entry e (entry_at es i))
 code_at e es shapes Close = 0
 
 -- what is read of a mark that is written with a code
-abbrev pub read_mark : Encoding → List EntryValue → ℕ → Mark ℕ → Mark ReadEntry
-read_mark e es code (Open i) = Open (read_entry e code (entry_at es i))
-read_mark e es code Close = Close
+abbrev pub read_mark : Encoding → List EntryValue → Placement → ℕ → Mark ℕ → Mark ReadEntry
+read_mark e es p code (Open i) = Open (read_entry e p code i (entry_at es i))
+read_mark e es p code Close = Close
 
-abbrev pub coded_mark : Encoding → List EntryValue → List Shape → Mark ℕ → Mark ReadEntry
-coded_mark e es shapes m = read_mark e es (code_at e es shapes m) m
+abbrev pub coded_mark : Encoding → List EntryValue → Placement → List Shape → Mark ℕ → Mark ReadEntry
+coded_mark e es p shapes m = read_mark e es p (code_at e es shapes m) m
 
 -- the marks with what is read of each, where the shapes give the codes
-abbrev pub coded : Encoding → List EntryValue → List Shape → List (Mark ℕ) → List (Mark ReadEntry)
-coded e es shapes ms = map (coded_mark e es shapes) ms
+abbrev pub coded : Encoding → List EntryValue → Placement → List Shape → List (Mark ℕ) → List (Mark ReadEntry)
+coded e es p shapes ms = map (coded_mark e es p shapes) ms
 
 -- the mark's entry has a tag
 abbrev pub IsTagged : List EntryValue → Mark ℕ → Type 0
@@ -64,14 +64,26 @@ is_mark_spelled es Close = true
 abbrev pub are_spelled : List EntryValue → List (Mark ℕ) → Bool
 are_spelled es ms = list_all (is_mark_spelled es) ms
 
--- each form has its operand
-abbrev pub AreOperands : Encoding → List Attribute → Type 0
-AreOperands e xs = All (IsAttribute e) (map (read_attribute e) xs)
+-- the entries that values name are there
+abbrev pub name_entries : (ℕ → Bool) → List Attribute → Bool
+name_entries has_place xs = list_all (λ a. names_entry has_place a.value) xs
 
-abbrev pub HasOperands : Encoding → List EntryValue → Mark ℕ → Type 0
-HasOperands e es (Open i) = AreOperands e (entry_at es i).attributes
-HasOperands e es Close = Unit {0}
+abbrev pub is_mark_placed : (ℕ → Bool) → List EntryValue → Mark ℕ → Bool
+is_mark_placed has_place es (Open i) = name_entries has_place (entry_at es i).attributes
+is_mark_placed has_place es Close = true
+
+-- each entry that a value of an entry names is there
+abbrev pub are_placed : (ℕ → Bool) → List EntryValue → List (Mark ℕ) → Bool
+are_placed has_place es ms = list_all (is_mark_placed has_place es) ms
+
+-- each form has its operand
+abbrev pub AreOperands : Encoding → Placement → List Attribute → Type 0
+AreOperands e p xs = All (IsAttribute e) (map (read_attribute e p) xs)
+
+abbrev pub HasOperands : Encoding → List EntryValue → Placement → Mark ℕ → Type 0
+HasOperands e es p (Open i) = All (IsAttribute e) (read_attributes e p i (entry_at es i))
+HasOperands e es p Close = Unit {0}
 
 -- in each entry each form has its operand
-abbrev pub HaveOperands : Encoding → List EntryValue → List (Mark ℕ) → Type 0
-HaveOperands e es ms = All (HasOperands e es) ms
+abbrev pub HaveOperands : Encoding → List EntryValue → Placement → List (Mark ℕ) → Type 0
+HaveOperands e es p ms = All (HasOperands e es p) ms

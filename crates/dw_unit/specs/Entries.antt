@@ -1,5 +1,5 @@
 -- The entries of a unit, each named by its index, and what the calls make of them.
-use Rattle.std.specs.Prelude.{ℕ, zero, suc, List, [], ◌∷◌, ◌++◌, Option, Some, None, not, ◌==◌, filter, slice_get, option_and_then}
+use Rattle.std.specs.Prelude.{ℕ, zero, suc, List, [], ◌∷◌, ◌++◌, Option, Some, None, Bool, false, not, ◌==◌, filter, slice_get, option_and_then}
 use Rattle.dw_base.specs.declared.ids.UnitEntryId.{UnitEntryId}
 use Rattle.dw_unit.specs.declared.attribute.Attribute.{Attribute}
 use Rattle.dw_unit.specs.declared.attribute.AttributeValue.{AttributeValue}
@@ -14,20 +14,23 @@ abbrev pub parent_index : Option UnitEntryId → Option ℕ
 parent_index None = None
 parent_index (Some i) = Some i.0
 
--- an entry, without its capacities; its tag is 0 as long as its index is only reserved
+-- An entry, without its capacities; its tag is 0 as long as its index is only reserved. Where its sibling flag is set and
+-- it has children, it names the place past them.
 pub record EntryValue : Type 0 where
+  pub id : ℕ
   pub parent : Option ℕ
   pub tag : ℕ
+  pub sibling : Bool
   pub attributes : List Attribute
   pub children : List ℕ
 
 -- an entry that is only reserved
-abbrev pub blank_entry : EntryValue
-blank_entry = record { parent = None; tag = 0; attributes = []; children = [] }
+abbrev pub blank_entry : ℕ → EntryValue
+blank_entry id = record { id = id; parent = None; tag = 0; sibling = false; attributes = []; children = [] }
 
 -- the root as it is made: a compile unit's
 abbrev pub new_root : EntryValue
-new_root = record blank_entry { tag = 0x11 }
+new_root = record (blank_entry 0) { tag = 0x11 }
 
 -- the entries with one of them changed
 abbrev pub with_changed : ℕ → (EntryValue → EntryValue) → List EntryValue → List EntryValue
@@ -35,11 +38,15 @@ with_changed i f [] = []
 with_changed zero f (e ∷ es) = f e ∷ es
 with_changed (suc i) f (e ∷ es) = e ∷ with_changed i f es
 
+-- the entries from an index on with blank ones behind them, up to a count
+abbrev pub filled_from : ℕ → ℕ → List EntryValue → List EntryValue
+filled_from i zero es = es
+filled_from i (suc n) [] = blank_entry i ∷ filled_from (suc i) n []
+filled_from i (suc n) (e ∷ es) = e ∷ filled_from (suc i) n es
+
 -- the entries with blank ones behind them, up to a count
 abbrev pub filled_up : ℕ → List EntryValue → List EntryValue
-filled_up zero es = es
-filled_up (suc n) [] = blank_entry ∷ filled_up n []
-filled_up (suc n) (e ∷ es) = e ∷ filled_up n es
+filled_up n es = filled_from 0 n es
 
 -- an entry with a child behind its others
 abbrev pub with_child : ℕ → EntryValue → EntryValue
@@ -53,6 +60,10 @@ placed_under parent tag e = record e { parent = Some parent; tag = tag }
 abbrev pub with_new_child : ℕ → ℕ → ℕ → List EntryValue → List EntryValue
 with_new_child child parent tag es =
     with_changed child (placed_under parent tag) (with_changed parent (with_child child) es)
+
+-- an entry with its sibling flag set or not
+abbrev pub with_sibling : Bool → EntryValue → EntryValue
+with_sibling sibling e = record e { sibling = sibling }
 
 -- an entry with a value put under a name
 abbrev pub with_attribute : ℕ → AttributeValue → EntryValue → EntryValue

@@ -9,7 +9,9 @@ pub mod Settled
 pub mod Values
 pub mod Shapes
 pub mod Coded
-pub mod Sized
+pub mod Laid
+pub mod Places
+pub mod Laying
 pub mod Whole
 pub mod UnitText
 pub mod Valid

@@ -1,22 +1,52 @@
 -- What is read of an entry that was written.
-use Rattle.std.specs.Prelude.{ℕ, map}
-use Rattle.dw_base.specs.Abbreviations.{Shape}
+use Rattle.std.specs.Prelude.{ℕ, Bool, ◌&&◌, List, [], ◌∷◌, ◌++◌, map, None, if◌then◌else◌}
+use Rattle.dw_base.specs.Abbreviations.{Specification, Shape}
+use Rattle.dw_base.specs.Forms.{Number}
 use Rattle.dw_base.specs.Entries.{ReadAttribute, ReadEntry}
-use Rattle.dw_base.specs.Spellable.{shape_of}
 use Rattle.dw_base.specs.declared.common.Encoding.{Encoding}
 use Rattle.dw_unit.specs.declared.attribute.Attribute.{Attribute}
 use Rattle.dw_unit.specs.Entries.{EntryValue}
 use Rattle.dw_unit.specs.Tree.{has_any}
-use Rattle.dw_unit.specs.Values.{form_of, constant_of, operand_of}
+use Rattle.dw_unit.specs.Values.{form_of, constant_of, operand_of, reference_form}
 
--- an attribute, as it is read
-abbrev pub read_attribute : Encoding → Attribute → ReadAttribute
-read_attribute e a = record { name = a.name.0; form = form_of e a.value; constant = constant_of a.value; operand = operand_of a.value }
+-- Where each entry stands in its unit, and the place past it: behind the zero that closes its children, or behind itself
+-- where it has none.
+pub record Placement : Type 0 where
+  pub place : ℕ → ℕ
+  pub past : ℕ → ℕ
 
--- an entry with its code, as it is read
-abbrev pub read_entry : Encoding → ℕ → EntryValue → ReadEntry
-read_entry e code x = record { code = code; tag = x.tag; has_children = has_any x.children; attributes = map (read_attribute e) x.attributes }
+-- the entry names the place past it
+abbrev pub has_sibling : EntryValue → Bool
+has_sibling x = x.sibling && has_any x.children
+
+-- what a declaration says of an attribute
+abbrev pub specification : Encoding → Attribute → Specification
+specification e a = record { name = a.name.0; form = form_of e a.value; constant = constant_of a.value }
+
+-- and of DW_AT_sibling, which is 1
+abbrev pub sibling_specification : Encoding → Specification
+sibling_specification e = record { name = 1; form = reference_form e.format; constant = None }
+
+-- what stands first, where the entry names the place past it
+abbrev pub before_attributes : {A : Type 0} → EntryValue → A → List A
+before_attributes x sibling = if has_sibling x then sibling ∷ [] else []
 
 -- what an entry's declaration says of it, whatever its code is
 abbrev pub shape_of_entry : Encoding → EntryValue → Shape
-shape_of_entry e x = shape_of (read_entry e 0 x)
+shape_of_entry e x = record { tag = x.tag; has_children = has_any x.children; attributes = before_attributes x (sibling_specification e) ++ map (specification e) x.attributes }
+
+-- an attribute, as it is read
+abbrev pub read_attribute : Encoding → Placement → Attribute → ReadAttribute
+read_attribute e p a = record { name = a.name.0; form = form_of e a.value; constant = constant_of a.value; operand = operand_of p.place a.value }
+
+-- the place past an entry, as it is read
+abbrev pub read_sibling : Encoding → ℕ → ReadAttribute
+read_sibling e past = record { name = 1; form = reference_form e.format; constant = None; operand = Number past }
+
+-- the attributes of the entry at an index, as they are read
+abbrev pub read_attributes : Encoding → Placement → ℕ → EntryValue → List ReadAttribute
+read_attributes e p i x = before_attributes x (read_sibling e (p.past i)) ++ map (read_attribute e p) x.attributes
+
+-- an entry with its code, as it is read
+abbrev pub read_entry : Encoding → Placement → ℕ → ℕ → EntryValue → ReadEntry
+read_entry e p code i x = record { code = code; tag = x.tag; has_children = has_any x.children; attributes = read_attributes e p i x }

@@ -1,5 +1,5 @@
 -- The tree that the lists of children make of a unit's entries.
-use Rattle.std.specs.Prelude.{◌<◌, ℕ, zero, suc, List, [], ◌∷◌, ◌++◌, length, map, Bool, true, false}
+use Rattle.std.specs.Prelude.{◌<◌, ℕ, zero, suc, List, [], ◌∷◌, ◌++◌, length, map, Bool, true, false, not, ◌||◌, ◌&&◌, ◌==◌}
 use Rattle.std.specs.List.{flat_map}
 use Rattle.dw_base.specs.Entries.{Mark, Open, Close}
 use Rattle.dw_unit.specs.declared.tree.Item.{Item}
@@ -28,6 +28,18 @@ has_any (c ∷ cs) = true
 abbrev pub children_in : List EntryValue → Mark ℕ → Mark Bool
 children_in es (Open i) = Open (has_any (children_of es i))
 children_in es Close = Close
+
+-- an entry stands among marks
+abbrev pub has_entry : List (Mark ℕ) → ℕ → Bool
+has_entry [] i = false
+has_entry (Open j ∷ ms) i = (j == i) || has_entry ms i
+has_entry (Close ∷ ms) i = has_entry ms i
+
+-- no entry stands among them twice
+abbrev pub are_entries_distinct : List (Mark ℕ) → Bool
+are_entries_distinct [] = true
+are_entries_distinct (Open j ∷ ms) = not (has_entry ms j) && are_entries_distinct ms
+are_entries_distinct (Close ∷ ms) = are_entries_distinct ms
 
 -- the entry is one of the first n
 abbrev pub IsIn : ℕ → Mark ℕ → Type 0

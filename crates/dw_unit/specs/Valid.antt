@@ -3,8 +3,8 @@ use Rattle.std.specs.Prelude.{ℕ, List, Bool, ◌&&◌, nat_le, IsTrue}
 use Rattle.dw_base.specs.Numbers.{is_width, length_fits}
 use Rattle.dw_base.specs.declared.common.Encoding.{Encoding}
 use Rattle.dw_unit.specs.Entries.{EntryValue}
-use Rattle.dw_unit.specs.Tree.{preorder}
-use Rattle.dw_unit.specs.Coded.{are_spelled}
+use Rattle.dw_unit.specs.Tree.{preorder, has_entry}
+use Rattle.dw_unit.specs.Coded.{are_spelled, are_placed}
 use Rattle.dw_unit.specs.UnitText.{unit_length}
 use Rattle.dw_unit.specs.Whole.{tree_bytes, settled}
 use Rattle.dw_unit.specs.UnitValue.{UnitValue}
@@ -17,10 +17,15 @@ is_version v = nat_le 2 v && nat_le v 5
 abbrev pub is_encodable : Encoding → Bool
 is_encodable e = is_version e.version && is_width e.address_size
 
--- the header, each value and the length of a tree have a spelling
+-- each reference names an entry of the tree
+abbrev pub are_references_inside : List EntryValue → Bool
+are_references_inside es = are_placed (has_entry (preorder es)) es (preorder es)
+
+-- the header, each value and the length of a tree have a spelling, and what references name is in the tree
 pub record IsWritableTree (big : Bool) (e : Encoding) (es : List EntryValue) : Type 0 where
   pub encodable : IsTrue (is_encodable e)
   pub spelled : IsTrue (are_spelled es (preorder es))
+  pub inside : IsTrue (are_references_inside es)
   pub fits : IsTrue (length_fits e.format (unit_length e (tree_bytes big e es)))
 
 -- the same of a unit, settled

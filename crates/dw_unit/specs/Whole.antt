@@ -2,12 +2,14 @@
 use Rattle.std.specs.Prelude.{ℕ, Bool, true, List, [], if◌then◌else◌}
 use Rattle.dw_base.specs.Abbreviations.{Shape, Declaration}
 use Rattle.dw_base.specs.Entries.{ReadEntry, Mark}
-use Rattle.dw_base.specs.Spelling.{body_bytes, table_bytes}
+use Rattle.dw_base.specs.Spelling.{body_bytes, header_size, table_bytes}
 use Rattle.dw_base.specs.declared.common.Encoding.{Encoding}
 use Rattle.dw_abbrev.specs.Codes.{declarations}
 use Rattle.dw_unit.specs.Entries.{EntryValue}
 use Rattle.dw_unit.specs.Tree.{preorder}
 use Rattle.dw_unit.specs.Coded.{shapes_of, coded}
+use Rattle.dw_unit.specs.Laid.{sizes_of, laid_from}
+use Rattle.dw_unit.specs.Shapes.{Placement}
 use Rattle.dw_unit.specs.Settled.{settled_entries}
 use Rattle.dw_unit.specs.UnitValue.{UnitValue}
 
@@ -15,9 +17,17 @@ use Rattle.dw_unit.specs.UnitValue.{UnitValue}
 abbrev pub tree_shapes : Encoding → List EntryValue → List Shape
 tree_shapes e es = shapes_of e es [] (preorder es)
 
+-- the bytes of its entries
+abbrev pub tree_size : Encoding → List EntryValue → ℕ
+tree_size e es = sizes_of e es (tree_shapes e es) (preorder es)
+
+-- where the tree's entries stand, the first behind the header
+abbrev pub tree_placement : Encoding → List EntryValue → Placement
+tree_placement e es = laid_from e es (tree_shapes e es) (header_size e) (preorder es)
+
 -- what is read of the tree
 abbrev pub tree_read : Encoding → List EntryValue → List (Mark ReadEntry)
-tree_read e es = coded e es (tree_shapes e es) (preorder es)
+tree_read e es = coded e es (tree_placement e es) (tree_shapes e es) (preorder es)
 
 -- what is declared for it
 abbrev pub tree_declared : Encoding → List EntryValue → List Declaration

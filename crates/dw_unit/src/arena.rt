@@ -41,8 +41,9 @@ fn fill_up(entries: &mut Vec<DebuggingInformationEntry>, count: usize) -> Result
     let alloc = *entries.allocator();
     entries.reserve(count - entries.len())?;
     'blanks: while entries.len() < count {
+        let id = UnitEntryId::new(entries.len());
         // There is room for it.
-        entries.push(DebuggingInformationEntry::blank(alloc))?;
+        entries.push(DebuggingInformationEntry::blank(alloc, id))?;
     }
     Ok(())
 }

@@ -4,7 +4,7 @@ ghost use Rattle.std.specs.Prelude.{◌≡◌, IfOk, IfErr};
 ghost use Rattle.dw_base.specs.declared.error.Error.TheVariants.{NoMemory};
 
 use crate::bytes::Bytes;
-use dw_base::{DwAt, Result};
+use dw_base::{DwAt, Result, UnitEntryId};
 
 /// The value of an attribute. The form in which it is written follows from it and from the unit's
 /// encoding.
@@ -16,6 +16,8 @@ pub enum AttributeValue {
     Udata(u64),
     /// A string without its closing zero.
     String(Bytes),
+    /// An entry of the same unit, by its place in the unit.
+    UnitRef(UnitEntryId),
 }
 
 impl AttributeValue {

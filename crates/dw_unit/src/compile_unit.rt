@@ -1,6 +1,6 @@
 //! A compile unit with its entries, and the table of its abbreviations.
 
-ghost use Rattle.std.specs.Prelude.{◌≡◌, ◌≢◌, ◌+◌, ◌<◌, ◌≤◌, length, map, IsTrue, OnOk, IfErr};
+ghost use Rattle.std.specs.Prelude.{◌≡◌, ◌≢◌, ◌+◌, ◌<◌, ◌≤◌, ◌^◌, ℕ, length, map, IsTrue, OnOk, IfErr};
 ghost use Rattle.dw_base.specs.Numbers.{word_of, length_fits};
 ghost use Rattle.dw_base.specs.Spelling.{header_size};
 ghost use Rattle.dw_writer.specs.Meaning.{IsSameWriter, Appends};
@@ -8,18 +8,21 @@ ghost use Rattle.dw_writer.specs.Causes.{HasRisen, offset_fits};
 ghost use Rattle.dw_writer.specs.Sections.{fault_sum};
 ghost use Rattle.dw_unit.specs.Entries.{tag_of};
 ghost use Rattle.dw_unit.specs.Arena.{AreLinked};
-ghost use Rattle.dw_unit.specs.Valid.{is_encodable, IsWritableTree};
+ghost use Rattle.dw_unit.specs.Valid.{is_encodable, are_references_inside, IsWritableTree};
 ghost use Rattle.dw_unit.specs.UnitText.{unit_length, unit_text};
 ghost use Rattle.dw_unit.specs.Causes.{TreeRefused};
-ghost use Rattle.dw_unit.specs.Tree.{AreIn, marks, preorder};
+ghost use Rattle.dw_unit.specs.Tree.{AreIn, marks, preorder, has_entry};
 ghost use Rattle.dw_unit.specs.Coded.{code_at, are_spelled, HaveOperands};
-ghost use Rattle.dw_unit.specs.Whole.{tree_shapes, tree_bytes};
+ghost use Rattle.dw_unit.specs.Whole.{tree_shapes, tree_size, tree_placement, tree_bytes};
+ghost use Rattle.dw_unit.specs.Places.{placement_of, has_place, FitsWords, IsSamePlacement};
 ghost use Rattle.dw_unit.specs.Written.{AppendsTree};
 
 use crate::body::write_items;
 use crate::codes::assign_codes;
 use crate::entry::DebuggingInformationEntry;
 use crate::header::write_fields;
+use crate::layout::lay_out;
+use crate::places::Places;
 use crate::tree::{Item, flatten};
 use dw_base::{Encoding, Result};
 use dw_writer::{Sections, Writer};
@@ -32,10 +35,15 @@ fn write_compile_unit<W: Writer>(
     entries: &[DebuggingInformationEntry],
     items: &[Item],
     codes: &[u64],
+    places: &Places,
     w: &mut W,
 ) -> Result<()>
     requires within { AreIn (length entries.now) (marks items.now) }
     requires tree { marks items.now ≡ preorder entries.now }
+    requires fit { FitsWords encoding.format (placement_of places.now) }
+    requires inside { (i : ℕ) → has_place (placement_of places.now) i ≡ has_entry (preorder entries.now) i }
+    // No place was cut off where the unit can be written.
+    requires places { header_size encoding + tree_size encoding entries.now < 2 ^ 64 → IsSamePlacement (placement_of places.now) (tree_placement encoding entries.now) }
     requires codes { codes.now ≡ map (code_at encoding entries.now (tree_shapes encoding entries.now)) (marks items.now) }
     ensures ok { OnOk result
         (Appends (W.meaning w.old) (W.meaning w.new) (header_size encoding + length (tree_bytes (W.meaning w.old).is_big encoding entries.now))
@@ -44,8 +52,9 @@ fn write_compile_unit<W: Writer>(
         (IsTrue (offset_fits (W.meaning w.old).is_plain (word_of encoding.format) table)) }
     ensures fits { OnOk result
         (IsTrue (length_fits encoding.format (unit_length encoding (tree_bytes (W.meaning w.old).is_big encoding entries.now)))) }
-    ensures operands { OnOk result (HaveOperands encoding entries.now (preorder entries.now)) }
+    ensures operands { OnOk result (HaveOperands encoding entries.now (tree_placement encoding entries.now) (preorder entries.now)) }
     ensures spelled { OnOk result (IsTrue (are_spelled entries.now (preorder entries.now))) }
+    ensures references { OnOk result (IsTrue (are_references_inside entries.now)) }
     ensures err { IfErr result
         (TreeRefused (HasRisen (W.meaning w.old) (W.meaning w.new)) (W.meaning w.old).is_plain table (W.meaning w.old).is_big encoding entries.now) }
     ensures same { IsSameWriter (W.meaning w.old) (W.meaning w.new) }
@@ -53,7 +62,7 @@ fn write_compile_unit<W: Writer>(
     let place = w.write_initial_length(encoding.format)?;
     let start = w.len();
     write_fields(encoding, table, w)?;
-    write_items(encoding, entries, items, codes, w)?;
+    write_items(encoding, entries, items, codes, places, w)?;
     let length = (w.len() - start) as u64;
     w.write_initial_length_at(place, length, encoding.format)
 }
@@ -76,16 +85,21 @@ pub(crate) fn write_tree<W: Writer>(
     ensures others { sections.new ≡ record sections.old { debug_abbrev = sections.new.debug_abbrev; debug_info = sections.new.debug_info } }
     ensures faults { fault_sum W.meaning sections.old ≤ fault_sum W.meaning sections.new }
 {
-    let items = flatten(alloc, entries)?;
-    let assigned = assign_codes(alloc, encoding, entries, &items)?;
+    let tree = flatten(alloc, entries)?;
+    let items = tree.as_slice();
+    let assigned = assign_codes(alloc, encoding, entries, items)?;
+    let codes = assigned.codes.as_slice();
+    let places = lay_out(alloc, encoding, entries, items, codes)?;
+    places.check_length(encoding.format)?;
     let place = sections.debug_abbrev.0.len();
     assigned.table.write(&mut sections.debug_abbrev)?;
     write_compile_unit(
         encoding,
         place,
         entries,
-        &items,
-        &assigned.codes,
+        items,
+        codes,
+        &places,
         &mut sections.debug_info.0,
     )
 }

@@ -8,7 +8,7 @@ ghost use Rattle.dw_base.specs.declared.error.Error.TheVariants.{NoMemory};
 ghost use Rattle.dw_base.specs.declared.ids.UnitEntryId.{UnitEntryId};
 ghost use Rattle.dw_unit.specs.declared.attribute.Attribute.{Attribute};
 ghost use Rattle.dw_unit.specs.Attributes.{get_named, AreNamed};
-ghost use Rattle.dw_unit.specs.Entries.{index_of, parent_index, blank_entry, with_child, placed_under, with_attribute, without_attribute, without_child};
+ghost use Rattle.dw_unit.specs.Entries.{index_of, parent_index, blank_entry, with_child, placed_under, with_sibling, with_attribute, without_attribute, without_child};
 
 use crate::attribute::{Attribute, AttributeValue};
 use crate::attribute_walk::AttributeWalk;
@@ -21,8 +21,10 @@ use std::slice;
 /// An entry of a unit: a tag, attributes and children.
 #[derive(Drop)]
 pub struct DebuggingInformationEntry {
+    id: UnitEntryId,
     parent: Option<UnitEntryId>,
     tag: DwTag,
+    sibling: bool,
     walk: AttributeWalk,
     children: Vec<UnitEntryId>,
 }
@@ -33,7 +35,7 @@ impl Model for DebuggingInformationEntry {
 
     ghost Value = { EntryValue };
 
-    ghost view = { λ e. record { parent = parent_index e.parent; tag = e.tag.0; attributes = e.walk.attributes; children = map index_of e.children.items } };
+    ghost view = { λ e. record { id = e.id.0; parent = parent_index e.parent; tag = e.tag.0; sibling = e.sibling; attributes = e.walk.attributes; children = map index_of e.children.items } };
 }
 
 fn delete_child_in(children: &mut Vec<UnitEntryId>, id: UnitEntryId)
@@ -44,12 +46,14 @@ fn delete_child_in(children: &mut Vec<UnitEntryId>, id: UnitEntryId)
 
 impl DebuggingInformationEntry {
     /// An entry whose id is only handed out.
-    pub(crate) fn blank(alloc: Global) -> DebuggingInformationEntry
-        ensures { result ≡ blank_entry }
+    pub(crate) fn blank(alloc: Global, id: UnitEntryId) -> DebuggingInformationEntry
+        ensures { result ≡ blank_entry id.0 }
     {
         DebuggingInformationEntry {
+            id,
             parent: None,
             tag: DwTag(0),
+            sibling: false,
             walk: AttributeWalk {
                 attributes: Attributes::new(alloc),
                 next: 0,
@@ -83,6 +87,12 @@ impl DebuggingInformationEntry {
         self.tag = tag;
     }
 
+    pub(crate) fn set_sibling(&mut self, sibling: bool)
+        ensures { self.new ≡ with_sibling sibling self.old }
+    {
+        self.sibling = sibling;
+    }
+
     pub(crate) fn set(&mut self, name: DwAt, value: AttributeValue) -> Result<()>
         requires { 1 < name.0 }
         ensures ok { OnOk result (self.new ≡ with_attribute name.0 value self.old) }
@@ -113,6 +123,13 @@ impl DebuggingInformationEntry {
 }
 
 impl DebuggingInformationEntry {
+    /// The entry's id, by which the unit's calls name it.
+    pub fn id(&self) -> UnitEntryId
+        ensures { result.0 ≡ self.now.id }
+    {
+        self.id
+    }
+
     /// The entry whose children it is among. The root has none, nor has an entry whose id is only
     /// handed out.
     pub fn parent(&self) -> Option<UnitEntryId>
@@ -126,6 +143,14 @@ impl DebuggingInformationEntry {
         ensures { result.0 ≡ self.now.tag }
     {
         self.tag
+    }
+
+    /// Tells whether the entry is to name the place past its children, if it has any, by
+    /// `DW_AT_sibling` (DWARF 5, 2.3).
+    pub fn sibling(&self) -> bool
+        ensures { result ≡ self.now.sibling }
+    {
+        self.sibling
     }
 
     /// The attributes in the order in which they are written.
@@ -178,12 +203,20 @@ impl DebuggingInformationEntry {
 
 impl DebuggingInformationEntry {
     ghost use Rattle.dw_unit.specs.Settled.{with_children};
+    ghost use Rattle.dw_unit.specs.Shapes.{has_sibling as names_past};
 
     /// The children in their order.
     pub(crate) fn child_ids(&self) -> &[UnitEntryId]
         ensures { map index_of result.now ≡ self.now.children }
     {
         self.children.as_slice()
+    }
+
+    /// Tells that the entry names the place past its children.
+    pub(crate) fn has_sibling(&self) -> bool
+        ensures { result ≡ names_past self.now }
+    {
+        self.sibling && !self.children.is_empty()
     }
 
     /// The attributes in the order in which they are written.

@@ -2,7 +2,7 @@
 
 ghost use Rattle.std.specs.Prelude.{◌≡◌, ◌≢◌, ◌<◌, ℕ, length, Some, None, slice_get, OnOk, OnErr, IfErr};
 ghost use Rattle.dw_base.specs.declared.error.Error.TheVariants.{NoMemory};
-ghost use Rattle.dw_unit.specs.Entries.{with_changed, with_attribute, without_attribute, without_child, value_of};
+ghost use Rattle.dw_unit.specs.Entries.{with_changed, with_sibling, with_attribute, without_attribute, without_child, value_of};
 
 use crate::attribute::AttributeValue;
 use crate::attribute_walk::AttrsMut;
@@ -34,6 +34,17 @@ impl<'a> EntryMut<'a> {
         ensures { slice_get self.now.unit.now.entries self.now.index ≡ Some result.now }
     {
         self.unit.get(UnitEntryId::new(self.index))
+    }
+
+    /// Says whether the entry is to name the place past its children, if it has any, by
+    /// `DW_AT_sibling` (DWARF 5, 2.3).
+    pub fn set_sibling(&mut self, sibling: bool)
+        ensures same_unit { self.new.unit.ghost_name ≡ self.old.unit.ghost_name }
+        ensures index { self.new.index ≡ self.old.index }
+        ensures unit { self.new.unit.now ≡ record self.old.unit.now { entries = with_changed self.old.index (with_sibling sibling) self.old.unit.now.entries } }
+        ensures count { length self.new.unit.now.entries ≡ length self.old.unit.now.entries }
+    {
+        self.unit.set_sibling(self.index, sibling);
     }
 
     /// Replaces the value under a name in its position, or appends an attribute. `DW_AT_sibling`

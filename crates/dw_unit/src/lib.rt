@@ -14,7 +14,9 @@ mod compile_unit;
 mod entry;
 mod entry_mut;
 mod header;
+mod layout;
 mod line_program;
+mod places;
 mod settle;
 mod shape;
 #[cfg(test)]

@@ -1,42 +1,62 @@
 //! The abbreviations of entries.
 
-ghost use Rattle.std.specs.Prelude.{◌≡◌, ◌≢◌, ◌<◌, map, IfOk, IfErr};
+ghost use Rattle.std.specs.Prelude.{◌≡◌, ◌≢◌, ◌<◌, ◌++◌, map, IfOk, OnOk, IfErr};
 ghost use Rattle.dw_base.specs.declared.error.Error.TheVariants.{NoMemory};
-ghost use Rattle.dw_base.specs.Spellable.{specification_of};
 ghost use Rattle.dw_unit.specs.Attributes.{AreNamed};
-ghost use Rattle.dw_unit.specs.Shapes.{read_attribute, shape_of_entry};
+ghost use Rattle.dw_unit.specs.Shapes.{specification as specification_of, sibling_specification, before_attributes, shape_of_entry};
 
 use crate::attribute::Attribute;
 use crate::entry::DebuggingInformationEntry;
+use crate::value::reference_form;
 use dw_abbrev::{Abbreviation, AttributeSpecification};
+use dw_base::constants::DW_AT_sibling;
 use dw_base::{Encoding, Result};
 use std::alloc::Global;
 
 /// What a declaration says of one attribute.
 fn specification(encoding: Encoding, attribute: &Attribute) -> Result<AttributeSpecification>
     requires { 1 < attribute.now.name.0 }
-    ensures ok { IfOk result (λ s. s ≡ specification_of (read_attribute encoding attribute.now)) }
+    ensures ok { IfOk result (λ s. s ≡ specification_of encoding attribute.now) }
     ensures err { IfErr result (λ e. e ≡ NoMemory) }
 {
     let (form, constant) = attribute.get().form(encoding)?;
     Ok(AttributeSpecification::new(attribute.name(), form, constant))
 }
 
-/// What a declaration says of attributes, in their order.
-fn specifications(
-    alloc: Global,
+/// Adds what a declaration says of attributes, in their order.
+fn push_specifications(
     encoding: Encoding,
     attributes: &[Attribute],
-) -> Result<Vec<AttributeSpecification>>
+    declared: &mut Vec<AttributeSpecification>,
+) -> Result<()>
     requires { AreNamed attributes.now }
-    ensures ok { IfOk result
-        (λ v. v.items ≡ map specification_of (map (read_attribute encoding) attributes.now)) }
+    ensures ok { OnOk result (declared.new.items ≡ declared.old.items ++ map (specification_of encoding) attributes.now) }
     ensures err { IfErr result (λ e. e ≡ NoMemory) }
 {
-    let mut declared = Vec::with_capacity(alloc, attributes.len())?;
     for attribute in attributes {
         declared.push(specification(encoding, attribute)?)?;
     }
+    Ok(())
+}
+
+/// What a declaration says of an entry's attributes: the place past the entry first, where it names
+/// that.
+fn specifications(
+    alloc: Global,
+    encoding: Encoding,
+    entry: &DebuggingInformationEntry,
+) -> Result<Vec<AttributeSpecification>>
+    ensures ok { IfOk result
+        (λ v. v.items ≡ before_attributes entry.now (sibling_specification encoding) ++ map (specification_of encoding) entry.now.attributes) }
+    ensures err { IfErr result (λ e. e ≡ NoMemory) }
+{
+    let attributes = entry.attributes();
+    let mut declared = Vec::with_capacity(alloc, attributes.len())?;
+    if entry.has_sibling() {
+        let form = reference_form(encoding.format);
+        declared.push(AttributeSpecification::new(DW_AT_sibling, form, None))?;
+    }
+    push_specifications(encoding, attributes, &mut declared)?;
     Ok(declared)
 }
 
@@ -50,7 +70,7 @@ pub(crate) fn abbreviation_of(
     ensures ok { IfOk result (λ a. a ≡ shape_of_entry encoding entry.now) }
     ensures err { IfErr result (λ e. e ≡ NoMemory) }
 {
-    let attributes = specifications(alloc, encoding, entry.attributes())?;
+    let attributes = specifications(alloc, encoding, entry)?;
     let has_children = !entry.child_ids().is_empty();
     Ok(Abbreviation::new(entry.tag(), has_children, attributes))
 }

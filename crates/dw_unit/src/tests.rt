@@ -51,6 +51,22 @@ fn children_stand_in_the_order_of_their_calls(rt: HostRuntime) -> Result<(), Fai
 }
 
 #[test]
+fn an_entry_has_the_id_of_its_calls(rt: HostRuntime) -> Result<(), Fail> {
+    let mut unit = Unit::new(rt.alloc(), ENCODING, LineProgram::none())?;
+    let root = unit.root();
+    let reserved = unit.reserve();
+    let added = unit.add(root, DW_TAG_variable)?;
+    assert_eq!(rt; unit.get(root).id(), root);
+    assert_eq!(rt; unit.get(added).id(), added);
+    assert_eq!(rt; unit.get(reserved).id(), reserved);
+    assert!(rt; unit.is_reserved(reserved));
+    unit.add_reserved(reserved, added, DW_TAG_base_type)?;
+    assert_eq!(rt; unit.get(reserved).id(), reserved);
+    assert_eq!(rt; unit.get(reserved).parent(), Some(added));
+    Ok(())
+}
+
+#[test]
 fn a_value_is_found_under_its_name(rt: HostRuntime) -> Result<(), Fail> {
     let mut unit = Unit::new(rt.alloc(), ENCODING, LineProgram::none())?;
     let mut root = unit.get_mut(UnitEntryId::new(0));

@@ -2,7 +2,7 @@
 
 ghost use Rattle.std.specs.Prelude.{◌≡◌, ◌≢◌, ◌+◌, ◌<◌, ◌↔◌, false, length, IsTrue, Some, slice_get, OnOk, OnErr, IfOk, IfErr};
 ghost use Rattle.dw_base.specs.declared.error.Error.TheVariants.{NoMemory};
-ghost use Rattle.dw_unit.specs.Entries.{with_changed, filled_up, with_new_child, with_attribute, without_attribute, without_child};
+ghost use Rattle.dw_unit.specs.Entries.{with_changed, filled_up, with_new_child, with_sibling, with_attribute, without_attribute, without_child};
 ghost use Rattle.dw_unit.specs.UnitValue.{new_unit, IsReserved, IsSound};
 
 use crate::arena::{add_entry, is_unadded};
@@ -50,7 +50,7 @@ impl Unit {
         ensures ok { IfOk result (λ u. u ≡ new_unit encoding line_program) }
         ensures err { IfErr result (λ e. e ≡ NoMemory) }
     {
-        let mut root = DebuggingInformationEntry::blank(alloc);
+        let mut root = DebuggingInformationEntry::blank(alloc, UnitEntryId::new(0));
         root.set_tag(DW_TAG_compile_unit);
         let mut entries = Vec::new(alloc);
         entries.push(root)?;
@@ -198,7 +198,8 @@ impl Unit {
     /// An entry of the unit.
     pub fn get(&self, id: UnitEntryId) -> &DebuggingInformationEntry
         requires { id.0 < length self.now.entries }
-        ensures { slice_get self.now.entries id.0 ≡ Some result.now }
+        ensures entry { slice_get self.now.entries id.0 ≡ Some result.now }
+        ensures id { result.now.id ≡ id.0 }
     {
         &self.entries[id.index()]
     }
@@ -229,6 +230,14 @@ impl Unit {
     {
         let entry = &mut self.entries[index];
         entry.set(name, value)
+    }
+
+    pub(crate) fn set_sibling(&mut self, index: usize, sibling: bool)
+        requires { index < length self.old.entries }
+        ensures { self.new ≡ record self.old { entries = with_changed index (with_sibling sibling) self.old.entries } }
+    {
+        let entry = &mut self.entries[index];
+        entry.set_sibling(sibling);
     }
 
     pub(crate) fn delete_attribute(&mut self, index: usize, name: DwAt)

@@ -8,12 +8,13 @@ use Rattle.dw_script.specs.Lines.{parsed_line}
 use Rattle.dw_script.specs.Pieces.{pieces}
 use Rattle.dw_script.specs.Fields.{Outcome, ◌>>=◌}
 use Rattle.dw_script.specs.declared.command.Command.{Command}
-use Rattle.dw_script.specs.declared.command.Command.TheVariants.{Order, Unit as AddUnit, Add, Set}
+use Rattle.dw_script.specs.declared.command.Command.TheVariants.{Order, Unit as AddUnit, Change as ChangeUnit}
+use Rattle.dw_script.specs.declared.change.Change.{Change}
+use Rattle.dw_script.specs.declared.change.Change.TheVariants as change
 use Rattle.dw_script.specs.declared.reason.Reason.{Reason}
-use Rattle.dw_script.specs.declared.reason.Reason.TheVariants.{OrderNotFirst, NoSuchUnit, NoSuchEntry, BadTag, BadName}
-use Rattle.dw_unit.specs.declared.attribute.AttributeValue.{AttributeValue}
+use Rattle.dw_script.specs.declared.reason.Reason.TheVariants.{OrderNotFirst, NoSuchUnit, NoSuchEntry, NotReserved, BadTag, BadName}
 use Rattle.dw_unit.specs.UnitValue.{UnitValue, new_unit, no_line_program}
-use Rattle.dwarf_build.specs.Script.{one_more_unit, with_units, with_unit_changed, attribute_value, after_add, after_set, after_command, after_asked, after_line, after_lines, empty_script, script, IsOpen, HasFewUnits}
+use Rattle.dwarf_build.specs.Script.{one_more_unit, with_units, with_unit_changed, is_reserved, after_change, after_command, after_asked, after_line, after_lines, empty_script, script, IsOpen, HasFewUnits}
 use Rattle.dwarf_build.specs.declared.script.Script.{Script}
 use Rattle.dwarf_build.specs.declared.script.Refusal.{Refusal}
 
@@ -59,25 +60,33 @@ changed_few change s us i leaves h = found (slice_get us i) refl
     found (Some u) at = done u (change u) at refl
     found None at = tt
 
--- after two conditions a value is what it is
-conditions_leave : (a b : Bool) (r q : Reason) (w v : UnitValue) → (if a then Err r else (if b then Err q else Ok w)) ≡ Ok v → IsOpen w → IsOpen v
-conditions_leave true b r q w v e h = cc
-conditions_leave false true r q w v e h = cc
-conditions_leave false false r q w v e h =
-    let same : w ≡ v = (let equal : ◌≡◌ {A = Outcome UnitValue} (Ok w) (Ok v) = e in cc) in
-    subst IsOpen same h
+-- Where conditions allow a value, it is what it is.
+allowed : (u v : UnitValue) → ◌≡◌ {A = Outcome UnitValue} (Ok u) (Ok v) → IsOpen u → IsOpen v
+allowed u v e h = let same : u ≡ v = cc in subst IsOpen same h
 
-add_leaves : (parent tag : ℕ) → LeavesOpen (after_add parent tag)
-add_leaves parent tag u v e h = conditions_leave (not (nat_lt parent u.reserved)) (tag == 0) NoSuchEntry BadTag _ v e h
+condition_leaves : (a : Bool) (reason : Reason) (r : Outcome UnitValue) (v : UnitValue) → (if a then Err reason else r) ≡ Ok v → (r ≡ Ok v → IsOpen v) → IsOpen v
+condition_leaves true reason r v e more = let clash : ◌≡◌ {A = Outcome UnitValue} (Err reason) (Ok v) = e in absurd cc
+condition_leaves false reason r v e more = more e
 
-set_leaves : (entry name : ℕ) (x : AttributeValue) → LeavesOpen (after_set entry name x)
-set_leaves entry name x u v e h = conditions_leave (not (nat_lt entry (length u.entries))) (not (nat_lt 1 name)) NoSuchEntry BadName _ v e h
+change_leaves : (c : Change) → LeavesOpen (after_change c)
+change_leaves (change.Add parent tag) u v e h =
+    condition_leaves (not (nat_lt parent u.reserved)) NoSuchEntry _ v e (λ e. condition_leaves (tag.0 == 0) BadTag _ v e (λ e. allowed _ v e h))
+change_leaves change.Reserve u v e h = allowed _ v e h
+change_leaves (change.AddReserved entry parent tag) u v e h =
+    condition_leaves (not (nat_lt parent u.reserved)) NoSuchEntry _ v e (λ e. condition_leaves (not (is_reserved u entry)) NotReserved _ v e (λ e. condition_leaves (tag.0 == 0) BadTag _ v e (λ e. allowed _ v e h)))
+change_leaves (change.Sibling entry sibling) u v e h =
+    condition_leaves (not (nat_lt entry (length u.entries))) NoSuchEntry _ v e (λ e. allowed _ v e h)
+change_leaves (change.Set entry name x) u v e h =
+    condition_leaves (not (nat_lt entry (length u.entries))) NoSuchEntry _ v e (λ e. condition_leaves (not (nat_lt 1 name.0)) BadName _ v e (λ e. allowed _ v e h))
+change_leaves (change.Delete entry name) u v e h =
+    condition_leaves (not (nat_lt entry (length u.entries))) NoSuchEntry _ v e (λ e. allowed _ v e h)
+change_leaves (change.DeleteChild parent entry) u v e h =
+    condition_leaves (not (nat_lt parent (length u.entries))) NoSuchEntry _ v e (λ e. allowed _ v e h)
 
 command_few : (s : Script) (c : Command) → HasFewUnits s.dwarf.units → IfBuilds (after_command s c)
 command_few s (Order o) h = order_few s.has_begun s (record s { endian = o; has_begun = true }) h
 command_few s (AddUnit e) h = unit_few s s.dwarf.units e
-command_few s (Add unit parent tag) h = changed_few (after_add parent tag.0) s s.dwarf.units unit (add_leaves parent tag.0) h
-command_few s (Set unit entry name x) h = changed_few (after_set entry name.0 (attribute_value x)) s s.dwarf.units unit (set_leaves entry name.0 (attribute_value x)) h
+command_few s (ChangeUnit unit c) h = changed_few (after_change c) s s.dwarf.units unit (change_leaves c) h
 
 asked_few : (s : Script) (r : Outcome (Option Command)) → HasFewUnits s.dwarf.units → IfBuilds (r >>= after_asked s)
 asked_few s (Ok None) h = h

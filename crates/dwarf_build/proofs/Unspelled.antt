@@ -3,7 +3,7 @@ use Rattle.std.proofs.Common.{◌≡◌, ◌∙◌, sym, ap, subst, ℕ, ◌≤�
 use Rattle.dw_base.specs.Numbers.{is_width, length_fits}
 use Rattle.dw_base.specs.Order.{is_big_of}
 use Rattle.dw_base.specs.declared.error.Error.{Error}
-use Rattle.dw_base.specs.declared.error.Error.TheVariants.{NoMemory, WriteFault, ValueTooLarge, UnsupportedWordSize, UnsupportedVersion, InvalidAttributeValue, InitialLengthOverflow}
+use Rattle.dw_base.specs.declared.error.Error.TheVariants.{NoMemory, WriteFault, ValueTooLarge, UnsupportedWordSize, UnsupportedVersion, InvalidAttributeValue, InvalidReference, InitialLengthOverflow}
 use Rattle.dw_writer.specs.Contents.{Meaning}
 use Rattle.dw_writer.specs.New.{IsNewPlain}
 use Rattle.dw_writer.specs.Sections.{fault_sum}
@@ -29,6 +29,7 @@ module _ {W : Type 0} (meaning : W → Meaning) (big : Bool) (old new : Sections
   unit_unspelled u ValueTooLarge some r =
       absurd (not_both _ (place_fits _ u.encoding.format _ empty.writers.debug_info.plain empty.writers.debug_abbrev.size) r)
   unit_unspelled u InvalidAttributeValue some r = r
+  unit_unspelled u InvalidReference some r = r
   unit_unspelled u InitialLengthOverflow some r =
       ap (λ b. length_fits u.encoding.format (unit_length u.encoding (tree_bytes b u.encoding (settled u).entries))) (sym empty.writers.debug_info.order) ∙ r
   unit_unspelled u (UnsupportedVersion v) some r = r
@@ -49,6 +50,7 @@ says_refused s status text e is says cause =
 -- a valid unit has a spelling
 unit_spelled : (big : Bool) (u : UnitValue) (e : Error) → IsWritable big u → IsUnspelled big u e → ⊥
 unit_spelled big u InvalidAttributeValue valid r = not_both _ valid.spelled r
+unit_spelled big u InvalidReference valid r = not_both _ valid.inside r
 unit_spelled big u InitialLengthOverflow valid r = not_both _ valid.fits r
 unit_spelled big u (UnsupportedVersion v) valid r =
     not_both _ (and_left (is_version u.encoding.version) (is_width u.encoding.address_size) valid.encodable) (sym (ap is_version r.0) ∙ r.1)

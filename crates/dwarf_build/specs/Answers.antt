@@ -3,12 +3,13 @@ use Rattle.std.specs.Prelude.{◌≡◌, ◌⊎◌, ℕ, ◌<◌, ◌≤◌, Lis
 use Rattle.dw_base.specs.Order.{is_big_of}
 use Rattle.dw_base.specs.Numbers.{length_fits}
 use Rattle.dw_base.specs.declared.error.Error.{Error}
-use Rattle.dw_base.specs.declared.error.Error.TheVariants.{InvalidAttributeValue, InitialLengthOverflow}
+use Rattle.dw_base.specs.declared.error.Error.TheVariants.{InvalidAttributeValue, InvalidReference, InitialLengthOverflow}
 use Rattle.dw_unit.specs.UnitValue.{UnitValue}
 use Rattle.dw_unit.specs.Tree.{preorder}
 use Rattle.dw_unit.specs.Coded.{are_spelled}
 use Rattle.dw_unit.specs.UnitText.{unit_length}
 use Rattle.dw_unit.specs.Whole.{settled, tree_bytes}
+use Rattle.dw_unit.specs.Valid.{are_references_inside}
 use Rattle.dw_unit.specs.Causes.{EncodingRefused}
 use Rattle.dw_unit.specs.Built.{Built}
 use Rattle.dw_ends.specs.Ends.{Input, Intake, HasRisen, used_up, with_after, TakesPrefix}
@@ -40,9 +41,10 @@ pub record ListsScript (s : Script) (text : List ℕ) : Type 0 where
   pub built : Built (map settled s.dwarf.units) (is_big_of s.endian) info abbrevs
   pub listed : text ≡ sections_text (is_big_of s.endian) (only_units info abbrevs)
 
--- a version, an address size, a string or a length has no spelling
+-- a version, an address size, a string or a length has no spelling, or a reference names an entry outside the tree
 abbrev pub IsUnspelled : Bool → UnitValue → Error → Type 0
 IsUnspelled big u InvalidAttributeValue = IsFalse (are_spelled (settled u).entries (preorder (settled u).entries))
+IsUnspelled big u InvalidReference = IsFalse (are_references_inside (settled u).entries)
 IsUnspelled big u InitialLengthOverflow = IsFalse (length_fits u.encoding.format (unit_length u.encoding (tree_bytes big u.encoding (settled u).entries)))
 IsUnspelled big u e = EncodingRefused u.encoding e
 

@@ -1,15 +1,17 @@
 -- What a script builds: each line does what it says to what the lines before it built.
-use Rattle.std.specs.Prelude.{◌≡◌, ℕ, ◌+◌, ◌≤◌, List, [], ◌∷◌, length, Option, Some, None, Result, Ok, Err, ok_or, true, false, not, nat_lt, ◌==◌, if◌then◌else◌, slice_get, slice_set, All}
+use Rattle.std.specs.Prelude.{◌≡◌, ℕ, ◌+◌, ◌≤◌, List, [], ◌∷◌, length, Option, Some, None, Result, Ok, Err, ok_or, Bool, true, false, not, ◌&&◌, nat_lt, ◌==◌, if◌then◌else◌, slice_get, slice_set, All}
 use Rattle.dw_base.specs.declared.endianity.RunTimeEndian.TheVariants.{Little}
 use Rattle.dw_script.specs.Fields.{Outcome, ◌>>=◌}
 use Rattle.dw_script.specs.Lines.{parsed_line}
 use Rattle.dw_script.specs.Pieces.{pieces}
 use Rattle.dw_script.specs.declared.command.Command.{Command}
-use Rattle.dw_script.specs.declared.command.Command.TheVariants.{Order, Unit as AddUnit, Add, Set}
-use Rattle.dw_script.specs.declared.reason.Reason.TheVariants.{NotBuilt, OrderNotFirst, NoSuchUnit, NoSuchEntry, BadTag, BadName}
+use Rattle.dw_script.specs.declared.command.Command.TheVariants.{Order, Unit as AddUnit, Change as ChangeUnit}
+use Rattle.dw_script.specs.declared.change.Change.{Change}
+use Rattle.dw_script.specs.declared.change.Change.TheVariants as change
+use Rattle.dw_script.specs.declared.reason.Reason.TheVariants.{NotBuilt, OrderNotFirst, NoSuchUnit, NoSuchEntry, NotReserved, BadTag, BadName}
 use Rattle.dw_script.specs.declared.value.Value.{Value}
 use Rattle.dw_script.specs.declared.value.Value.TheVariants as value
-use Rattle.dw_unit.specs.Entries.{with_changed, filled_up, with_new_child, with_attribute}
+use Rattle.dw_unit.specs.Entries.{EntryValue, with_changed, filled_up, with_new_child, with_sibling, with_attribute, without_attribute, without_child, tag_of}
 use Rattle.dw_unit.specs.UnitValue.{UnitValue, new_unit, no_line_program}
 use Rattle.dw_unit.specs.declared.attribute.AttributeValue.{AttributeValue}
 use Rattle.dw_unit.specs.declared.attribute.AttributeValue.TheVariants as stored
@@ -34,6 +36,7 @@ abbrev pub attribute_value : Value → AttributeValue
 attribute_value (value.String bytes) = stored.String bytes
 attribute_value (value.Udata n) = stored.Udata n
 attribute_value (value.Data1 n) = stored.Data1 n
+attribute_value (value.UnitRef i) = stored.UnitRef (record { 0 = i })
 
 -- a unit with an entry added under a parent, for which an id was handed out
 abbrev pub after_add : ℕ → ℕ → UnitValue → Outcome UnitValue
@@ -42,12 +45,44 @@ after_add parent tag u =
     else (if tag == 0 then Err BadTag
     else Ok (record u { entries = with_new_child u.reserved parent tag (filled_up (u.reserved + 1) u.entries); reserved = u.reserved + 1 }))
 
+-- a unit that handed out one more id
+abbrev pub after_reserve : UnitValue → Outcome UnitValue
+after_reserve u = Ok (record u { reserved = u.reserved + 1 })
+
+-- an id was handed out, is not the root's and was not added yet
+abbrev pub is_reserved : UnitValue → ℕ → Bool
+is_reserved u i = nat_lt 0 i && nat_lt i u.reserved && (tag_of u.entries i == 0)
+
+-- a unit with the entry of a reserved id added under a parent
+abbrev pub after_add_reserved : ℕ → ℕ → ℕ → UnitValue → Outcome UnitValue
+after_add_reserved entry parent tag u =
+    if not (nat_lt parent u.reserved) then Err NoSuchEntry
+    else (if not (is_reserved u entry) then Err NotReserved
+    else (if tag == 0 then Err BadTag
+    else Ok (record u { entries = with_new_child entry parent tag (filled_up u.reserved u.entries) })))
+
+-- a unit with one of its entries changed
+abbrev pub with_entry_changed : ℕ → (EntryValue → EntryValue) → UnitValue → Outcome UnitValue
+with_entry_changed entry change u =
+    if not (nat_lt entry (length u.entries)) then Err NoSuchEntry
+    else Ok (record u { entries = with_changed entry change u.entries })
+
 -- a unit with an attribute set in an entry; no name is 0, and that of a sibling, which is 1, is not set by values
 abbrev pub after_set : ℕ → ℕ → AttributeValue → UnitValue → Outcome UnitValue
 after_set entry name v u =
     if not (nat_lt entry (length u.entries)) then Err NoSuchEntry
     else (if not (nat_lt 1 name) then Err BadName
     else Ok (record u { entries = with_changed entry (with_attribute name v) u.entries }))
+
+-- a unit after a change
+abbrev pub after_change : Change → UnitValue → Outcome UnitValue
+after_change (change.Add parent tag) u = after_add parent tag.0 u
+after_change change.Reserve u = after_reserve u
+after_change (change.AddReserved entry parent tag) u = after_add_reserved entry parent tag.0 u
+after_change (change.Sibling entry sibling) u = with_entry_changed entry (with_sibling sibling) u
+after_change (change.Set entry name v) u = after_set entry name.0 (attribute_value v) u
+after_change (change.Delete entry name) u = with_entry_changed entry (without_attribute name.0) u
+after_change (change.DeleteChild parent entry) u = with_entry_changed parent (without_child entry) u
 
 -- the units with one of them changed
 abbrev pub with_unit_changed : ℕ → (UnitValue → Outcome UnitValue) → List UnitValue → Outcome (List UnitValue)
@@ -64,8 +99,7 @@ with_units s us = record s { dwarf = record { units = us }; has_begun = true }
 abbrev pub after_command : Script → Command → Outcome Script
 after_command s (Order o) = if s.has_begun then Err OrderNotFirst else Ok (record s { endian = o; has_begun = true })
 after_command s (AddUnit e) = one_more_unit s.dwarf.units (new_unit e no_line_program) >>= λ us. Ok (with_units s us)
-after_command s (Add unit parent tag) = with_unit_changed unit (after_add parent tag.0) s.dwarf.units >>= λ us. Ok (with_units s us)
-after_command s (Set unit entry name v) = with_unit_changed unit (after_set entry name.0 (attribute_value v)) s.dwarf.units >>= λ us. Ok (with_units s us)
+after_command s (ChangeUnit unit c) = with_unit_changed unit (after_change c) s.dwarf.units >>= λ us. Ok (with_units s us)
 
 -- after a line that may ask for nothing
 abbrev pub after_asked : Script → Option Command → Outcome Script

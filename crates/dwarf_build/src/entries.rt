@@ -1,12 +1,14 @@
 //! What the lines of a script do to the entries of a unit.
 
-ghost use Rattle.std.specs.Prelude.{◌≡◌, ◌<◌, ◌≤◌, false, IfOk, IfErr, OnOk};
-ghost use Rattle.dwarf_build.specs.Script.{attribute_value, after_add, after_set, RefusedFor};
+ghost use Rattle.std.specs.Prelude.{◌≡◌, ◌<◌, ◌≤◌, false, IsFalse, IfOk, IfErr, OnOk};
+ghost use Rattle.dw_unit.specs.Entries.{with_sibling, without_attribute, without_child};
+ghost use Rattle.dw_unit.specs.UnitValue.{IsReserved};
+ghost use Rattle.dwarf_build.specs.Script.{attribute_value, after_change, after_add, after_reserve, is_reserved, after_add_reserved, with_entry_changed, after_set, RefusedFor};
 
 use crate::script::CommandError;
 use dw_base::constants::DW_AT_sibling;
 use dw_base::{DwAt, DwTag, UnitEntryId};
-use dw_script::{Reason, Value};
+use dw_script::{Change, Reason, Value};
 use dw_unit::{AttributeValue, Bytes, Unit};
 use std::alloc::{AllocError, Global};
 
@@ -21,8 +23,29 @@ pub(crate) fn index_below(number: u64, count: usize, missing: Reason) -> Result<
     }
 }
 
+// Does to a unit what a line asks for.
+pub(crate) fn apply_change(
+    alloc: Global,
+    unit: &mut Unit,
+    change: Change<'_>,
+) -> Result<(), CommandError>
+    requires { unit.old.is_freed ≡ false }
+    ensures ok { OnOk result (after_change change.entry unit.old ≡ Ok unit.new) }
+    ensures err { IfErr result (RefusedFor (after_change change.entry unit.old)) }
+{
+    match change {
+        Change::Add { parent, tag } => add_entry(unit, parent, tag),
+        Change::Reserve => reserve(unit),
+        Change::AddReserved { entry, parent, tag } => add_reserved(unit, entry, parent, tag),
+        Change::Sibling { entry, sibling } => set_sibling(unit, entry, sibling),
+        Change::Set { entry, name, value } => set_attribute(alloc, unit, entry, name, value),
+        Change::Delete { entry, name } => delete_attribute(unit, entry, name),
+        Change::DeleteChild { parent, entry } => delete_child(unit, parent, entry),
+    }
+}
+
 // Adds an entry behind its parent's other children.
-pub(crate) fn add_entry(unit: &mut Unit, parent: u64, tag: DwTag) -> Result<(), CommandError>
+fn add_entry(unit: &mut Unit, parent: u64, tag: DwTag) -> Result<(), CommandError>
     requires { unit.old.is_freed ≡ false }
     ensures ok { OnOk result (after_add parent tag.0 unit.old ≡ Ok unit.new) }
     ensures err { IfErr result (RefusedFor (after_add parent tag.0 unit.old)) }
@@ -31,18 +54,105 @@ pub(crate) fn add_entry(unit: &mut Unit, parent: u64, tag: DwTag) -> Result<(), 
     if tag.0 == 0 {
         return Err(CommandError::Refused(Reason::BadTag));
     }
-    // No script is long enough for as many entries as there are ids.
-    if unit.reserved() == usize::MAX {
-        return Err(CommandError::NoMemory);
-    }
+    check_room(unit)?;
     match unit.add(UnitEntryId::new(parent), tag) {
         Ok(_) => Ok(()),
         Err(_) => Err(CommandError::NoMemory),
     }
 }
 
+// Hands out an id.
+fn reserve(unit: &mut Unit) -> Result<(), CommandError>
+    requires { unit.old.is_freed ≡ false }
+    ensures ok { OnOk result (after_reserve unit.old ≡ Ok unit.new) }
+    ensures err { IfErr result (RefusedFor (after_reserve unit.old)) }
+{
+    check_room(unit)?;
+    unit.reserve();
+    Ok(())
+}
+
+// Adds the entry of a reserved id behind its parent's other children.
+fn add_reserved(unit: &mut Unit, entry: u64, parent: u64, tag: DwTag) -> Result<(), CommandError>
+    requires { unit.old.is_freed ≡ false }
+    ensures ok { OnOk result (after_add_reserved entry parent tag.0 unit.old ≡ Ok unit.new) }
+    ensures err { IfErr result (RefusedFor (after_add_reserved entry parent tag.0 unit.old)) }
+{
+    let parent = index_below(parent, unit.reserved(), Reason::NoSuchEntry)?;
+    let child = reserved_id(unit, entry)?;
+    if tag.0 == 0 {
+        return Err(CommandError::Refused(Reason::BadTag));
+    }
+    match unit.add_reserved(child, UnitEntryId::new(parent), tag) {
+        Ok(()) => Ok(()),
+        Err(_) => Err(CommandError::NoMemory),
+    }
+}
+
+// The id that a line gives, if it waits for its entry.
+fn reserved_id(unit: &Unit, number: u64) -> Result<UnitEntryId, CommandError>
+    ensures ok { IfOk result (λ id. (id.0 ≡ number) × IsReserved unit.now number) }
+    ensures err { IfErr result (λ e. (e ≡ CommandError.Refused Reason.NotReserved) × IsFalse (is_reserved unit.now number)) }
+{
+    let index = index_below(number, unit.reserved(), Reason::NotReserved)?;
+    let id = UnitEntryId::new(index);
+    if !unit.is_reserved(id) {
+        return Err(CommandError::Refused(Reason::NotReserved));
+    }
+    Ok(id)
+}
+
+// Says whether an entry is to name the place past its children.
+fn set_sibling(unit: &mut Unit, entry: u64, sibling: bool) -> Result<(), CommandError>
+    ensures ok { OnOk result (with_entry_changed entry (with_sibling sibling) unit.old ≡ Ok unit.new) }
+    ensures err { IfErr result (RefusedFor (with_entry_changed entry (with_sibling sibling) unit.old)) }
+{
+    let index = index_below(entry, unit.count(), Reason::NoSuchEntry)?;
+    unit.get_mut(UnitEntryId::new(index)).set_sibling(sibling);
+    Ok(())
+}
+
+// Leaves an attribute of an entry out.
+fn delete_attribute(unit: &mut Unit, entry: u64, name: DwAt) -> Result<(), CommandError>
+    ensures ok { OnOk result (with_entry_changed entry (without_attribute name.0) unit.old ≡ Ok unit.new) }
+    ensures err { IfErr result (RefusedFor (with_entry_changed entry (without_attribute name.0) unit.old)) }
+{
+    let index = index_below(entry, unit.count(), Reason::NoSuchEntry)?;
+    unit.get_mut(UnitEntryId::new(index)).delete(name);
+    Ok(())
+}
+
+// Takes a child out of its parent's children, if it is there.
+fn delete_child(unit: &mut Unit, parent: u64, entry: u64) -> Result<(), CommandError>
+    ensures ok { OnOk result (with_entry_changed parent (without_child entry) unit.old ≡ Ok unit.new) }
+    ensures err { IfErr result (RefusedFor (with_entry_changed parent (without_child entry) unit.old)) }
+{
+    let index = index_below(parent, unit.count(), Reason::NoSuchEntry)?;
+    unit.get_mut(UnitEntryId::new(index))
+        .delete_child(id_of(entry));
+    Ok(())
+}
+
+// The id that a number stands for.
+fn id_of(number: u64) -> UnitEntryId
+    ensures { result.0 ≡ number }
+{
+    UnitEntryId::new(number as usize)
+}
+
+// Want of ids is want of memory: no script is long enough for as many entries as there are ids.
+fn check_room(unit: &Unit) -> Result<(), CommandError>
+    ensures ok { OnOk result (unit.now.reserved < usize.MAX) }
+    ensures err { IfErr result (λ e. e ≡ CommandError.NoMemory) }
+{
+    if unit.reserved() == usize::MAX {
+        return Err(CommandError::NoMemory);
+    }
+    Ok(())
+}
+
 // Gives an attribute of an entry a value.
-pub(crate) fn set_attribute(
+fn set_attribute(
     alloc: Global,
     unit: &mut Unit,
     entry: u64,
@@ -71,5 +181,6 @@ fn owned_value(alloc: Global, value: Value<'_>) -> Result<AttributeValue, AllocE
         Value::String(bytes) => Ok(AttributeValue::String(Bytes::from(bytes.decode(alloc)?))),
         Value::Udata(number) => Ok(AttributeValue::Udata(number)),
         Value::Data1(number) => Ok(AttributeValue::Data1(number)),
+        Value::UnitRef(entry) => Ok(AttributeValue::UnitRef(id_of(entry))),
     }
 }

@@ -4,6 +4,8 @@
 mod answer;
 mod entries;
 mod listing;
+#[cfg(test)]
+mod reference_tests;
 pub mod run;
 mod script;
 mod status;

@@ -2,10 +2,10 @@
 
 ghost use Rattle.std.specs.Prelude.{◌≡◌, ◌≤◌, length, Ok, Err, OnOk, IfOk, IfErr};
 
-use crate::entries::{add_entry, index_below, set_attribute};
-use dw_base::{DwAt, DwTag, Encoding, RunTimeEndian, UnitId};
+use crate::entries::{apply_change, index_below};
+use dw_base::{Encoding, RunTimeEndian, UnitId};
 use dw_dwarf::Dwarf;
-use dw_script::{Command, Reason, Value, lines, parse_line};
+use dw_script::{Change, Command, Reason, lines, parse_line};
 use dw_unit::{LineProgram, Unit};
 use std::alloc::Global;
 
@@ -84,13 +84,7 @@ impl Script {
         match command {
             Command::Order(endian) => self.set_order(endian),
             Command::Unit(encoding) => self.add_unit(alloc, encoding),
-            Command::Add { unit, parent, tag } => self.add(unit, parent, tag),
-            Command::Set {
-                unit,
-                entry,
-                name,
-                value,
-            } => self.set(alloc, unit, entry, name, value),
+            Command::Change { unit, change } => self.change_unit(alloc, unit, change),
         }
     }
 
@@ -124,32 +118,19 @@ impl Script {
         Ok(())
     }
 
-    fn add(&mut self, unit: u64, parent: u64, tag: DwTag) -> Result<(), CommandError>
-        requires { HasFewUnits self.old.dwarf.units }
-        ensures ok { OnOk result (after_command self.old (Command.Add unit parent tag) ≡ Ok self.new) }
-        ensures err { IfErr result (RefusedFor (after_command self.old (Command.Add unit parent tag))) }
-    {
-        let index = index_below(unit, self.dwarf.units.count(), Reason::NoSuchUnit)?;
-        let unit = self.dwarf.units.get_mut(UnitId::new(index));
-        add_entry(unit, parent, tag)?;
-        self.has_begun = true;
-        Ok(())
-    }
-
-    fn set(
+    fn change_unit(
         &mut self,
         alloc: Global,
         unit: u64,
-        entry: u64,
-        name: DwAt,
-        value: Value<'_>,
+        change: Change<'_>,
     ) -> Result<(), CommandError>
-        ensures ok { OnOk result (after_command self.old (Command.Set unit entry name value.entry) ≡ Ok self.new) }
-        ensures err { IfErr result (RefusedFor (after_command self.old (Command.Set unit entry name value.entry))) }
+        requires { HasFewUnits self.old.dwarf.units }
+        ensures ok { OnOk result (after_command self.old (Command.Change unit change.entry) ≡ Ok self.new) }
+        ensures err { IfErr result (RefusedFor (after_command self.old (Command.Change unit change.entry))) }
     {
         let index = index_below(unit, self.dwarf.units.count(), Reason::NoSuchUnit)?;
         let unit = self.dwarf.units.get_mut(UnitId::new(index));
-        set_attribute(alloc, unit, entry, name, value)?;
+        apply_change(alloc, unit, change)?;
         self.has_begun = true;
         Ok(())
     }

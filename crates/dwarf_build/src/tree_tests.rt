@@ -8,7 +8,7 @@ use std::test::Fail;
 
 /// Builds a script whose lines are separated by ` / `, and looks at the two sections of its unit, given
 /// in hex with spaces between.
-fn check_sections(
+pub(crate) fn check_sections(
     rt: &impl Abort,
     alloc: Global,
     lines: &str,
@@ -177,9 +177,9 @@ fn refuses_lines_about_entries(rt: HostRuntime) -> Result<(), Fail> {
         ("set 0 0 3 udata 1 2", "line 2: wrong fields\n"),
         ("set 0 0 DW_AT_frob udata 1", "line 2: unknown word\n"),
         ("set 0 0 3 frob 1", "line 2: unknown word\n"),
-        ("set 0 0 3 unit_ref 0", "line 2: not built\n"),
-        ("set 9 9 0 unit_ref x y", "line 2: not built\n"),
-        ("reserve 0", "line 2: not built\n"),
+        ("set 0 0 3 info_ref 0:0", "line 2: not built\n"),
+        ("set 9 9 0 info_ref x y", "line 2: not built\n"),
+        ("str 61", "line 2: not built\n"),
         ("set 0 0 3 udata 1\norder big", "line 3: order not first\n"),
     ];
     for (line, want) in rows {

@@ -22,10 +22,11 @@ blanks-preserved c =
     let i = c.blanks.invariant in
     let es = c.args.entries.now in
     let n = vec_len c.blanks.entries in
+    let id : c.new-id.result.0 ≡ n = c.new-id.ensures ∙ c.len-in-blanks-2.ensures in
     let enough : length es.items ≤ n = omega (arith, i.grown, es.ok.0) in
     record {
       grown = omega (arith, p.len, i.grown);
       within = omega (arith, p.len, c.blanks-test.true, c.len-in-blanks.ensures);
       room = omega (arith, p.capacity, i.room);
-      items = p.items ∙ ap (λ x. c.blanks.entries.items ++ x ∷ []) c.blank.ensures ∙ ap (λ xs. xs ++ blank_entry ∷ []) i.items ∙ filled_up-push n es.items enough ∙ ap (λ k. filled_up k es.items) (sym p.len);
+      items = p.items ∙ ap (λ x. c.blanks.entries.items ++ x ∷ []) (c.blank.ensures ∙ ap blank_entry id) ∙ ap (λ xs. xs ++ blank_entry n ∷ []) i.items ∙ filled_up-push n es.items enough ∙ ap (λ k. filled_up k es.items) (sym p.len);
     }

@@ -1,10 +1,19 @@
-use Rattle.std.proofs.Common.{◌∙◌, sym, ap, ◌+◌, ◌++◌, ◌∷◌, [], map, drop, get_or, append_assoc}
+use Rattle.std.proofs.Common.{◌≡◌, ◌∙◌, sym, ap, ℕ, ◌+◌, List, ◌++◌, ◌∷◌, [], map, drop, get_or, append_assoc}
 use Rattle.dw_unit.specs.declared.tree.Item.TheVariants as its
 use Rattle.dw_unit.specs.Tree.{mark_of, marks}
 use Rattle.dw_unit.specs.Coded.{shapes_of, code_at}
 use Rattle.dw_unit.proofs.Marks.{within_at, tagged_at, marks_more}
 use Rattle.dw_unit.proofs.Shared.{code_given}
 use Rattle.dw_unit.proofs.codes.assign_codes.Goals as goal
+
+-- the codes that were found, and one more
+codes_more : {X : Type 0} (code_of : X → ℕ) (old new all : List ℕ) (n : ℕ) (x : X) (xs rest : List X) → new ≡ old ++ n ∷ [] → n ≡ code_of x → xs ≡ x ∷ rest → old ++ map code_of xs ≡ all → new ++ map code_of rest ≡ all
+codes_more code_of old new all n x xs rest pushed is more before =
+    ap (λ cs. cs ++ map code_of rest) pushed
+    ∙ append_assoc old (n ∷ []) (map code_of rest)
+    ∙ ap (λ k. old ++ k ∷ map code_of rest) is
+    ∙ sym (ap (λ l. old ++ map code_of l) more)
+    ∙ before
 
 pub code_for-requires-clause-within : goal.code_for-requires-clause-within
 code_for-requires-clause-within c =
@@ -27,10 +36,5 @@ loop-item-preserved c =
     let given = code_given e es c.loop-item.table (shapes_of e es [] ms) (drop i ms) (drop (i + 1) ms) m c.loop-item.invariant.table more in
     record {
       table = ap (λ t. shapes_of e es t (drop (i + 1) ms)) c.in_ok-code.ensures.table ∙ sym (ap (shapes_of e es c.loop-item.table) more) ∙ c.loop-item.invariant.table;
-      codes =
-          ap (λ cs. cs ++ map code_of (drop (i + 1) ms)) c.in_ok-push.ensures.items
-          ∙ append_assoc old (c.in_ok-code.code ∷ []) (map code_of (drop (i + 1) ms))
-          ∙ ap (λ n. old ++ n ∷ map code_of (drop (i + 1) ms)) (c.in_ok-code.ensures.code ∙ given)
-          ∙ sym (ap (λ l. old ++ map code_of l) more)
-          ∙ c.loop-item.invariant.codes;
+      codes = codes_more code_of old c.push.new.self.items (map code_of ms) c.in_ok-code.code m (drop i ms) (drop (i + 1) ms) c.in_ok-push.ensures.items (c.in_ok-code.ensures.code ∙ given) more c.loop-item.invariant.codes;
     }

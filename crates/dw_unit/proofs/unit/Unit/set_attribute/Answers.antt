@@ -7,7 +7,7 @@ use Rattle.dw_unit.proofs.unit.Unit.set_attribute.Goals as goal
 pub invariant_of-self : goal.invariant_of-self
 invariant_of-self c =
     let f = with_attribute c.args.name.0 c.args.value in
-    sound_either c.args.index c.self.inside.entries.len _ _ _ _ c.self.view_is c.self.inside.entries.ok.0 c.requires.index_in c.index_mut-entry.ensures.value c.set.result f (record { parent = λ e. refl; tag = λ e. refl; children = λ e. refl }) c.set.ensures.ok c.set.ensures.kept c.self.invariant
+    sound_either c.args.index c.self.inside.entries.len _ _ _ _ c.self.view_is c.self.inside.entries.ok.0 c.requires.index_in c.index_mut-entry.ensures.value c.set.result f (record { id = λ e. refl; parent = λ e. refl; tag = λ e. refl; children = λ e. refl }) c.set.ensures.ok c.set.ensures.kept c.self.invariant
 
 pub returns-clause-ok : goal.returns-clause-ok
 returns-clause-ok c =

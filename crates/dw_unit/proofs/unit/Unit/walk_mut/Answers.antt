@@ -7,7 +7,7 @@ pub invariant_of-self-lent : goal.invariant_of-self-lent
 invariant_of-self-lent c w =
     let entries = c.self.inside.entries in
     let e = c.index_mut-entry.result.now in
-    sound_inner_at c.args.index entries.len _ _ e (with_attributes w.attributes e) c.self.view_is entries.ok.0 c.requires c.index_mut-entry.ensures.value (with_attributes w.attributes) (record { parent = λ e. refl; tag = λ e. refl; children = λ e. refl }) refl c.self.invariant
+    sound_inner_at c.args.index entries.len _ _ e (with_attributes w.attributes e) c.self.view_is entries.ok.0 c.requires c.index_mut-entry.ensures.value (with_attributes w.attributes) (record { id = λ e. refl; parent = λ e. refl; tag = λ e. refl; children = λ e. refl }) refl c.self.invariant
 
 pub returns : goal.returns
 returns c =

@@ -2,7 +2,7 @@ use Rattle.std.proofs.Common.{◌∙◌, sym, ap, subst, Err}
 use Rattle.std.specs.Prelude.{IfErr}
 use Rattle.std.proofs.lemmas.Result.{err_from_is_err_and}
 use Rattle.dw_unit.specs.Causes.{UnitRefused}
-use Rattle.dw_unit.proofs.Refused.{tree_refused}
+use Rattle.dw_unit.proofs.Refused.{tree_refused, settled_writable}
 use Rattle.dw_unit.proofs.unit.Unit.write.Goals as goal
 
 pub returns-in_err-write_tree-clause-err : goal.returns-in_err-write_tree-clause-err
@@ -14,3 +14,8 @@ returns-in_err-write_tree-clause-err g c =
     let is = c.self-2.view_is ∙ c.in_ok-settle.ensures.ok in
     subst (λ r. IfErr r (UnitRefused g.W.Writer.meaning old new u)) (sym (p.1 ∙ ap Err p.2))
     (tree_refused g.W.Writer.meaning old new u _ _ c.in_err-write_tree.field-0.0 (ap (λ w. w.encoding) is) (c.deref.ensures.value ∙ ap (λ w. w.entries) is) c.in_err-write_tree.ensures.err)
+
+pub returns-clause-writable : goal.returns-clause-writable
+returns-clause-writable g c =
+    let is = c.self-2.view_is ∙ c.in_ok-settle.ensures.ok in
+    settled_writable _ c.args.self.now _ _ (ap (λ w. w.encoding) is) (c.deref.ensures.value ∙ ap (λ w. w.entries) is) c.in_ok-write_tree.ensures.writable

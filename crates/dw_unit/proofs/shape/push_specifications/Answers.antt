@@ -1,7 +1,7 @@
 use Rattle.std.proofs.Common.{◌<◌, sym, subst}
 use Rattle.dw_unit.specs.declared.attribute.Attribute.{Attribute}
 use Rattle.dw_unit.proofs.Marks.{named_at}
-use Rattle.dw_unit.proofs.shape.specifications.Goals as goal
+use Rattle.dw_unit.proofs.shape.push_specifications.Goals as goal
 
 pub specification-requires : goal.specification-requires
 specification-requires c =

@@ -1,0 +1,69 @@
+-- Where the entries of a unit stand: sizes and places in preorder (DWARF 5, 7.5.2 and 7.5.3).
+use Rattle.std.specs.Prelude.{ℕ, zero, suc, ◌+◌, Bool, List, [], ◌∷◌, length, ◌==◌, if◌then◌else◌}
+use Rattle.dw_base.specs.Numbers.{word_of}
+use Rattle.dw_base.specs.Leb128.{uleb}
+use Rattle.dw_base.specs.Abbreviations.{Shape}
+use Rattle.dw_base.specs.Entries.{Mark, Open, Close}
+use Rattle.dw_base.specs.declared.common.Encoding.{Encoding}
+use Rattle.dw_unit.specs.declared.attribute.Attribute.{Attribute}
+use Rattle.dw_unit.specs.Entries.{EntryValue}
+use Rattle.dw_unit.specs.Tree.{has_any}
+use Rattle.dw_unit.specs.Values.{operand_size}
+use Rattle.dw_unit.specs.Shapes.{Placement, has_sibling}
+use Rattle.dw_unit.specs.Coded.{entry_at, code_at}
+
+-- the bytes of the place past an entry, where it names that
+abbrev pub sibling_size : Encoding → EntryValue → ℕ
+sibling_size e x = if has_sibling x then word_of e.format else 0
+
+-- the bytes of values
+abbrev pub values_size : Encoding → List Attribute → ℕ
+values_size e [] = 0
+values_size e (a ∷ xs) = operand_size e a.value + values_size e xs
+
+-- the bytes of an entry with its code
+abbrev pub entry_size : Encoding → ℕ → EntryValue → ℕ
+entry_size e code x = length (uleb code) + (sibling_size e x + values_size e x.attributes)
+
+-- the bytes of a mark with its code; a list of children is closed by one
+abbrev pub mark_size : Encoding → List EntryValue → ℕ → Mark ℕ → ℕ
+mark_size e es code (Open i) = entry_size e code (entry_at es i)
+mark_size e es code Close = 1
+
+-- the entry at an index has children
+abbrev pub is_parent : List EntryValue → ℕ → Bool
+is_parent es i = has_any (entry_at es i).children
+
+module _ (e : Encoding) (es : List EntryValue) (shapes : List Shape) where
+  abbrev pub size_of : Mark ℕ → ℕ
+  size_of m = mark_size e es (code_at e es shapes m) m
+
+  -- the bytes of marks
+  abbrev pub sizes_of : List (Mark ℕ) → ℕ
+  sizes_of [] = 0
+  sizes_of (m ∷ ms) = size_of m + sizes_of ms
+
+  -- the place of an entry among marks of which the first stands at a place: all that is before it lies between
+  abbrev pub place_from : ℕ → List (Mark ℕ) → ℕ → ℕ
+  place_from at [] i = 0
+  place_from at (Open j ∷ ms) i = if j == i then at else place_from (at + size_of (Open j)) ms i
+  place_from at (Close ∷ ms) i = place_from (at + 1) ms i
+
+  -- the place behind the zero that closes the innermost list of children, or that which is d lists further out
+  abbrev pub behind_from : ℕ → ℕ → List (Mark ℕ) → ℕ
+  behind_from d at [] = 0
+  behind_from d at (Open j ∷ ms) = behind_from (if is_parent es j then suc d else d) (at + size_of (Open j)) ms
+  behind_from zero at (Close ∷ ms) = at + 1
+  behind_from (suc d) at (Close ∷ ms) = behind_from d (at + 1) ms
+
+  -- the place past an entry
+  abbrev pub past_from : ℕ → List (Mark ℕ) → ℕ → ℕ
+  past_from at [] i = 0
+  past_from at (Open j ∷ ms) i =
+      if j == i then (if is_parent es j then behind_from 0 (at + size_of (Open j)) ms else at + size_of (Open j))
+      else past_from (at + size_of (Open j)) ms i
+  past_from at (Close ∷ ms) i = past_from (at + 1) ms i
+
+  -- both, of marks of which the first stands at a place
+  abbrev pub laid_from : ℕ → List (Mark ℕ) → Placement
+  laid_from at ms = record { place = place_from at ms; past = past_from at ms }

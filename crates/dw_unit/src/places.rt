@@ -1,0 +1,56 @@
+//! Where the entries of a unit stand.
+
+ghost use Rattle.std.specs.Prelude.{◌≡◌, ◌≤◌, ◌-◌, ℕ, Some, None, IsTrue, IsFalse, OnOk, IfErr, if◌then◌else◌};
+ghost use Rattle.dw_base.specs.Numbers.{word_of, fits, length_size, length_fits};
+ghost use Rattle.dw_base.specs.declared.error.Error.TheVariants.{InitialLengthOverflow};
+ghost use Rattle.dw_unit.specs.Places.{placement_of, has_place};
+
+use dw_base::{Error, Format, Result, UnitEntryId};
+
+/// The first length that the 32-bit format has no spelling for, after the length itself.
+const END_OF_32_BIT_UNIT: u64 = 0xffff_fff4;
+
+/// The places of a unit's entries, each under its index, counted from the unit's first byte.
+#[derive(Drop)]
+pub(crate) struct Places {
+    /// Where each entry of the tree stands, and 0 for the others.
+    pub(crate) places: Vec<u64>,
+    /// The place past each entry of the tree and its children.
+    pub(crate) pasts: Vec<u64>,
+    /// The place past the whole unit.
+    pub(crate) end: u64,
+}
+
+impl Places {
+    /// The place of an entry, if it stands in the tree.
+    pub(crate) fn place(&self, entry: UnitEntryId) -> Option<u64>
+        ensures { result ≡ (if has_place (placement_of self.now) entry.0 then Some ((placement_of self.now).place entry.0) else None) }
+    {
+        match self.places.get(entry.index()) {
+            Some(place) if *place != 0 => Some(*place),
+            _ => None,
+        }
+    }
+
+    /// The place past an entry and its children.
+    pub(crate) fn past(&self, index: usize) -> u64
+        ensures { result ≡ (placement_of self.now).past index }
+    {
+        match self.pasts.get(index) {
+            Some(past) => *past,
+            None => 0,
+        }
+    }
+
+    /// Refuses a unit whose length the format has no spelling for.
+    pub(crate) fn check_length(&self, format: Format) -> Result<()>
+        ensures ok { OnOk result ((n : ℕ) → n ≤ self.now.end → IsTrue (fits (word_of format) n)) }
+        ensures err { IfErr result (λ e. (e ≡ InitialLengthOverflow) × IsFalse (length_fits format (self.now.end - length_size format))) }
+    {
+        let end = self.end;
+        match format {
+            Format::Dwarf32 if end >= END_OF_32_BIT_UNIT => Err(Error::InitialLengthOverflow),
+            _ => Ok(()),
+        }
+    }
+}
