@@ -1,17 +1,15 @@
 -- New plain sections hold the units that were written into them.
-use Rattle.std.proofs.Common.{◌≡◌, ◌∙◌, sym, ap, subst, ℕ, ◌+◌, ◌<◌, ◌≤◌, Bool, true, false, List, [], ◌∷◌, length, map, Some, refl, arith}
+use Rattle.std.proofs.Common.{◌≡◌, ◌∙◌, sym, ap, subst, ℕ, ◌≤◌, Bool, true, false, List, [], ◌∷◌, length, map, Some, refl, arith}
 use Rattle.std.specs.Prelude.{None}
 use Rattle.dw_dwarf.proofs.Conditions.{is_width-lt, MatchBool-false}
 use Rattle.dw_base.specs.Info.{units_at, read_info}
-use Rattle.dw_base.specs.Spelling.{header_size, unit_bytes, read_unit}
+use Rattle.dw_base.specs.Spelling.{unit_bytes, read_unit}
 use Rattle.dw_base.specs.Spellable.{IsUnit}
 use Rattle.dw_base.proofs.HeaderLaws.{length-unit_bytes}
 use Rattle.dw_base.proofs.InfoLaws.{read_one}
-use Rattle.dw_base.specs.declared.common.Encoding.{Encoding}
 use Rattle.dw_writer.specs.Texts.{Text, followed}
 use Rattle.dw_writer.specs.Contents.{Meaning}
 use Rattle.dw_writer.specs.Meaning.{Model, Appends, IsTidy, AllInside}
-use Rattle.dw_writer.specs.Resolved.{resolved}
 use Rattle.dw_writer.proofs.Steps.{Adds-appends}
 use Rattle.dw_writer.specs.New.{IsEmptyPlainWriter, IsNewPlain}
 use Rattle.dw_writer.specs.declared.sections.Sections.{Sections}

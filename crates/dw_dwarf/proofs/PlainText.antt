@@ -1,21 +1,21 @@
 -- What a unit's text comes to in a plain writer, where every section starts at 0.
-use Rattle.std.proofs.Common.{◌≡◌, ◌∙◌, sym, ap, ℕ, ◌+◌, ◌<◌, ◌≤◌, ◌^◌, Bool, true, false, List, [], ◌∷◌, ◌++◌, length, Some, None, refl, arith, IsTrue, nat_eq, ◌&&◌, ⊎_elim, append_assoc, length-append}
-use Rattle.std.specs.Prelude.{not, if◌then◌else◌, ◌||◌}
+use Rattle.std.proofs.Common.{◌≡◌, ◌∙◌, ap, ℕ, ◌<◌, Bool, true, false, List, [], ◌++◌, length, Some, None, refl, arith, nat_eq, ◌&&◌, ⊎_elim, length-append}
+use Rattle.std.specs.Prelude.{not, if◌then◌else◌}
 use Rattle.std.proofs.lemmas.Bool.{cases_eq, eq-eqb, ne_eqb}
-use Rattle.dw_base.specs.Numbers.{num, fits, word_of, escape_of, is_width}
-use Rattle.dw_base.specs.Spelling.{fields_bytes, fields_size, unit_bytes}
+use Rattle.dw_base.specs.Numbers.{num, word_of, escape_of}
+use Rattle.dw_base.specs.Spelling.{fields_bytes, unit_bytes}
 use Rattle.dw_base.proofs.HeaderLaws.{length-fields_bytes}
 use Rattle.dw_base.specs.declared.common.Encoding.{Encoding}
 use Rattle.dw_base.specs.declared.common.Format.{Format}
 use Rattle.dw_base.specs.declared.common.Format.TheVariants.{Dwarf32, Dwarf64}
 use Rattle.dw_base.specs.declared.section_id.SectionId.TheVariants.{DebugAbbrev}
-use Rattle.dw_writer.specs.Texts.{Text, followed, num_text}
+use Rattle.dw_writer.specs.Texts.{followed, num_text}
 use Rattle.dw_writer.specs.Layout.{Layout}
 use Rattle.dw_writer.specs.Contents.{Meaning}
 use Rattle.dw_writer.specs.Resolved.{resolved, put_records}
 use Rattle.dw_writer.specs.SectionTexts.{number_text, bytes_text, offset_text, after}
 use Rattle.dw_writer.proofs.Plain.{num-shown, num-byte}
-use Rattle.dw_unit.specs.UnitText.{after_version_text, fields_text, unit_length, unit_text}
+use Rattle.dw_unit.specs.UnitText.{fields_text, unit_length, unit_text}
 
 -- every section starts at 0, and there are no symbols
 abbrev pub at_zero : Layout

@@ -164,10 +164,11 @@ fn changes_an_entry_through_its_handle(rt: HostRuntime) -> std::result::Result<(
         *value = AttributeValue::UnitRef(root);
     }
     let attributes = entry.attrs_mut();
-    if let Some(mut attribute) = attributes.next() {
-        assert_eq!(rt; attribute.name(), DW_AT_name);
-        let name = Bytes::new(rt.alloc(), b"b")?;
-        attribute.set(AttributeValue::String(name));
+    'attributes: while let Some(mut attribute) = attributes.next() {
+        if attribute.name() == DW_AT_name {
+            let name = Bytes::new(rt.alloc(), b"b")?;
+            attribute.set(AttributeValue::String(name));
+        }
     }
     assert!(rt; entry.entry().sibling());
     let mut dwarf = Dwarf::new(rt.alloc());

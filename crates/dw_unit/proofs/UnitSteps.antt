@@ -1,9 +1,8 @@
 -- What the calls of a writer come to that write a unit, one after another.
 use Rattle.std.proofs.Common.{◌≡◌, ◌≢◌, ◌∙◌, sym, ap, subst, ℕ, ◌+◌, ◌-◌, ◌^◌, ◌<◌, ◌≤◌, Bool, true, false, List, [], ◌∷◌, ◌++◌, length, map, refl, arith, IsTrue, nat_eq, length-append}
-use Rattle.std.specs.Prelude.{nat_le, ◌&&◌, Result, Ok, Err, OnOk, All, slice_index_or}
+use Rattle.std.specs.Prelude.{nat_le, Result, Ok, Err, OnOk, All, slice_index_or}
 use Rattle.std.proofs.lemmas.List.Elements.{All-nil, All-cons}
 use Rattle.dw_unit.specs.UnitValue.{UnitValue}
-use Rattle.std.proofs.lemmas.Bool.Decides.{nat_tests}
 use Rattle.std.proofs.lemmas.Bool.{eq-eqb, ne_eqb}
 use Rattle.dw_base.specs.Numbers.{num, fits, is_width, word_of, escape_of, length_fits}
 use Rattle.dw_base.specs.Abbreviations.{Shape}
@@ -34,6 +33,7 @@ use Rattle.dw_unit.specs.Coded.{are_spelled, are_placed, shapes_of, coded, HaveO
 use Rattle.dw_unit.specs.UnitText.{fields_text, unit_length, unit_text}
 use Rattle.dw_unit.specs.Causes.{FieldsRefused, BodyRefused, TreeRefused}
 use Rattle.dw_unit.specs.Whole.{tree_bytes, tree_table, tree_shapes, tree_size, tree_placement, tree_read, tree_declared}
+use Rattle.dw_unit.proofs.Conditions.{and_left, and_right, nat_le-holds}
 use Rattle.dw_unit.proofs.TreeLaws.{preorder_one_tree}
 use Rattle.dw_unit.proofs.ReadPlaces.{coded-same}
 use Rattle.dw_unit.proofs.SamePlaces.{are_placed-same}
@@ -120,18 +120,6 @@ fields_refused old mid new e es table NoMemory r kind faults = tt
 fields_refused old mid new e es table WriteFault r kind faults = omega (arith, r)
 fields_refused old mid new e es table ValueTooLarge r kind faults = ap (λ b. offset_fits b (word_of e.format) table) (sym kind) ∙ r
 fields_refused old mid new e es table _ r kind faults = absurd r
-
--- Conditions that hold together, one by one.
-and_left : (a b : Bool) → IsTrue (a && b) → IsTrue a
-and_left true b h = refl
-and_left false b h = cc
-
-and_right : (a b : Bool) → IsTrue (a && b) → IsTrue b
-and_right true b h = h
-and_right false b h = cc
-
-nat_le-holds : (a b : ℕ) → IsTrue (nat_le a b) → a ≤ b
-nat_le-holds a b h = grind (arith, nat_tests)
 
 -- the entries, in the words of the tree
 pub tree_added : {m2 m3 : Meaning} (big : Bool) (e : Encoding) (es : List EntryValue) (p : Placement) (ms : List (Mark ℕ)) → ms ≡ preorder es → m2.is_big ≡ big → IsSamePlacement p (tree_placement e es) →

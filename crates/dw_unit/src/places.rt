@@ -7,7 +7,8 @@ ghost use Rattle.dw_unit.specs.Places.{placement_of, has_place};
 
 use dw_base::{Error, Format, Result, UnitEntryId};
 
-/// The first length that the 32-bit format has no spelling for, after the length itself.
+/// The first place past a unit whose length has no spelling in the 32-bit format: the four bytes of
+/// the length, and 0xfffffff0 more (DWARF 5, 7.4).
 const END_OF_32_BIT_UNIT: u64 = 0xffff_fff4;
 
 /// The places of a unit's entries, each under its index, counted from the unit's first byte.

@@ -15,7 +15,8 @@ use Rattle.dw_unit.specs.Causes.{UnitRefused, UnitsRefused}
 use Rattle.dw_unit.specs.Valid.{is_version, IsWritable}
 use Rattle.dw_dwarf.specs.Valid.{IsValid}
 use Rattle.dw_dwarf.proofs.Complete.{place_fits, valid_at}
-use Rattle.dw_dwarf.proofs.Conditions.{and_left, and_right, not_both}
+use Rattle.dw_unit.proofs.Conditions.{and_left, and_right}
+use Rattle.dw_dwarf.proofs.Conditions.{not_both}
 use Rattle.dwarf_build.specs.Answers.{IsUnspelled, HasNoSpelling, SaysOf}
 use Rattle.dwarf_build.specs.Texts.{refused_text}
 use Rattle.dwarf_build.specs.declared.script.Script.{Script}
