@@ -49,7 +49,7 @@ fn base_type(alloc: Global, name: &[u8], size: u8) -> Result<DebuggingInformatio
 fn variable(alloc: Global, of_type: UnitEntryId) -> Result<DebuggingInformationEntry>
     ensures { IfOk result (λ e. e.tag ≡ 0x34) }
 {
-    let mut entry = DebuggingInformationEntry::blank(alloc);
+    let mut entry = DebuggingInformationEntry::blank(alloc, UnitEntryId::new(1));
     entry.set_tag(DW_TAG_variable);
     entry.set(DW_AT_type, AttributeValue::UnitRef(of_type))?;
     Ok(entry)
