@@ -1,5 +1,6 @@
 -- Which calls of a source or a sink are to fail.
-use Rattle.std.specs.Prelude.{ℕ, ◌+◌, ◌-◌, ◌^◌, List, min, Contains}
+use Rattle.std.specs.Prelude.{ℕ, List, Contains}
+use Rattle.dw_ends.specs.Ends.{one_higher}
 
 -- the numbers of the calls that are to fail, from 0, and how many calls there were
 pub record Plan : Type 0 where
@@ -12,4 +13,4 @@ FailsNext plan = Contains plan.failing plan.calls
 
 -- the plan after one call more, whose count stays where a u64 ends
 abbrev pub after_call : Plan → Plan
-after_call plan = record plan { calls = min (plan.calls + 1) (2 ^ 64 - 1) }
+after_call plan = record plan { calls = one_higher plan.calls }

@@ -1,12 +1,13 @@
-// Faults: how often they came, and when they are to come.
-ghost use Rattle.std.specs.Prelude.{◌≡◌, ◌+◌, ◌-◌, ◌^◌, ◌≤◌, ◌↔◌, IsTrue, min};
+//! Faults: how often they came, and when they are to come.
+
+ghost use Rattle.std.specs.Prelude.{◌≡◌, ◌≤◌, ◌↔◌, IsTrue};
 ghost use Rattle.std.specs.Bool.{OnFalse, OnTrue};
-ghost use Rattle.dw_ends.specs.Ends.{HasRisen};
+ghost use Rattle.dw_ends.specs.Ends.{HasRisen, one_higher};
 ghost use Rattle.dw_ends.specs.Plan.{FailsNext, after_call};
 
 // One fault more. The count stays where a u64 ends.
 pub(crate) fn one_more(faults: u64) -> u64
-    ensures count { result ≡ min (faults + 1) (2 ^ 64 - 1) }
+    ensures count { result ≡ one_higher faults }
     ensures kept { faults ≤ result }
     ensures risen { HasRisen faults result }
 {
@@ -40,6 +41,7 @@ impl FaultPlan {
         ensures chosen { IsTrue result ↔ FailsNext (plan_of self.old) }
         ensures counted { plan_of self.new ≡ after_call (plan_of self.old) }
         ensures risen { OnTrue result (HasRisen self.old.faults self.new.faults) }
+        ensures once { OnTrue result (self.new.faults ≡ one_higher self.old.faults) }
         ensures kept { self.old.faults ≤ self.new.faults }
         ensures quiet { OnFalse result (self.new.faults ≡ self.old.faults) }
     {

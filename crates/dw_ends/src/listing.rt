@@ -1,4 +1,5 @@
-// The text of a listing: the order of bytes, and then a line for each section.
+//! The text of a listing: the order of bytes, and then a line for each section.
+
 ghost use Rattle.std.specs.Prelude.{◌≡◌, ◌++◌, OnOk, OnErr};
 ghost use Rattle.std.specs.Io.{StartsWith};
 ghost use Rattle.dw_ends.specs.Listing.{order_line, hex_word, section_line};
@@ -6,7 +7,7 @@ ghost use Rattle.dw_ends.specs.Listing.{order_line, hex_word, section_line};
 use itoa::Buffer;
 use std::alloc::AllocError;
 
-/// Appends the line that says the order of bytes.
+/// Appends the line that says the order of bytes. Where memory runs out, `text` stays as it was.
 pub fn push_order(text: &mut Vec<u8>, big: bool) -> Result<(), AllocError>
     ensures ok { OnOk result (text.new.items ≡ text.old.items ++ order_line big) }
     ensures err { OnErr result (text.new.items ≡ text.old.items) }
@@ -28,7 +29,8 @@ fn push_hex(text: &mut Vec<u8>, bytes: &[u8]) -> Result<(), AllocError>
     text.extend_from_slice(digits.as_bytes())
 }
 
-/// Appends a section's line: its name, its length and its bytes in hex.
+/// Appends a section's line: its name, its length and its bytes in hex. Where memory runs out, a front
+/// of the line may stay in `text`.
 pub fn push_section(text: &mut Vec<u8>, name: &str, bytes: &[u8]) -> Result<(), AllocError>
     ensures ok { OnOk result (text.new.items ≡ text.old.items ++ section_line name.now bytes.now) }
     ensures err { OnErr result (StartsWith text.new.items text.old.items) }

@@ -1,9 +1,10 @@
-// Where text goes.
-ghost use Rattle.std.specs.Prelude.{◌≡◌, ◌<◌, ◌≤◌, ◌↔◌, [], length, take, Some, None, Ok, IfOk, OnErr, IsErrOf};
+//! Where text goes.
+
+ghost use Rattle.std.specs.Prelude.{◌≡◌, ◌<◌, ◌≤◌, ◌↔◌, ◌⊎◌, [], length, take, Some, None, Ok, IfOk, OnOk, OnErr, IsErrOf};
 ghost use Rattle.dw_ends.specs.declared.sink.SinkError.TheVariants.{NoMemory};
 ghost use Rattle.std.specs.Io.KnownBytes.{WriteAppends};
 ghost use Rattle.dw_ends.specs.Plan.{FailsNext, after_call};
-ghost use Rattle.dw_ends.specs.Ends.{Intake, HasRisen, with_after};
+ghost use Rattle.dw_ends.specs.Ends.{Intake, HasRisen, one_higher, with_after};
 
 use crate::faults::{FaultPlan, one_more};
 use std::alloc::{AllocError, Global};
@@ -51,6 +52,7 @@ pub struct VecSink {
 }
 
 impl VecSink {
+    /// A sink that has taken nothing yet. Its bytes are to stand in memory of `alloc`.
     pub fn new(alloc: Global) -> VecSink
         ensures { ⟦<VecSink as Sink>⟧.intake result ≡ record { taken = Some []; faults = 0 } }
     {
@@ -87,6 +89,7 @@ pub struct FailingSink {
 impl FailingSink {
     ghost use Rattle.dw_ends.specs.Insides.{sink_intake, sink_plan};
 
+    /// A sink that has taken nothing yet, whose calls with the numbers in `failing` are to fail.
     pub fn new(alloc: Global, failing: Vec<u64>) -> FailingSink
         ensures intake { sink_intake result ≡ record { taken = Some []; faults = 0 } }
         ensures plan { sink_plan result ≡ record { failing = failing.items; calls = 0 } }
@@ -125,6 +128,11 @@ impl Sink for FailingSink {
         ensures chosen { IsErrOf result SinkError.Failed ↔ FailsNext (sink_plan self.old) }
         ensures counted { sink_plan self.new ≡ after_call (sink_plan self.old) }
         ensures whole { IfOk result (λ n. n ≡ length bytes.now) }
+        ensures quiet { OnOk result ((sink_intake self.new).faults ≡ (sink_intake self.old).faults) }
+        ensures memory { IsErrOf result SinkError.NoMemory →
+            (sink_intake self.new).faults ≡ (sink_intake self.old).faults }
+        ensures once { IsErrOf result SinkError.Failed →
+            (sink_intake self.new).faults ≡ one_higher (sink_intake self.old).faults }
     {
         if self.plan.next_fails() {
             return Err(SinkError::Failed);
@@ -145,6 +153,7 @@ pub struct StdoutSink<W> {
 impl<W: Write> StdoutSink<W> {
     ghost use Rattle.dw_ends.specs.Insides.{writer_intake, writer_of};
 
+    /// A sink over this writer, without a fault so far.
     pub fn new(writer: W) -> StdoutSink<W>
         ensures intake { writer_intake result ≡ record { taken = None; faults = 0 } }
         ensures writer { writer_of result ≡ writer }
@@ -170,6 +179,13 @@ impl<W: Write> Sink for StdoutSink<W> {
         // Where the writer tells its bytes, they are the ones that were passed on.
         ensures passed { WriteAppends (W.contents (writer_of self.old)) (W.contents (writer_of self.new))
             result bytes.now }
+
+        ensures quiet { IfOk result (λ n. (0 < n) ⊎ (bytes.now ≡ []) →
+            (writer_intake self.new).faults ≡ (writer_intake self.old).faults) }
+        ensures counted { OnErr result ((writer_intake self.new).faults ≡ one_higher (writer_intake self.old).faults) }
+        ensures counted_stuck { result ≡ Ok 0 → 0 < length bytes.now →
+            (writer_intake self.new).faults ≡ one_higher (writer_intake self.old).faults }
+        ensures no_memory { IsErrOf result SinkError.NoMemory → ⊥ }
     {
         match self.writer.write(bytes) {
             Ok(0) if !bytes.is_empty() => {

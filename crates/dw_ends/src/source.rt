@@ -1,7 +1,8 @@
-// Where input comes from.
-ghost use Rattle.std.specs.Prelude.{◌≡◌, ◌<◌, ◌≤◌, ◌↔◌, [], length, take, min, Some, None, Ok, IfOk, OnErr, IfSome, IsOk, IsErr};
+//! Where input comes from.
+
+ghost use Rattle.std.specs.Prelude.{◌≡◌, ◌<◌, ◌≤◌, ◌↔◌, [], length, take, min, Some, None, Ok, IfOk, OnOk, OnErr, IfSome, IsOk, IsErr};
 ghost use Rattle.std.specs.Io.KnownBytes.{ReadConsumes};
-ghost use Rattle.dw_ends.specs.Ends.{Input, HasRisen, without};
+ghost use Rattle.dw_ends.specs.Ends.{Input, HasRisen, one_higher, without};
 ghost use Rattle.dw_ends.specs.Plan.{FailsNext, after_call};
 
 use crate::faults::{FaultPlan, one_more};
@@ -49,6 +50,7 @@ pub struct SliceSource<'a> {
 impl<'a> SliceSource<'a> {
     ghost use Rattle.dw_ends.specs.Insides.{slice_input};
 
+    /// A source of all these bytes.
     pub fn new(bytes: &'a [u8]) -> SliceSource<'a>
         ensures { slice_input result ≡ record { left = Some bytes.now; faults = 0 } }
     {
@@ -94,6 +96,7 @@ pub struct FailingSource<'a> {
 impl<'a> FailingSource<'a> {
     ghost use Rattle.dw_ends.specs.Insides.{source_input, source_plan};
 
+    /// A source of all these bytes, whose calls with the numbers in `failing` are to fail.
     pub fn new(bytes: &'a [u8], failing: Vec<u64>) -> FailingSource<'a>
         ensures input { source_input result ≡ record { left = Some bytes.now; faults = 0 } }
         ensures plan { source_plan result ≡ record { failing = failing.items; calls = 0 } }
@@ -125,6 +128,8 @@ impl<'a> Source for FailingSource<'a> {
         ensures chosen { IsErr result ↔ FailsNext (source_plan self.old) }
         ensures counted { source_plan self.new ≡ after_call (source_plan self.old) }
         ensures unchanged { OnErr result ((source_input self.new).left ≡ (source_input self.old).left) }
+        ensures quiet { OnOk result ((source_input self.new).faults ≡ (source_input self.old).faults) }
+        ensures once { OnErr result ((source_input self.new).faults ≡ one_higher (source_input self.old).faults) }
         ensures full { IfOk result (λ n. IfSome (source_input self.old).left (λ xs.
             n ≡ min (length xs) (length buffer.new))) }
     {
@@ -147,6 +152,7 @@ pub struct StdinSource<R> {
 impl<R: Read> StdinSource<R> {
     ghost use Rattle.dw_ends.specs.Insides.{reader_input, reader_of};
 
+    /// A source over this reader, without a fault so far.
     pub fn new(reader: R) -> StdinSource<R>
         ensures input { reader_input result ≡ record { left = None; faults = 0 } }
         ensures reader { reader_of result ≡ reader }
@@ -169,6 +175,9 @@ impl<R: Read> Source for StdinSource<R> {
         // Where the reader tells its bytes, they are the ones that are passed on.
         ensures passed { ReadConsumes (R.remaining (reader_of self.old)) (R.remaining (reader_of self.new))
             result buffer.new }
+
+        ensures quiet { OnOk result ((reader_input self.new).faults ≡ (reader_input self.old).faults) }
+        ensures counted { OnErr result ((reader_input self.new).faults ≡ one_higher (reader_input self.old).faults) }
     {
         match self.reader.read(buffer) {
             Ok(count) => Ok(count),

@@ -1,4 +1,5 @@
-// A whole input into memory, and a whole text out of it.
+//! A whole input into memory, and a whole text out of it.
+
 ghost use Rattle.std.specs.Prelude.{◌≡◌, ◌+◌, ◌<◌, ◌≤◌, length, max, IfOk, OnOk, OnErr, IfSome, IsErrOf, vec_len, vec_capacity};
 ghost use Rattle.dw_ends.specs.declared.transfer.ReadAllError.TheVariants.{Failed as ReadFailed, NoMemory};
 ghost use Rattle.dw_ends.specs.Ends.{HasRisen, TakesPrefix, used_up, with_after};

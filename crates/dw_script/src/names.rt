@@ -1,4 +1,5 @@
-//! The names that the standard gives numbers.
+//! The names of tags and attributes, each with its number (DWARF 5, 7.5.3 and 7.5.4); the last ten
+//! are GNU's.
 
 use dw_base::constants::*;
 

@@ -77,7 +77,7 @@ fn delete_child(unit: u64, parent: u64, entry: u64) -> Result<Request, Reason> {
 fn reads_lines(rt: HostRuntime) {
     let little = Ok(Request::Order(RunTimeEndian::Little));
     let big = Ok(Request::Order(RunTimeEndian::Big));
-    let rows: [(&[u8], Result<Request, Reason>); 31] = [
+    let rows: [(&[u8], Result<Request, Reason>); 33] = [
         (b"", Ok(Request::Nothing)),
         (b"#\x80\t unit", Ok(Request::Nothing)),
         (b"order little", little),
@@ -112,6 +112,8 @@ fn reads_lines(rt: HostRuntime) {
         (b"unit 5 8 32 9", Err(Reason::WrongFields)),
         (b"unit", Err(Reason::WrongFields)),
         (b"frob", Err(Reason::UnknownWord)),
+        (b"next", Err(Reason::UnknownWord)),
+        (b"symbol 0 1", Err(Reason::UnknownWord)),
         (b"range x", Err(Reason::NotBuilt)),
         (b"end", Err(Reason::NotBuilt)),
         (b"add \x7f", Err(Reason::BadByte)),
@@ -281,6 +283,43 @@ fn reads_deletions(rt: HostRuntime) {
     for (line, want) in rows {
         assert_eq!(rt; request_of(line), want, "at {line:?}");
     }
+}
+
+/// The fields after a word that isn't built aren't looked at.
+#[test]
+fn refuses_words_that_are_not_built(rt: HostRuntime) -> Result<(), Fail> {
+    let words = [
+        "str", "line_str", "range", "loc", "line", "dir", "file", "sequence", "row", "end",
+    ];
+    for word in words {
+        let line = format!(in rt.alloc(); "{word} x")?;
+        assert_eq!(rt;
+            request_of(line.as_bytes()),
+            Err(Reason::NotBuilt),
+            "at {line}"
+        );
+    }
+    Ok(())
+}
+
+/// The kinds of values that aren't built.
+const UNBUILT_KINDS: &str = "address block data2 data4 data8 data16 sdata implicit_const exprloc
+flag flag_present info_ref info_ref_sup line_program_ref loc_ref macinfo_ref macro_ref range_ref
+types_ref str_ref str_ref_sup line_str_ref encoding decimal_sign endianity accessibility visibility
+virtuality language address_class identifier_case calling_convention inline ordering file_index";
+
+/// The fields after a kind that isn't built aren't looked at.
+#[test]
+fn refuses_kinds_that_are_not_built(rt: HostRuntime) -> Result<(), Fail> {
+    for kind in UNBUILT_KINDS.split_whitespace() {
+        let line = format!(in rt.alloc(); "set 0 0 3 {kind} x")?;
+        assert_eq!(rt;
+            request_of(line.as_bytes()),
+            Err(Reason::NotBuilt),
+            "at {line}"
+        );
+    }
+    Ok(())
 }
 
 // The bytes of a string, or a number: in one byte, or in eight, the highest first.

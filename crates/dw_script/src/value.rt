@@ -16,7 +16,7 @@ use crate::reason::Reason;
 pub enum Value<'a> {
     /// Bytes in place, with a zero after them.
     String(HexBytes<'a>),
-    /// A number of any length.
+    /// A number of 64 bits, spelled in LEB128.
     Udata(u64),
     /// A number of one byte.
     Data1(u8),

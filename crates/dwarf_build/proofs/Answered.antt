@@ -4,6 +4,7 @@ use Rattle.std.specs.Prelude.{Some, Option}
 use Rattle.dw_writer.specs.Contents.{Meaning}
 use Rattle.dw_writer.specs.declared.sections.Sections.{Sections}
 use Rattle.dw_unit.specs.Whole.{settled}
+use Rattle.dw_dwarf.specs.Valid.{IsValid}
 use Rattle.dw_dwarf.specs.Written.{HoldsUnits}
 use Rattle.dwarf_build.specs.Texts.{SectionBytes, sections_text, only_units}
 use Rattle.dwarf_build.specs.Listed.{ListsSections}
@@ -31,15 +32,16 @@ same_parts x1 x2 x3 x4 x5 x6 x7 x8 x9 x10 x11 info abbrevs p1 p2 p3 p4 p5 p6 p7 
     ∙ ap (λ (x : List ℕ). let b : SectionBytes = record { debug_abbrev = abbrevs; debug_str = []; debug_line_str = []; debug_line = []; debug_ranges = []; debug_rnglists = []; debug_loc = []; debug_loclists = []; debug_info = info; debug_frame = []; eh_frame = x } in b) p11
 
 module _ {W : Type 0} where
-  -- the listing of sections that hold a script's units lists the script
-  pub script_listed : (meaning : W → Meaning) (s : Script) (sections : Sections W) (text : List ℕ) → HoldsUnits meaning (is_big_of s.endian) sections (map settled s.dwarf.units) →
+  -- the listing of sections that hold a script's valid units lists the script
+  pub script_listed : (meaning : W → Meaning) (s : Script) (sections : Sections W) (text : List ℕ) → IsValid (is_big_of s.endian) s.dwarf.units → HoldsUnits meaning (is_big_of s.endian) sections (map settled s.dwarf.units) →
       ListsSections meaning sections (is_big_of s.endian) text → ListsScript s text
-  script_listed meaning s sections text held listed =
+  script_listed meaning s sections text valid held listed =
       let tells = listed.tells in
       let b = listed.bytes in
       record {
         info = held.info;
         abbrevs = held.abbrevs;
+        valid = valid;
         built = held.built;
         listed = listed.text_is ∙ ap (sections_text (is_big_of s.endian)) (same_parts b.debug_abbrev b.debug_str b.debug_line_str b.debug_line b.debug_ranges b.debug_rnglists b.debug_loc b.debug_loclists b.debug_info b.debug_frame b.eh_frame held.info held.abbrevs
             (same_told _ _ _ tells.debug_abbrev held.abbrevs_told) (same_told _ _ _ tells.debug_str held.strings.bytes) (same_told _ _ _ tells.debug_line_str held.line_strings.bytes)

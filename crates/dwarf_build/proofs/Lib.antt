@@ -7,3 +7,4 @@ pub mod Answered
 pub mod ScriptUnits
 pub mod Unspelled
 pub mod Completeness
+mod Worked

@@ -5,7 +5,7 @@ use Rattle.std.proofs.lemmas.List.Elements.{All-set}
 use Rattle.std.proofs.lemmas.Option.{slice_get_within, get_or_from_slice_get}
 use Rattle.dw_base.specs.declared.common.Encoding.{Encoding}
 use Rattle.dw_script.specs.Lines.{parsed_line}
-use Rattle.dw_script.specs.Pieces.{pieces}
+use Rattle.dw_script.specs.Pieces.{newline, pieces}
 use Rattle.dw_script.specs.Fields.{Outcome, ◌>>=◌}
 use Rattle.dw_script.specs.declared.command.Command.{Command}
 use Rattle.dw_script.specs.declared.command.Command.TheVariants.{Order, Unit as AddUnit, Change as ChangeUnit}
@@ -112,4 +112,4 @@ lines_few (line ∷ lines) n s h = outcome_few n lines (after_line s line) (λ t
 
 pub script_few : (bytes : List ℕ) (s : Script) → script bytes ≡ Ok s → HasFewUnits s.dwarf.units
 unfolding script
-script_few bytes s e = built_few (script bytes) s e (lines_few (pieces 10 bytes) 1 empty_script empty_few)
+script_few bytes s e = built_few (script bytes) s e (lines_few (pieces newline bytes) 1 empty_script empty_few)

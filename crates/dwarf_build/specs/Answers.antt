@@ -12,6 +12,7 @@ use Rattle.dw_unit.specs.Whole.{settled, tree_bytes}
 use Rattle.dw_unit.specs.Valid.{are_references_inside}
 use Rattle.dw_unit.specs.Causes.{EncodingRefused}
 use Rattle.dw_unit.specs.Built.{Built}
+use Rattle.dw_dwarf.specs.Valid.{IsValid}
 use Rattle.dw_ends.specs.Ends.{Input, Intake, HasRisen, used_up, with_after, TakesPrefix}
 use Rattle.dwarf_build.specs.Script.{script}
 use Rattle.dwarf_build.specs.Texts.{usage_text, too_long_text, refusal_text, refused_text, sections_text, only_units}
@@ -30,14 +31,20 @@ IsBuild words = words ≡ codes "build" ∷ []
 abbrev pub IfTold : Option (List ℕ) → (List ℕ → Type 0) → Type 0
 IfTold told P = (xs : List ℕ) → told ≡ Some xs → P xs
 
+-- the most bytes that a script may have
+abbrev pub longest_script : ℕ
+longest_script = 16777216
+
 -- a script may have so many bytes
 abbrev pub IsShort : List ℕ → Type 0
-IsShort bytes = length bytes ≤ 16777216
+IsShort bytes = length bytes ≤ longest_script
 
--- the listing of sections that are read as exactly the script's units, with nothing in other sections
+-- the listing of sections that are read as exactly the script's units, with nothing in other sections. It comes, with
+-- status 0, only for valid units, so that no reference in it names an entry outside its tree
 pub record ListsScript (s : Script) (text : List ℕ) : Type 0 where
   pub info : List ℕ
   pub abbrevs : List ℕ
+  pub valid : IsValid (is_big_of s.endian) s.dwarf.units
   pub built : Built (map settled s.dwarf.units) (is_big_of s.endian) info abbrevs
   pub listed : text ≡ sections_text (is_big_of s.endian) (only_units info abbrevs)
 
@@ -95,7 +102,7 @@ Says words left Usage text = (IsBuild words → ⊥) × (text ≡ usage_text)
 Says words left SourceFailed text = ⊥
 Says words left SinkFailed text = ⊥
 Says words left NoMemory text = ⊥
-Says words left TooLong text = IsBuild words × (text ≡ too_long_text) × IfTold left (λ bytes. 16777216 < length bytes)
+Says words left TooLong text = IsBuild words × (text ≡ too_long_text) × IfTold left (λ bytes. longest_script < length bytes)
 Says words left status text = IsBuild words × SaysRead left status text
 
 -- whether the source was read to its end where this is answered, or not at all

@@ -3,7 +3,7 @@ use Rattle.std.specs.Prelude.{◌≡◌, ℕ, ◌+◌, ◌≤◌, List, [], ◌�
 use Rattle.dw_base.specs.declared.endianity.RunTimeEndian.TheVariants.{Little}
 use Rattle.dw_script.specs.Fields.{Outcome, ◌>>=◌}
 use Rattle.dw_script.specs.Lines.{parsed_line}
-use Rattle.dw_script.specs.Pieces.{pieces}
+use Rattle.dw_script.specs.Pieces.{newline, pieces}
 use Rattle.dw_script.specs.declared.command.Command.{Command}
 use Rattle.dw_script.specs.declared.command.Command.TheVariants.{Order, Unit as AddUnit, Change as ChangeUnit}
 use Rattle.dw_script.specs.declared.change.Change.{Change}
@@ -116,7 +116,7 @@ after_lines n s (line ∷ lines) = elim (after_line s line) [ Ok t ↦ after_lin
 
 -- what the bytes of a script build, or the first line that is refused
 unfoldable pub script : List ℕ → Result Script Refusal
-script bytes = after_lines 1 empty_script (pieces 10 bytes)
+script bytes = after_lines 1 empty_script (pieces newline bytes)
 
 -- a unit that is still built: it was neither written nor freed
 abbrev pub IsOpen : UnitValue → Type 0

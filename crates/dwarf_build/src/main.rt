@@ -14,6 +14,8 @@ mod tests;
 #[cfg(test)]
 mod tree_tests;
 
+ghost use Rattle.std.specs.Prelude.{◌≡◌, ◌⊎◌, IfErr};
+
 use crate::run::run;
 use crate::status::Status;
 use dw_ends::{StdinSource, StdoutSink};
@@ -24,8 +26,11 @@ use std::process::ExitCode;
 /// The words of the command line couldn't be had, for another cause than memory.
 const NO_WORDS: u8 = 8;
 
-// The words after the program's name. Where one isn't UTF-8 there are none, as it is no command.
-fn words(rt: &HostRuntime) -> Result<Vec<String>, u8> {
+// The words after the program's name, or the exit status. Where one isn't UTF-8 there are none, as it is
+// no command.
+fn words(rt: &HostRuntime) -> Result<Vec<String>, u8>
+    ensures { IfErr result (λ status. (status ≡ 6) ⊎ (status ≡ 8)) }
+{
     match env::args(rt) {
         Ok(args) => {
             let mut words = Vec::new(rt.alloc());

@@ -111,6 +111,14 @@ fn writes_what_the_root_reaches(rt: HostRuntime) -> Result<(), Fail> {
         "unit 5 8 32 / reserve 0 / add 0 0 0x34 / add_reserved 0 1 0 0x2e",
         "0c000000 0500 01 08 00000000 01 02 03 00",
         "01 11 01 00 00 02 34 00 00 00 03 2e 00 00 00 00",
+    )?;
+    // Since a later entry was added, the id has an entry that can be changed.
+    check_sections(
+        &rt,
+        rt.alloc(),
+        "unit 5 8 32 / reserve 0 / add 0 0 0x34 / set 0 1 3 udata 1 / add_reserved 0 1 0 0x2e",
+        "0d000000 0500 01 08 00000000 01 02 03 01 00",
+        "01 11 01 00 00 02 34 00 00 00 03 2e 00 03 0f 00 00 00",
     )
 }
 

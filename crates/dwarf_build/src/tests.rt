@@ -251,7 +251,7 @@ fn spells_every_encoding(rt: HostRuntime) -> Result<(), Fail> {
 
 #[test]
 fn refuses_lines(rt: HostRuntime) -> Result<(), Fail> {
-    let rows: [(&[u8], &str); 42] = [
+    let rows: [(&[u8], &str); 44] = [
         (b"unit 5\t8 32", "line 1: bad byte\n"),
         (b"unit 5 8 32\x7f", "line 1: bad byte\n"),
         (b"\x1f", "line 1: bad byte\n"),
@@ -283,6 +283,8 @@ fn refuses_lines(rt: HostRuntime) -> Result<(), Fail> {
         (b"unit 5 8 32\norder big", "line 2: order not first\n"),
         (b"order big\norder big", "line 2: order not first\n"),
         (b"unit 5 8 32\nunit 5 8 32", "line 2: not built\n"),
+        (b"unit 5 8 32\nunit 5 8 16", "line 2: bad number\n"),
+        (b"unit 5 8 32\nunit 5 8 32 9", "line 2: wrong fields\n"),
         (b"add 0 0 1", "line 1: no such unit\n"),
         (b"add 0 0 DW_TAG_base_type", "line 1: no such unit\n"),
         (b"set 0 0 1 udata 1", "line 1: no such unit\n"),

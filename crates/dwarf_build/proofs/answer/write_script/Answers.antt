@@ -1,6 +1,7 @@
 use Rattle.dwarf_build.proofs.Unspelled.{units_unspelled, says_refused}
-use Rattle.std.proofs.Common.{refl, arith}
+use Rattle.std.proofs.Common.{refl, subst, arith}
 use Rattle.dwarf_build.proofs.Outcomes.{IfOk-two}
+use Rattle.dw_dwarf.specs.Valid.{AreUnwritten, IsValid}
 use Rattle.dw_base.specs.Order.{is_big_of}
 use Rattle.dw_writer.proofs.NewLemmas.{IsNewPlain-from_all_mean}
 use Rattle.dwarf_build.proofs.Answered.{script_listed}
@@ -14,8 +15,10 @@ returns-in-Ok-write c =
     let empty = rw c.new-section.ensures at c.in-Ok.ensures.writers in
     let new = IsNewPlain-from_all_mean _ (is_big_of c.args.script.endian) _ _ empty c.in-Ok.ensures.fixups
     (record { bytes = refl; size = refl; records = refl; order = refl; plain = refl }) in
+    let unwritten : AreUnwritten c.args.script.dwarf.units = λ k d within. (c.requires.1 k d within).0 in
     script_listed _ c.args.script _ _
-    (c.in-Ok-write.ensures.built (is_big_of c.args.script.endian) new (λ k d within. (c.requires.1 k d within).0))
+    (subst (λ big. IsValid big c.args.script.dwarf.units) new.writers.debug_info.order (c.in-Ok-write.ensures.valid unwritten))
+    (c.in-Ok-write.ensures.built (is_big_of c.args.script.endian) new unwritten)
     c.in_ok-text-in-Ok-write.ensures
 
 pub returns : goal.returns
