@@ -4,6 +4,5 @@ pub mod HeaderLaws
 pub mod TableLaws
 pub mod EntryLaws
 pub mod InfoLaws
-pub mod BareUnit
 pub mod Sizes
 mod Worked

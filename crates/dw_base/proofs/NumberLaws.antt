@@ -1,10 +1,11 @@
 -- A number that is spelled in so many bytes, and an initial length, are read again, whatever follows them.
-use Rattle.std.proofs.Common.{◌≡◌, ◌∙◌, sym, ap, ap₂, subst, ℕ, zero, suc, ◌+◌, ◌*◌, ◌/◌, ◌%◌, ◌^◌, ◌<◌, Bool, true, false, List, ◌++◌, length, take, drop, Option, Some, refl, arith, IsTrue, nat_eq, nat_le, if◌then◌else◌, length-append, pow-suc, add-zero, div-one}
+use Rattle.std.proofs.Common.{◌≡◌, ◌∙◌, sym, ap, ap₂, subst, ℕ, zero, suc, ◌+◌, ◌*◌, ◌/◌, ◌%◌, ◌^◌, ◌<◌, Bool, true, false, List, ◌++◌, length, take, drop, Option, Some, None, refl, arith, IsTrue, nat_eq, nat_le, if◌then◌else◌, length-append, pow-suc, add-zero, div-one}
 use Rattle.std.specs.Int.{byte_at, bytes_low_first, bytes_high_first}
 use Rattle.std.proofs.Math.Nat.{div-div-eq-div-mul, div-eq_of_lt}
 use Rattle.std.proofs.Math.Pow.{pow-add}
 use Rattle.std.proofs.lemmas.Bool.{le-leb, ltb-true}
 use Rattle.std.proofs.lemmas.List.{take_at, drop_at}
+use Rattle.std.proofs.lemmas.Option.{none-some}
 use Rattle.dw_base.specs.Numbers.{◌>>=◌, when, bytes_at, low_first, high_first, value_of, number_at, num, fits, word_of, escape_of, length_fits, length_after, initial_length_at}
 use Rattle.dw_base.specs.declared.common.Format.{Format}
 use Rattle.dw_base.specs.declared.common.Format.TheVariants.{Dwarf32, Dwarf64}
@@ -12,6 +13,16 @@ use Rattle.dw_base.specs.declared.common.Format.TheVariants.{Dwarf32, Dwarf64}
 -- the next step after a value
 pub bind_is : {A B : Type 0} (x : Option A) (v : A) (f : A → Option B) → x ≡ Some v → (x >>= f) ≡ f v
 bind_is x v f e = ap (λ y. y >>= f) e
+
+-- the value before a step that gave a value
+pub bind_parts : {A B : Type 0} (x : Option A) (f : A → Option B) (v : B) → (x >>= f) ≡ Some v → (a : A) × (x ≡ Some a) × (f a ≡ Some v)
+bind_parts None f v e = absurd (none-some v e)
+bind_parts (Some a) f v e = (a, refl, e)
+
+-- a value that passed a test is the one that was tested
+pub when_same : {A : Type 0} (b : Bool) (x : Option A) (v : A) → when b x ≡ Some v → x ≡ Some v
+when_same true x v e = e
+when_same false x v e = absurd (none-some v e)
 
 length-low_first : (i w n : ℕ) → length (bytes_low_first i w n) ≡ w
 length-low_first i zero n = refl

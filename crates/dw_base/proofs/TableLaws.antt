@@ -5,6 +5,7 @@ use Rattle.std.proofs.lemmas.Bool.{ne_eqb, and_parts}
 use Rattle.std.proofs.lemmas.List.Elements.{All-head, All-tail}
 use Rattle.dw_base.specs.Numbers.{◌>>=◌}
 use Rattle.dw_base.specs.Leb128.{groups_at, uleb_at, sleb_at, uleb}
+use Rattle.dw_base.specs.Forms.{implicit_const}
 use Rattle.dw_base.specs.Abbreviations.{Specification, Shape, Declaration, specifications_at, children_at, shape_at, is_new_code, declarations_at, table_at}
 use Rattle.dw_base.specs.Spelling.{constant_bytes, specification_bytes, children_byte, shape_bytes, declaration_bytes, table_bytes}
 use Rattle.dw_base.specs.Spellable.{IsConstant, IsSpecification, IsDeclaration, codes_differ, AreDeclarations}
@@ -27,7 +28,7 @@ specifications_more fuel s bytes h =
     let e1 = uleb-again s.name (uleb s.form ++ (constant_bytes s.constant ++ bytes)) h.name_fits in
     let e2 = uleb-again s.form (constant_bytes s.constant ++ bytes) h.form_fits in
     let e3 : nat_eq s.name 0 ≡ false = ne_eqb s.name 0 (λ z. omega (arith, h.name)) in
-    rw (specifications_at, e1) (rw e2 (rw e3 (bind_is _ _ _ (constant_if (s.form == 0x21) s.constant bytes h.constant))))
+    rw (specifications_at, e1) (rw e2 (rw e3 (bind_is _ _ _ (constant_if (s.form == implicit_const) s.constant bytes h.constant))))
 
 specifications-again : (fuel : ℕ) (ss : List Specification) (rest : List ℕ) → All IsSpecification ss → length ss < fuel → specifications_at fuel (flat_map specification_bytes ss ++ 0 ∷ 0 ∷ rest) ≡ Some (ss, rest)
 specifications-again zero ss rest h le = absurd (omega arith)

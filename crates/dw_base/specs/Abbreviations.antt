@@ -2,6 +2,7 @@
 use Rattle.std.specs.Prelude.{ℕ, zero, suc, List, [], ◌∷◌, length, Option, Some, None, Bool, true, false, ◌&&◌, not, ◌==◌, ℤ, if◌then◌else◌}
 use Rattle.dw_base.specs.Numbers.{Parser, ◌>>=◌, when}
 use Rattle.dw_base.specs.Leb128.{uleb_at, sleb_at}
+use Rattle.dw_base.specs.Forms.{implicit_const}
 
 -- an attribute in a declaration; the constant is there for the form implicit_const alone
 pub record Specification : Type 0 where
@@ -21,7 +22,7 @@ pub record Declaration : Type 0 where
 
 -- the constant that implicit_const alone has
 abbrev pub constant_at : ℕ → Parser (Option ℤ)
-constant_at form bytes = if form == 0x21 then (sleb_at bytes >>= λ x. Some (Some x.0, x.1)) else Some (None, bytes)
+constant_at form bytes = if form == implicit_const then (sleb_at bytes >>= λ x. Some (Some x.0, x.1)) else Some (None, bytes)
 
 -- names and forms up to two zeros; no other name is zero
 unfoldable pub specifications_at : ℕ → Parser (List Specification)

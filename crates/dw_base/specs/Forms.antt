@@ -29,6 +29,10 @@ pub data Kind : Type 0 where
   -- a form, and its operand
   Indirect : Kind
 
+-- the form DW_FORM_implicit_const, whose constant stands in the declaration (DWARF 5, 7.5.3)
+abbrev pub implicit_const : ℕ
+implicit_const = 0x21
+
 -- the width of a place in .debug_info, which version 2 gives that of an address (DWARF 2, 7.5.4)
 abbrev pub info_place_of : Encoding → ℕ
 info_place_of e = if e.version == 2 then e.address_size else word_of e.format
@@ -103,7 +107,7 @@ direct_at big Indirect bytes = None
 -- an operand after the form that tells its kind; such a form leads to no other and has no constant in a declaration
 abbrev pub indirect_at : Bool → Encoding → Parser Operand
 indirect_at big e bytes =
-    uleb_at bytes >>= λ form. when (not (form.0 == 0x21)) (kind_of e form.0 >>= λ k. direct_at big k form.1)
+    uleb_at bytes >>= λ form. when (not (form.0 == implicit_const)) (kind_of e form.0 >>= λ k. direct_at big k form.1)
 
 abbrev pub kind_at : Bool → Encoding → Kind → Parser Operand
 kind_at big e Indirect bytes = indirect_at big e bytes

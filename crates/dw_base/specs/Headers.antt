@@ -15,15 +15,27 @@ pub record Header : Type 0 where
   -- where the type of a type unit stands in it
   pub type_offset : Option ℕ
 
+-- the types of unit: compile 1, type 2, partial 3, skeleton 4, split compile 5, split type 6 (DWARF 5, table 7.2)
+abbrev pub is_unit_type : ℕ → Bool
+is_unit_type type = nat_le 1 type && nat_le type 6
+
+-- a skeleton and a split compile unit have an id, type units a signature (DWARF 5, 7.5.1.2 and 7.5.1.3)
+abbrev pub has_identity : ℕ → Bool
+has_identity type = (type == 2) || (type == 4) || (type == 5) || (type == 6)
+
+-- type units have the place of their type (DWARF 5, 7.5.1.3)
+abbrev pub has_type_offset : ℕ → Bool
+has_type_offset type = (type == 2) || (type == 6)
+
 -- eight bytes that only some types of unit have
 abbrev pub identity_at : Bool → ℕ → Parser (Option ℕ)
 identity_at big type bytes =
-    if (type == 2) || (type == 4) || (type == 5) || (type == 6) then (number_at big 8 bytes >>= λ x. Some (Some x.0, x.1)) else Some (None, bytes)
+    if has_identity type then (number_at big 8 bytes >>= λ x. Some (Some x.0, x.1)) else Some (None, bytes)
 
 -- a word that only type units have
 abbrev pub type_offset_at : Bool → Format → ℕ → Parser (Option ℕ)
 type_offset_at big format type bytes =
-    if (type == 2) || (type == 6) then (number_at big (word_of format) bytes >>= λ x. Some (Some x.0, x.1)) else Some (None, bytes)
+    if has_type_offset type then (number_at big (word_of format) bytes >>= λ x. Some (Some x.0, x.1)) else Some (None, bytes)
 
 -- what follows the version in versions 2 to 4: the table's offset and the address size
 abbrev pub old_fields_at : Bool → Format → ℕ → Parser Header
@@ -44,7 +56,7 @@ old_fields_at big format version bytes =
 abbrev pub new_fields_at : Bool → Format → Parser Header
 new_fields_at big format bytes =
     number_at big 1 bytes >>= λ type. number_at big 1 type.1 >>= λ size. number_at big (word_of format) size.1 >>= λ table.
-    when (nat_le 1 type.0 && nat_le type.0 6 && is_width size.0)
+    when (is_unit_type type.0 && is_width size.0)
     (identity_at big type.0 table.1 >>= λ identity. type_offset_at big format type.0 identity.1 >>= λ place. Some (
       record {
         encoding = record { address_size = size.0; format = format; version = 5 };

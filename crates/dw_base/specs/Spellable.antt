@@ -3,7 +3,7 @@ use Rattle.std.specs.Prelude.{◌≡◌, ℕ, ◌^◌, ◌<◌, ◌≤◌, List,
 use Rattle.std.specs.List.{All}
 use Rattle.dw_base.specs.Numbers.{word_of, fits, length_fits, is_width}
 use Rattle.dw_base.specs.Leb128.{fits_i64}
-use Rattle.dw_base.specs.Forms.{Operand, Absent, Number, Signed, Bytes, Text, Kind, Empty, Fixed, Uleb, Sleb, Block, UlebBlock, Zeroed, kind_of}
+use Rattle.dw_base.specs.Forms.{Operand, Absent, Number, Signed, Bytes, Text, Kind, Empty, Fixed, Uleb, Sleb, Block, UlebBlock, Zeroed, implicit_const, kind_of}
 use Rattle.dw_base.specs.Abbreviations.{Specification, Shape, Declaration, is_new_code, shape_of_code}
 use Rattle.dw_base.specs.Entries.{ReadAttribute, ReadEntry, Mark, Open, Close, is_one_tree, children_of}
 use Rattle.dw_base.specs.Spelling.{fields_bytes, body_bytes}
@@ -21,7 +21,7 @@ pub record IsSpecification (s : Specification) : Type 0 where
   pub name : 0 < s.name
   pub name_fits : s.name < 2 ^ 64
   pub form_fits : s.form < 2 ^ 64
-  pub constant : IsConstant (s.form == 0x21) s.constant
+  pub constant : IsConstant (s.form == implicit_const) s.constant
 
 pub record IsDeclaration (d : Declaration) : Type 0 where
   pub code : 0 < d.code

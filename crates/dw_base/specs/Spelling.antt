@@ -109,22 +109,3 @@ rows_of big e from depth (m ∷ ms) =
 abbrev pub read_unit : Bool → Encoding → ℕ → ℕ → List Declaration → List (Mark ReadEntry) → ReadUnit
 read_unit big e from place table ms =
     record { from = from; header = compile_header e place; table = table; rows = rows_of big e (header_size e) 0 ms }
-
--- the declaration of a compile unit's root that has no attributes and no children
-abbrev pub root_declaration : Declaration
-root_declaration = record { code = 1; shape = record { tag = 0x11; has_children = false; attributes = [] } }
-
--- the table of that declaration alone
-abbrev pub root_table : List ℕ
-root_table = 1 ∷ 0x11 ∷ 0 ∷ 0 ∷ 0 ∷ 0 ∷ []
-
--- such a root, and its row
-abbrev pub root_mark : Mark ReadEntry
-root_mark = Open (record { code = 1; tag = 0x11; has_children = false; attributes = [] })
-
-abbrev pub root_row : Encoding → Row
-root_row e = record { from = header_size e; depth = 0; mark = root_mark; to = header_size e + 1 }
-
--- a compile unit that is only its root
-abbrev pub bare_unit : Encoding → ReadUnit
-bare_unit e = record { from = 0; header = compile_header e 0; table = root_declaration ∷ []; rows = root_row e ∷ [] }

@@ -1,11 +1,14 @@
 //! The lengths of LEB128 numbers (DWARF 5, 7.6).
 
-ghost use Rattle.std.specs.Prelude.{◌≡◌, ◌<◌, ◌^◌, length, pos};
-ghost use Rattle.dw_base.specs.Leb128.{uleb, sleb};
+ghost use Rattle.std.specs.Prelude.{◌≡◌, ℕ, ◌<◌, ◌≤◌, ◌^◌, List, [], length, All, pos};
+ghost use Rattle.dw_base.specs.Leb128.{uleb_at, sleb_at, uleb, sleb};
 
-/// The bytes of the shortest unsigned LEB128 spelling: 1 to 10.
+/// The bytes of the shortest unsigned LEB128 spelling of `value`, 1 to 10: no bytes that are read
+/// to their end as `value` are fewer.
 pub fn uleb128_size(value: u64) -> usize
-    ensures { result ≡ length (uleb value) }
+    ensures size { result ≡ length (uleb value) }
+    ensures shortest { (bytes : List ℕ) → All (λ b. b < 256) bytes
+        → uleb_at bytes ≡ Some (value, []) → result ≤ length bytes }
 {
     let mut size = 1;
     let mut rest = value;
@@ -16,9 +19,12 @@ pub fn uleb128_size(value: u64) -> usize
     size
 }
 
-/// The bytes of the shortest signed LEB128 spelling: 1 to 10.
+/// The bytes of the shortest signed LEB128 spelling of `value`, 1 to 10: no bytes that are read
+/// to their end as `value` are fewer.
 pub fn sleb128_size(value: i64) -> usize
-    ensures { result ≡ length (sleb value) }
+    ensures size { result ≡ length (sleb value) }
+    ensures shortest { (bytes : List ℕ) → All (λ b. b < 256) bytes
+        → sleb_at bytes ≡ Some (value, []) → result ≤ length bytes }
 {
     let magnitude = value.unsigned_abs();
     if value < 0 {

@@ -14,9 +14,8 @@ use Rattle.dw_writer.specs.New.{IsNewPlain}
 use Rattle.dw_writer.specs.Sections.{fault_sum}
 use Rattle.dw_writer.specs.declared.sections.Sections.{Sections}
 use Rattle.dw_unit.specs.UnitValue.{UnitValue}
-use Rattle.dw_unit.specs.UnitText.{unit_length}
-use Rattle.dw_unit.specs.Whole.{tree_bytes, settled}
-use Rattle.dw_unit.specs.Valid.{is_version, IsWritable}
+use Rattle.dw_unit.specs.Whole.{settled}
+use Rattle.dw_unit.specs.Valid.{is_version, tree_length, IsWritable}
 use Rattle.dw_unit.specs.Causes.{UnitRefused, UnitsRefused}
 use Rattle.dw_dwarf.specs.Valid.{IsValid}
 
@@ -25,11 +24,11 @@ place_fits plain Dwarf32 place e z = ap (λ b. offset_fits b 4 place) e ∙ ap (
 place_fits plain Dwarf64 place e z = ap (λ b. offset_fits b 8 place) e ∙ ap (λ n. offset_fits true 8 n) z
 
 -- a valid unit at its place
-pub valid_at : (big : Bool) (us : List UnitValue) (k : ℕ) (u : UnitValue) → IsValid big us → k < length us → slice_index_or us k u ≡ u → IsWritable big u
-valid_at big us k u valid within at = subst (IsWritable big) at (valid k u within)
+pub valid_at : (us : List UnitValue) (k : ℕ) (u : UnitValue) → IsValid us → k < length us → slice_index_or us k u ≡ u → IsWritable u
+valid_at us k u valid within at = subst IsWritable at (valid k u within)
 
 module _ {W : Type 0} where
-  unit_complete : (meaning : W → Meaning) (big : Bool) (old new : Sections W) (u : UnitValue) → IsNewPlain meaning big old → IsWritable big u →
+  unit_complete : (meaning : W → Meaning) (big : Bool) (old new : Sections W) (u : UnitValue) → IsNewPlain meaning big old → IsWritable u →
       fault_sum meaning new ≤ fault_sum meaning old → (e : Error) → UnitRefused meaning old new u e → e ≡ NoMemory
   unit_complete meaning big old new u empty valid calm NoMemory r = refl
   unit_complete meaning big old new u empty valid calm WriteFault r = absurd (omega (arith, r, calm))
@@ -38,15 +37,15 @@ module _ {W : Type 0} where
   unit_complete meaning big old new u empty valid calm InvalidAttributeValue r = absurd (not_both _ valid.spelled r)
   unit_complete meaning big old new u empty valid calm InvalidReference r = absurd (not_both _ valid.inside r)
   unit_complete meaning big old new u empty valid calm InitialLengthOverflow r =
-      let order = ap (λ b. length_fits u.encoding.format (unit_length u.encoding (tree_bytes b u.encoding (settled u).entries))) empty.writers.debug_info.order in
-      absurd (not_both _ (order ∙ valid.fits) r)
+      let format = ap (λ f. length_fits f (tree_length u.encoding (settled u).entries)) r.0 in
+      absurd (not_both _ (sym format ∙ valid.fits) r.1)
   unit_complete meaning big old new u empty valid calm (UnsupportedVersion v) r =
       absurd (not_both _ (and_left (is_version u.encoding.version) (is_width u.encoding.address_size) valid.encodable) (sym (ap is_version r.0) ∙ r.1))
   unit_complete meaning big old new u empty valid calm (UnsupportedWordSize n) r =
       absurd (not_both _ (and_right (is_version u.encoding.version) (is_width u.encoding.address_size) valid.encodable) (sym (ap is_width r.0) ∙ r.1))
   unit_complete meaning big old new u empty valid calm _ r = absurd r
 
-  pub write_complete : (meaning : W → Meaning) (big : Bool) (old new : Sections W) (us : List UnitValue) → IsNewPlain meaning big old → IsValid big us →
+  pub write_complete : (meaning : W → Meaning) (big : Bool) (old new : Sections W) (us : List UnitValue) → IsNewPlain meaning big old → IsValid us →
       fault_sum meaning new ≤ fault_sum meaning old → (e : Error) → UnitsRefused meaning old new us e → e ≡ NoMemory
   write_complete meaning big old new us empty valid calm e r =
-      unit_complete meaning big old new r.1 empty (valid_at big us r.0 r.1 valid r.2 r.3) calm e r.4.1
+      unit_complete meaning big old new r.1 empty (valid_at us r.0 r.1 valid r.2 r.3) calm e r.4.1

@@ -16,9 +16,10 @@ use Rattle.dw_writer.specs.declared.sections.Sections.{Sections}
 use Rattle.dw_unit.specs.UnitValue.{UnitValue}
 use Rattle.dw_unit.specs.UnitText.{unit_text}
 use Rattle.dw_unit.specs.Whole.{tree_read, tree_declared, tree_bytes, tree_table, settled}
-use Rattle.dw_unit.specs.Written.{AppendsTree, AppendsUnits}
+use Rattle.dw_unit.specs.Written.{AddsNothing, AppendsTree, AppendsUnits}
 use Rattle.dw_unit.specs.Built.{Built}
 use Rattle.dw_unit.proofs.ReadPlaces.{marks_read}
+use Rattle.dw_unit.proofs.UnitSteps.{length-tree_bytes}
 use Rattle.dw_dwarf.specs.Valid.{AreUnwritten}
 use Rattle.dw_dwarf.specs.Written.{HoldsUnits}
 use Rattle.dw_dwarf.proofs.PlainText.{at_zero, resolved-plain, unit_shown}
@@ -61,34 +62,48 @@ one_built u big is_unit =
       read = read_unit big e 0 0 (tree_declared e u.entries) (tree_read e u.entries) ∷ [];
       reads = read_one big e (tree_declared e u.entries) (tree_read e u.entries) is_unit;
       units_are = (record { encoding = refl; unit_type = refl; entries = marks_read big e u.entries; declarations = refl }, tt);
-      info_size = omega (arith, length-unit_bytes big e 0 body);
+      info_size = omega (arith, length-unit_bytes big e 0 body, length-tree_bytes big e u.entries);
       abbrevs_size = omega arith;
     }
 
 module _ {W : Type 0} where
+  -- nothing has changed but .debug_info, .debug_abbrev and the lists of fixups
+  abbrev pub OthersStay : Sections W → Sections W → Type 0
+  OthersStay old new =
+      new ≡ record old { debug_abbrev = new.debug_abbrev; debug_info = new.debug_info; debug_info_fixups = new.debug_info_fixups; debug_loc_fixups = new.debug_loc_fixups; debug_loclists_fixups = new.debug_loclists_fixups }
+
+  -- units that are read from what two sections tell, while the others stay
+  read_held : (meaning : W → Meaning) (big : Bool) (old new : Sections W) (units : List UnitValue) (info abbrevs : List ℕ) → IsNewPlain meaning big old → OthersStay old new →
+      (meaning new.debug_info.0).bytes ≡ Some info → (meaning new.debug_abbrev.0).bytes ≡ Some abbrevs → Built units big info abbrevs → HoldsUnits meaning big new units
+  read_held meaning big old new units info abbrevs empty others info_told abbrevs_told built =
+      let stays : Sections W = record old { debug_abbrev = new.debug_abbrev; debug_info = new.debug_info; debug_info_fixups = new.debug_info_fixups; debug_loc_fixups = new.debug_loc_fixups; debug_loclists_fixups = new.debug_loclists_fixups } in
+      let kept = λ (f : Sections W → W) (h : IsEmptyPlainWriter (meaning (f stays)) big). let P : Sections W → Type 0 = λ s. IsEmptyPlainWriter (meaning (f s)) big in subst P (sym others) h in
+      record {
+        info = info;
+        abbrevs = abbrevs;
+        info_told = info_told;
+        abbrevs_told = abbrevs_told;
+        built = built;
+        strings = kept (λ s. s.debug_str.0) empty.writers.debug_str;
+        line_strings = kept (λ s. s.debug_line_str.0) empty.writers.debug_line_str;
+        lines = kept (λ s. s.debug_line.0) empty.writers.debug_line;
+        ranges = kept (λ s. s.debug_ranges.0) empty.writers.debug_ranges;
+        range_lists = kept (λ s. s.debug_rnglists.0) empty.writers.debug_rnglists;
+        locations = kept (λ s. s.debug_loc.0) empty.writers.debug_loc;
+        location_lists = kept (λ s. s.debug_loclists.0) empty.writers.debug_loclists;
+        frames = kept (λ s. s.debug_frame.0) empty.writers.debug_frame;
+        eh_frames = kept (λ s. s.eh_frame.0) empty.writers.eh_frame;
+      }
+
   -- where nothing was written
-  none_held : (meaning : W → Meaning) (big : Bool) (s : Sections W) → IsNewPlain meaning big s → HoldsUnits meaning big s []
-  none_held meaning big s new = record {
-    info = [];
-    abbrevs = [];
-    info_told = new.writers.debug_info.bytes;
-    abbrevs_told = new.writers.debug_abbrev.bytes;
-    built = none_built big;
-    strings = new.writers.debug_str;
-    line_strings = new.writers.debug_line_str;
-    lines = new.writers.debug_line;
-    ranges = new.writers.debug_ranges;
-    range_lists = new.writers.debug_rnglists;
-    locations = new.writers.debug_loc;
-    location_lists = new.writers.debug_loclists;
-    frames = new.writers.debug_frame;
-    eh_frames = new.writers.eh_frame;
-  }
+  none_held : (meaning : W → Meaning) (big : Bool) (old new : Sections W) → IsNewPlain meaning big old → AddsNothing old new → OthersStay old new → HoldsUnits meaning big new []
+  none_held meaning big old new empty same others =
+      let told = λ (w : W). (meaning w).bytes in
+      read_held meaning big old new [] [] [] empty others (ap told same.0 ∙ empty.writers.debug_info.bytes) (ap told same.1 ∙ empty.writers.debug_abbrev.bytes) (none_built big)
 
   -- where one unit was written
   one_held : (meaning : W → Meaning) (big : Bool) (old new : Sections W) (u : UnitValue) → ((w : W) → (meaning w).is_plain ≡ true → (meaning w).records ≡ []) →
-      IsNewPlain meaning big old → AppendsTree meaning old new u.encoding u.entries →
-      new ≡ record old { debug_abbrev = new.debug_abbrev; debug_info = new.debug_info } → HoldsUnits meaning big new (u ∷ [])
+      IsNewPlain meaning big old → AppendsTree meaning old new u.encoding u.entries → OthersStay old new → HoldsUnits meaning big new (u ∷ [])
   one_held meaning big old new u law empty appends others =
       let e = u.encoding in
       let body = tree_bytes big e u.entries in
@@ -103,28 +118,11 @@ module _ {W : Type 0} where
       ap (λ b. unit_text e (meaning old.debug_abbrev.0).size (tree_bytes b e u.entries) big at_zero) order
       ∙ ap (λ p. unit_text e p body big at_zero) start
       ∙ unit_shown big e body (is_width-lt _ is_unit.address_size) in
-      let kept = λ (f : Sections W → W) (h : IsEmptyPlainWriter (meaning (f (record old { debug_abbrev = new.debug_abbrev; debug_info = new.debug_info }))) big). let P : Sections W → Type 0 = λ s. IsEmptyPlainWriter (meaning (f s)) big in subst P (sym others) h in
-      record {
-        info = unit_bytes big e 0 body;
-        abbrevs = tree_table e u.entries;
-        info_told = info ∙ place;
-        abbrevs_told = table;
-        built = one_built u big is_unit;
-        strings = kept (λ s. s.debug_str.0) empty.writers.debug_str;
-        line_strings = kept (λ s. s.debug_line_str.0) empty.writers.debug_line_str;
-        lines = kept (λ s. s.debug_line.0) empty.writers.debug_line;
-        ranges = kept (λ s. s.debug_ranges.0) empty.writers.debug_ranges;
-        range_lists = kept (λ s. s.debug_rnglists.0) empty.writers.debug_rnglists;
-        locations = kept (λ s. s.debug_loc.0) empty.writers.debug_loc;
-        location_lists = kept (λ s. s.debug_loclists.0) empty.writers.debug_loclists;
-        frames = kept (λ s. s.debug_frame.0) empty.writers.debug_frame;
-        eh_frames = kept (λ s. s.eh_frame.0) empty.writers.eh_frame;
-      }
+      read_held meaning big old new (u ∷ []) (unit_bytes big e 0 body) (tree_table e u.entries) empty others (info ∙ place) table (one_built u big is_unit)
 
   pub units_held : (meaning : W → Meaning) (big : Bool) (old new : Sections W) (us : List UnitValue) → ((w : W) → (meaning w).is_plain ≡ true → (meaning w).records ≡ []) →
-      length us ≤ 1 → IsNewPlain meaning big old → AreUnwritten us → AppendsUnits meaning old new us →
-      new ≡ record old { debug_abbrev = new.debug_abbrev; debug_info = new.debug_info } → HoldsUnits meaning big new (map settled us)
-  units_held meaning big old new [] law few empty unwritten same others = subst (λ s. HoldsUnits meaning big s []) (sym same) (none_held meaning big old empty)
+      length us ≤ 1 → IsNewPlain meaning big old → AreUnwritten us → AppendsUnits meaning old new us → OthersStay old new → HoldsUnits meaning big new (map settled us)
+  units_held meaning big old new [] law few empty unwritten same others = none_held meaning big old new empty same others
   units_held meaning big old new (u ∷ []) law few empty unwritten appends others =
       let fresh : u.is_written ≡ false = unwritten 0 u (omega arith) in
       one_held meaning big old new (settled u) law empty (MatchBool-false u.is_written _ _ fresh appends) others

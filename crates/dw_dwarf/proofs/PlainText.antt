@@ -52,5 +52,5 @@ pub unit_shown : (big : Bool) (e : Encoding) (body : List ℕ) → e.address_siz
 unfolding unit_text unit_bytes after number_text bytes_text followed
 unit_shown big e body small =
     let fields = fields_shown big e small in
-    let long : unit_length e body ≡ length (fields_bytes big e 0 ++ body) = omega (arith, length-append (fields_bytes big e 0) body, length-fields_bytes big e 0) in
+    let long : unit_length e (length body) ≡ length (fields_bytes big e 0 ++ body) = omega (arith, length-append (fields_bytes big e 0) body, length-fields_bytes big e 0) in
     rw fields (ap (λ n. Some (escape_of e.format ++ (num big (word_of e.format) n ++ (fields_bytes big e 0 ++ body)))) long)

@@ -1,5 +1,5 @@
 -- Units that can be written.
-use Rattle.std.specs.Prelude.{◌≡◌, Bool, false, List, All}
+use Rattle.std.specs.Prelude.{◌≡◌, false, List, All}
 use Rattle.dw_unit.specs.UnitValue.{UnitValue}
 use Rattle.dw_unit.specs.Valid.{IsWritable}
 
@@ -11,5 +11,5 @@ abbrev pub AreUnwritten : List UnitValue → Type 0
 AreUnwritten us = All IsUnwritten us
 
 -- every unit has a version and an address size, values and a length that have a spelling
-abbrev pub IsValid : Bool → List UnitValue → Type 0
-IsValid big us = All (IsWritable big) us
+abbrev pub IsValid : List UnitValue → Type 0
+IsValid us = All IsWritable us

@@ -4,9 +4,9 @@ use crate::Dwarf;
 use dw_base::constants::{
     DW_AT_byte_size, DW_AT_name, DW_AT_type, DW_TAG_base_type, DW_TAG_variable,
 };
-use dw_base::{Encoding, Error, Format, Result, RunTimeEndian, UnitId};
+use dw_base::{DwEhPe, Encoding, Error, Format, Result, RunTimeEndian, UnitEntryId, UnitId};
 use dw_unit::{AttributeValue, Bytes, LineProgram, Unit};
-use dw_writer::{EndianVec, Sections};
+use dw_writer::{DebugInfoFixup, EndianVec, Sections};
 use std::alloc::Global;
 use std::test::Fail;
 
@@ -55,6 +55,74 @@ fn writes_a_unit_once(rt: HostRuntime) -> std::result::Result<(), Fail> {
         assert!(rt; dwarf.units.get(UnitId::new(0)).is_written());
         assert_eq!(rt; sections.debug_info.0.slice(), VERSION_5.as_slice());
         assert_eq!(rt; sections.debug_abbrev.0.slice(), ROOT_TABLE.as_slice());
+    }
+    Ok(())
+}
+
+/// No reference is left to be fixed up, also none that was there before.
+#[test]
+fn leaves_no_fixup(rt: HostRuntime) -> std::result::Result<(), Fail> {
+    let mut dwarf = dwarf_of(rt.alloc(), encoding(5))?;
+    let mut sections = new_sections(rt.alloc())?;
+    sections.debug_loc_fixups.push(DebugInfoFixup {
+        offset: 0,
+        size: 4,
+        unit: UnitId::new(0),
+        entry: UnitEntryId::new(0),
+    })?;
+    assert_eq!(rt; sections.debug_loc_fixups.len(), 1);
+    assert_eq!(rt; dwarf.units.count(), 1);
+    dwarf.write(&mut sections)?;
+    assert!(rt; sections.debug_info_fixups.is_empty());
+    assert!(rt; sections.debug_loc_fixups.is_empty());
+    assert!(rt; sections.debug_loclists_fixups.is_empty());
+    assert_eq!(rt; sections.debug_info.0.slice(), VERSION_5.as_slice());
+    Ok(())
+}
+
+/// Each error's text, with its number.
+#[test]
+fn says_why_it_refused(rt: HostRuntime) -> std::result::Result<(), Fail> {
+    for (error, text) in [
+        (
+            Error::UnsupportedWordSize(3),
+            "a width of 3 bytes is not supported",
+        ),
+        (
+            Error::UnsupportedVersion(65_535),
+            "version 65535 is not supported",
+        ),
+        (Error::NeedVersion(4), "version 4 is needed"),
+        (
+            Error::InvalidFrameCodeOffset(4_294_967_295),
+            "the code offset 4294967295 can't be factored",
+        ),
+        (
+            Error::InvalidFrameDataOffset(-7),
+            "the data offset -7 can't be factored",
+        ),
+        (
+            Error::UnsupportedPointerEncoding(DwEhPe(0x1b)),
+            "the pointer encoding DwEhPe(27) is not supported",
+        ),
+        (
+            Error::OffsetOutOfBounds,
+            "a patch begins past the end of its section",
+        ),
+        (
+            Error::LengthOutOfBounds,
+            "a patch ends past the end of its section",
+        ),
+        (
+            Error::InitialLengthOverflow,
+            "a length is too large for the 32-bit format",
+        ),
+        (
+            Error::InvalidReference,
+            "a reference names nothing that is written",
+        ),
+    ] {
+        assert_eq!(rt; format!(in rt.alloc(); "{error}")?.as_str(), text);
     }
     Ok(())
 }

@@ -1,32 +1,52 @@
 -- What a unit that is read tells of the entries that were built.
-use Rattle.std.proofs.Common.{◌≡◌, ◌∙◌, sym, ap, ℕ, zero, suc, List, [], ◌∷◌, ◌++◌, map, drop, Option, Some, None, Bool, true, false, refl, ⊎_elim}
-use Rattle.std.specs.Prelude.{◌==◌, not, slice_get, if◌then◌else◌}
+use Rattle.std.proofs.Common.{◌≡◌, ◌∙◌, sym, ap, arith, ℕ, zero, suc, List, [], ◌∷◌, ◌++◌, map, drop, Option, Some, None, Bool, true, false, refl, ⊎_elim}
+use Rattle.std.specs.Prelude.{◌==◌, ◌↔◌, not, slice_get, if◌then◌else◌, Contains}
 use Rattle.std.specs.Option.{option_map}
 use Rattle.std.proofs.lemmas.Bool.{and_parts, or_left, or_right, or_cases, not_from_true, eq-eqb, eqb-true, ne_eqb, false≢true}
 use Rattle.std.proofs.lemmas.Option.{none-some, same_Some, slice_get-map}
+use Rattle.dw_base.specs.Abbreviations.{Declaration}
 use Rattle.dw_base.specs.Forms.{Number}
 use Rattle.dw_base.specs.Entries.{ReadAttribute, ReadEntry, Mark, Open, Close, Row}
 use Rattle.dw_base.specs.Info.{ReadUnit}
+use Rattle.dw_base.specs.declared.common.Encoding.{Encoding}
 use Rattle.dw_base.specs.declared.ids.UnitEntryId.{UnitEntryId}
+use Rattle.dw_abbrev.specs.Codes.{code_in, declarations}
+use Rattle.dw_abbrev.proofs.CodeLaws.{code_in-same}
 use Rattle.dw_unit.specs.declared.attribute.Attribute.{Attribute}
 use Rattle.dw_unit.specs.declared.attribute.AttributeValue.TheVariants as values
 use Rattle.dw_unit.specs.UnitValue.{UnitValue}
 use Rattle.dw_unit.specs.Attributes.{named}
 use Rattle.dw_unit.specs.Entries.{EntryValue, attributes_of}
 use Rattle.dw_unit.specs.Values.{reference_form}
-use Rattle.dw_unit.specs.Shapes.{Placement, has_sibling, read_attribute, read_sibling}
+use Rattle.dw_unit.specs.Shapes.{Placement, has_sibling, shape_of_entry, read_attribute, read_sibling}
 use Rattle.dw_unit.specs.Coded.{entry_at, coded_mark}
+use Rattle.dw_unit.specs.DistinctShapes.{entry_shapes, distinct_shapes}
 use Rattle.dw_unit.specs.Arena.{AreLinked}
 use Rattle.dw_unit.specs.Tree.{preorder, has_entry, are_entries_distinct}
 use Rattle.dw_unit.specs.Built.{place_read, past_row, past_read, placement_read, IsBuilt}
 use Rattle.dw_unit.specs.Whole.{tree_shapes}
 use Rattle.dw_unit.proofs.Distinct.{preorder_distinct}
+use Rattle.dw_unit.proofs.DistinctShapes.{has_shape-distinct, has_shape-entry, has_shape-at, distinct_shapes-differ, Contains-shape, code_in-place, numbered-declares, entry_of_shape}
 
 -- An entry is read in a row: the row has the number that the entry has in preorder.
 pub record IsReadIn (u : UnitValue) (r : ReadUnit) (i : ℕ) (row : Row) : Type 0 where
   pub number : ℕ
   pub entry_is : slice_get (preorder u.entries) number ≡ Some (Open i)
   pub row_is : slice_get r.rows number ≡ Some row
+
+-- the code that an entry's row begins with
+abbrev pub code_of : Row → Option ℕ
+code_of row = elim row.mark [ Open x ↦ Some x.code | Close ↦ None ]
+
+-- A declaration at a place of a unit's table is used: an entry has its shape, and is read with its code, which is the place
+-- counted from 1.
+pub record IsUsed (u : UnitValue) (r : ReadUnit) (place : ℕ) (d : Declaration) : Type 0 where
+  pub code : d.code ≡ suc place
+  pub entry : ℕ
+  pub row : Row
+  pub is_read : IsReadIn u r entry row
+  pub shape : shape_of_entry u.encoding (entry_at u.entries entry) ≡ d.shape
+  pub has_code : code_of row ≡ Some d.code
 
 -- where the entries of a unit are read, and what is read of a mark
 abbrev pub places_read : UnitValue → ReadUnit → Placement
@@ -86,6 +106,11 @@ found_at (Open j ∷ ms) (x ∷ rows) (suc n) i row d h g =
       ap (λ (b : Bool). if b then past_row x rows else past_read ms rows i) test ∙ behind.1,
     )
 found_at (Close ∷ ms) (x ∷ rows) (suc n) i row d h g = found_at ms rows n i row d h g
+
+-- each entry's shape is among the tree's shapes
+Contains-entry : (e : Encoding) (es : List EntryValue) (i : ℕ) → has_entry (preorder es) i ≡ true → Contains (tree_shapes e es) (shape_of_entry e (entry_at es i))
+Contains-entry e es i h =
+    let s = shape_of_entry e (entry_at es i) in Contains-shape (tree_shapes e es) s (has_shape-distinct (entry_shapes e es (preorder es)) s ∙ has_shape-entry e es (preorder es) i h)
 
 -- an entry's attributes, as the arena's other words read them
 attributes-entry_at : (es : List EntryValue) (i : ℕ) → (entry_at es i).attributes ≡ attributes_of es i
@@ -149,3 +174,43 @@ module _ (u : UnitValue) (r : ReadUnit) (built : IsBuilt u r) where
       ap (λ m. attribute_at (record row { mark = m }) 0) (mark_read i row at)
       ∙ ap (λ (b : Bool). slice_get ((if b then read_sibling u.encoding ((places_read u r).past i) ∷ [] else []) ++ own) 0) names
       ∙ ap (λ past. Some (read_sibling u.encoding past)) (found_at (preorder u.entries) r.rows at.number i row (preorder_distinct u.entries links) at.entry_is at.row_is).1
+
+  -- an entry is read with the code of its shape
+  code_of_read : (i : ℕ) (row : Row) → IsReadIn u r i row → code_of row ≡ Some (code_in (tree_shapes u.encoding u.entries) (shape_of_entry u.encoding (entry_at u.entries i)))
+  code_of_read i row at = ap (λ m. code_of (record row { mark = m })) (mark_read i row at)
+
+  -- Two entries are read with the same code exactly where their shapes are equal.
+  pub codes_read : (i j : ℕ) (a b : Row) → IsReadIn u r i a → IsReadIn u r j b →
+      (code_of a ≡ code_of b) ↔ (shape_of_entry u.encoding (entry_at u.entries i) ≡ shape_of_entry u.encoding (entry_at u.entries j))
+  codes_read i j a b is_a is_b =
+      let shapes = tree_shapes u.encoding u.entries in
+      let s = shape_of_entry u.encoding (entry_at u.entries i) in
+      let t = shape_of_entry u.encoding (entry_at u.entries j) in
+      let same = code_in-same shapes s t (Contains-entry u.encoding u.entries i (has_entry-at (preorder u.entries) is_a.number i is_a.entry_is)) in (
+        λ e. same.0 (same_Some (code_in shapes s) (code_in shapes t) (sym (code_of_read i a is_a) ∙ e ∙ code_of_read j b is_b)),
+        λ e. code_of_read i a is_a ∙ ap (λ x. Some (code_in shapes x)) e ∙ sym (code_of_read j b is_b),
+      )
+
+  -- The table declares the different shapes of the entries, in the order in which each first comes, with the codes 1, 2, 3 ..
+  pub declarations_read : r.table ≡ declarations (distinct_shapes (entry_shapes u.encoding u.entries (preorder u.entries)))
+  declarations_read = built.declarations
+
+  -- Each declaration of the table is used, and its code is its place counted from 1.
+  pub declarations_used : (place : ℕ) (d : Declaration) → slice_get r.table place ≡ Some d → IsUsed u r place d
+  declarations_used place d h =
+      let e = u.encoding in
+      let every = entry_shapes e u.entries (preorder u.entries) in
+      let shapes = tree_shapes e u.entries in
+      let declared = numbered-declares 1 shapes place d (sym (ap (λ ds. slice_get ds place) built.declarations) ∙ h) in
+      let there = sym (has_shape-distinct every d.shape) ∙ has_shape-at shapes place d.shape declared.1 in
+      let user = entry_of_shape e u.entries (preorder u.entries) d.shape there in
+      let read = entry_read user.0 user.1 in
+      let code : d.code ≡ suc place = omega (arith, declared.0) in
+      record {
+        code = code;
+        entry = user.0;
+        row = read.0;
+        is_read = read.1;
+        shape = user.2;
+        has_code = code_of_read user.0 read.0 read.1 ∙ ap (λ s. Some (code_in shapes s)) user.2 ∙ ap Some (code_in-place shapes place d.shape (distinct_shapes-differ every) declared.1 ∙ sym code);
+      }

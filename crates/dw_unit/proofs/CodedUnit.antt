@@ -1,6 +1,6 @@
 -- Entries that were written with their codes are a unit that can be read again.
 use Rattle.std.specs.Prelude.{ℕ, ◌+◌, ◌<◌, ◌≤◌, ◌^◌, Bool, List, [], ◌∷◌, ◌++◌, length, map, IsTrue, All}
-use Rattle.std.proofs.Common.{◌∙◌, sym, ap, Some, arith}
+use Rattle.std.proofs.Common.{◌≡◌, ◌∙◌, sym, ap, subst, Some, arith}
 use Rattle.std.proofs.lemmas.List.Elements.{All-nil, All-cons, All-head, All-tail}
 use Rattle.dw_base.specs.Numbers.{word_of, fits, length_fits, is_width}
 use Rattle.dw_base.specs.Abbreviations.{Shape}
@@ -43,9 +43,9 @@ marks-declared e es p t (Close ∷ ms) small h =
     let final = shapes_of e es t ms in
     All-cons (IsMark e (declarations final)) Close (coded e es p final ms) tt (marks-declared e es p t ms (omega arith) (All-tail (HasOperands e es p) Close ms h))
 
-module _ (big : Bool) (e : Encoding) (place : ℕ) (es : List EntryValue) (p : Placement) (ms : List (Mark ℕ)) (from : 2 ≤ e.version) (to : e.version ≤ 5) (width : IsTrue (is_width e.address_size)) (place_fits : IsTrue (fits (word_of e.format) place)) (length_ok : IsTrue (length_fits e.format (length (fields_bytes big e place ++ body_bytes big e (coded e es p (shapes_of e es [] ms) ms))))) (tree : IsTrue (is_one_tree (map children_of (coded e es p (shapes_of e es [] ms) ms)))) (small : length ms < 2 ^ 64) where
+module _ (big : Bool) (e : Encoding) (place : ℕ) (es : List EntryValue) (p : Placement) (ms : List (Mark ℕ)) (shapes : List Shape) (found : shapes_of e es [] ms ≡ shapes) (from : 2 ≤ e.version) (to : e.version ≤ 5) (width : IsTrue (is_width e.address_size)) (place_fits : IsTrue (fits (word_of e.format) place)) (length_ok : IsTrue (length_fits e.format (length (fields_bytes big e place ++ body_bytes big e (coded e es p shapes ms))))) (tree : IsTrue (is_one_tree (map children_of (coded e es p shapes ms)))) (small : length ms < 2 ^ 64) where
   -- what the calls that write say is enough: the table ensures its declarations, and the body its operands
-  pub IsUnit-written : AreDeclarations (declarations (shapes_of e es [] ms)) → HaveOperands e es p ms → IsUnit big e place (declarations (shapes_of e es [] ms)) (coded e es p (shapes_of e es [] ms) ms)
+  pub IsUnit-written : AreDeclarations (declarations shapes) → HaveOperands e es p ms → IsUnit big e place (declarations shapes) (coded e es p shapes ms)
   IsUnit-written declared operands = record {
     version_from = from;
     version_to = to;
@@ -53,6 +53,6 @@ module _ (big : Bool) (e : Encoding) (place : ℕ) (es : List EntryValue) (p : P
     place_fits = place_fits;
     length_ok = length_ok;
     declarations = declared;
-    each = marks-declared e es p [] ms (omega arith) operands;
+    each = subst (λ ss. All (IsMark e (declarations ss)) (coded e es p ss ms)) found (marks-declared e es p [] ms (omega arith) operands);
     tree = tree;
   }

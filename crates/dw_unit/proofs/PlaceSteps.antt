@@ -7,7 +7,7 @@ use Rattle.dw_base.specs.Entries.{Mark, Close, closes}
 use Rattle.dw_base.specs.Spelling.{header_size}
 use Rattle.dw_base.specs.declared.common.Encoding.{Encoding}
 use Rattle.dw_base.specs.declared.common.Format.{Format}
-use Rattle.dw_base.specs.declared.common.Format.TheVariants.{Dwarf32, Dwarf64}
+use Rattle.dw_base.specs.declared.common.Format.TheVariants.{Dwarf32}
 use Rattle.dw_base.specs.declared.error.Error.{Error}
 use Rattle.dw_base.specs.declared.error.Error.TheVariants.{InitialLengthOverflow}
 use Rattle.dw_unit.specs.Entries.{EntryValue}
@@ -17,11 +17,11 @@ use Rattle.dw_unit.specs.Tree.{children_in, preorder, has_entry, are_entries_dis
 use Rattle.dw_unit.specs.Coded.{shapes_of, code_at}
 use Rattle.dw_unit.specs.Laid.{sizes_of, laid_from}
 use Rattle.dw_unit.specs.Places.{capped, has_place, FitsWords, IsSamePlacement}
-use Rattle.dw_unit.specs.UnitText.{unit_length}
 use Rattle.dw_unit.specs.Causes.{TreeRefused}
-use Rattle.dw_unit.specs.Whole.{tree_bytes, tree_shapes, tree_size, tree_placement}
+use Rattle.dw_unit.specs.Valid.{tree_length}
+use Rattle.dw_unit.specs.Whole.{tree_shapes, tree_size, tree_placement}
 use Rattle.dw_unit.proofs.Distinct.{preorder_distinct}
-use Rattle.dw_unit.proofs.SizeLaws.{length-body_bytes}
+use Rattle.dw_unit.proofs.DistinctShapes.{tree_shapes-found}
 use Rattle.dw_unit.proofs.TreeLaws.{preorder_closes}
 
 pub tree_distinct : (es : List EntryValue) (ms : List (Mark ℕ)) → ms ≡ preorder es → AreLinked es → are_entries_distinct ms ≡ true
@@ -31,14 +31,25 @@ pub tree_closes : (es : List EntryValue) (ms : List (Mark ℕ)) → ms ≡ preor
 tree_closes es ms tree = ap (λ l. closes 1 (map (children_in es) l ++ Close ∷ [])) tree ∙ preorder_closes es
 
 pub tree_codes : (e : Encoding) (es : List EntryValue) (ms : List (Mark ℕ)) (codes : List ℕ) → ms ≡ preorder es → codes ≡ map (code_at e es (shapes_of e es [] ms)) ms → codes ≡ map (code_at e es (tree_shapes e es)) ms
-tree_codes e es ms codes tree given = given ∙ ap (λ l. map (code_at e es (shapes_of e es [] l)) ms) tree
+tree_codes e es ms codes tree given = given ∙ ap (λ ss. map (code_at e es ss) ms) (tree_shapes-found e es ms tree)
+
+-- the codes of a tree are those of its marks
+pub found_codes : (e : Encoding) (es : List EntryValue) (ms : List (Mark ℕ)) (codes : List ℕ) → ms ≡ preorder es → codes ≡ map (code_at e es (tree_shapes e es)) ms → codes ≡ map (code_at e es (shapes_of e es [] ms)) ms
+found_codes e es ms codes tree given = given ∙ sym (ap (λ ss. map (code_at e es ss) ms) (tree_shapes-found e es ms tree))
+
+-- the bytes of marks are those of the tree
+pub tree_size-found : (e : Encoding) (es : List EntryValue) (ms : List (Mark ℕ)) → ms ≡ preorder es → sizes_of e es (shapes_of e es [] ms) ms ≡ tree_size e es
+tree_size-found e es ms tree = ap (λ ss. sizes_of e es ss ms) (tree_shapes-found e es ms tree) ∙ ap (sizes_of e es (tree_shapes e es)) tree
 
 -- places of marks are those of the tree
 pub tree_placed : (e : Encoding) (es : List EntryValue) (p : Placement) (ms : List (Mark ℕ)) → ms ≡ preorder es →
     (header_size e + sizes_of e es (shapes_of e es [] ms) ms < 2 ^ 64 → IsSamePlacement p (laid_from e es (shapes_of e es [] ms) (header_size e) ms)) →
     header_size e + tree_size e es < 2 ^ 64 → IsSamePlacement p (tree_placement e es)
-tree_placed e es p ms tree =
-    subst (λ l. (header_size e + sizes_of e es (shapes_of e es [] l) l < 2 ^ 64 → IsSamePlacement p (laid_from e es (shapes_of e es [] l) (header_size e) l)) → header_size e + tree_size e es < 2 ^ 64 → IsSamePlacement p (tree_placement e es)) (sym tree) (λ placed small. placed small)
+tree_placed e es p ms tree placed small =
+    let size = tree_size-found e es ms tree in
+    let laid : laid_from e es (shapes_of e es [] ms) (header_size e) ms ≡ tree_placement e es =
+    ap (λ ss. laid_from e es ss (header_size e) ms) (tree_shapes-found e es ms tree) ∙ ap (laid_from e es (tree_shapes e es) (header_size e)) tree in
+    subst (IsSamePlacement p) laid (placed (omega (arith, size, small)))
 
 pub tree_inside : (es : List EntryValue) (p : Placement) (ms : List (Mark ℕ)) → ms ≡ preorder es → ((i : ℕ) → has_place p i ≡ has_entry ms i) → (i : ℕ) → has_place p i ≡ has_entry (preorder es) i
 tree_inside es p ms tree inside i = inside i ∙ ap (λ l. has_entry l i) tree
@@ -51,16 +62,15 @@ capped_below : (n : ℕ) → capped n ≤ n
 capped_below n = omega arith
 
 -- a length that the end shows to be too long is too long
-too_long : (format : Format) (end n : ℕ) → end ≤ length_size format + n → end < 2 ^ 64 → IsFalse (length_fits format (end - length_size format)) → IsFalse (length_fits format n)
-too_long Dwarf32 end n below small h = grind (arith, nat_tests)
-too_long Dwarf64 end n below small h = grind (arith, nat_tests)
+too_long : (end n : ℕ) → end ≤ length_size Dwarf32 + n → IsFalse (length_fits Dwarf32 (end - length_size Dwarf32)) → IsFalse (length_fits Dwarf32 n)
+too_long end n below h = grind (arith, nat_tests)
 
 -- why a tree is refused whose end is too far
-pub length_refused_early : (rise : Type 0) (plain : Bool) (table : ℕ) (big : Bool) (e : Encoding) (es : List EntryValue) (ms : List (Mark ℕ)) (end : ℕ) (error : Error) → ms ≡ preorder es → end ≡ capped (header_size e + sizes_of e es (shapes_of e es [] ms) ms) → end < 2 ^ 64 →
-    (error ≡ InitialLengthOverflow) × IsFalse (length_fits e.format (end - length_size e.format)) → TreeRefused rise plain table big e es error
-length_refused_early rise plain table big e es ms end error tree at small h =
-    let size = length-body_bytes big e es (tree_placement e es) (tree_shapes e es) (preorder es) in
-    let of_tree : sizes_of e es (shapes_of e es [] ms) ms ≡ tree_size e es = ap (λ l. sizes_of e es (shapes_of e es [] l) l) tree in
+pub length_refused_early : (rise : Type 0) (plain : Bool) (table : ℕ) (e : Encoding) (es : List EntryValue) (ms : List (Mark ℕ)) (end : ℕ) (error : Error) → ms ≡ preorder es → end ≡ capped (header_size e + sizes_of e es (shapes_of e es [] ms) ms) →
+    (error ≡ InitialLengthOverflow) × (e.format ≡ Dwarf32) × IsFalse (length_fits Dwarf32 (end - length_size Dwarf32)) → TreeRefused rise plain table e es error
+length_refused_early rise plain table e es ms end error tree at h =
+    let of_tree : sizes_of e es (shapes_of e es [] ms) ms ≡ tree_size e es = tree_size-found e es ms tree in
     let below = capped_below (header_size e + sizes_of e es (shapes_of e es [] ms) ms) in
-    subst (TreeRefused rise plain table big e es) (sym h.0)
-    (too_long e.format end (unit_length e (tree_bytes big e es)) (omega (arith, at, below, size, of_tree)) small h.1)
+    let width : length_size e.format ≡ length_size Dwarf32 = ap length_size h.1 in
+    subst (TreeRefused rise plain table e es) (sym h.0)
+    (h.1, too_long end (tree_length e es) (omega (arith, at, below, of_tree, width)) h.2)

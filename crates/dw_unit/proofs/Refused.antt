@@ -13,7 +13,7 @@ use Rattle.dw_unit.specs.Valid.{IsWritableTree, IsWritable}
 use Rattle.dw_unit.specs.Causes.{TreeRefused, UnitRefused}
 
 module _ {W : Type 0} (meaning : W → Meaning) (old new : Sections W) (u : UnitValue) where
-  settled_refused : (error : Error) → TreeRefused (fault_sum meaning old < fault_sum meaning new) (meaning old.debug_info.0).is_plain (meaning old.debug_abbrev.0).size (meaning old.debug_info.0).is_big u.encoding (settled u).entries error →
+  settled_refused : (error : Error) → TreeRefused (fault_sum meaning old < fault_sum meaning new) (meaning old.debug_info.0).is_plain (meaning old.debug_abbrev.0).size u.encoding (settled u).entries error →
       UnitRefused meaning old new u error
   settled_refused NoMemory h = tt
   settled_refused WriteFault h = h
@@ -25,16 +25,15 @@ module _ {W : Type 0} (meaning : W → Meaning) (old new : Sections W) (u : Unit
 
   -- the entries that were written are those of the settled unit
   pub tree_refused : (e : Encoding) (es : List EntryValue) (error : Error) → e ≡ u.encoding → es ≡ (settled u).entries →
-      TreeRefused (fault_sum meaning old < fault_sum meaning new) (meaning old.debug_info.0).is_plain (meaning old.debug_abbrev.0).size (meaning old.debug_info.0).is_big e es error → UnitRefused meaning old new u error
+      TreeRefused (fault_sum meaning old < fault_sum meaning new) (meaning old.debug_info.0).is_plain (meaning old.debug_abbrev.0).size e es error → UnitRefused meaning old new u error
   tree_refused e es error is_e is_es h =
       let rise = fault_sum meaning old < fault_sum meaning new in
       let plain = (meaning old.debug_info.0).is_plain in
       let place = (meaning old.debug_abbrev.0).size in
-      let big = (meaning old.debug_info.0).is_big in
       settled_refused error
-      (subst (λ x. TreeRefused rise plain place big u.encoding x error) is_es (subst (λ x. TreeRefused rise plain place big x es error) is_e h))
+      (subst (λ x. TreeRefused rise plain place u.encoding x error) is_es (subst (λ x. TreeRefused rise plain place x es error) is_e h))
 
 -- a tree that can be written, where its entries are those of the settled unit
-pub settled_writable : (big : Bool) (u : UnitValue) (e : Encoding) (es : List EntryValue) → e ≡ u.encoding → es ≡ (settled u).entries → IsWritableTree big e es → IsWritable big u
-settled_writable big u e es is_e is_es h =
-    subst (λ x. IsWritableTree big u.encoding x) is_es (subst (λ x. IsWritableTree big x es) is_e h)
+pub settled_writable : (u : UnitValue) (e : Encoding) (es : List EntryValue) → e ≡ u.encoding → es ≡ (settled u).entries → IsWritableTree e es → IsWritable u
+settled_writable u e es is_e is_es h =
+    subst (λ x. IsWritableTree u.encoding x) is_es (subst (λ x. IsWritableTree x es) is_e h)

@@ -1,8 +1,8 @@
 -- What a changed entry makes of its unit.
 use Rattle.std.proofs.Common.{◌≡◌, ◌≢◌, ◌∙◌, sym, ap, subst, ℕ, ◌+◌, ◌<◌, ◌≤◌, zero, suc, List, [], ◌∷◌, Some, None, Bool, false, refl, arith, length, Result, Ok, Err}
-use Rattle.std.specs.Prelude.{slice_set, OnOk, OnErr, ◌==◌}
+use Rattle.std.specs.Prelude.{slice_set, OnOk, OnErr, ◌==◌, ◌&&◌, nat_lt}
 use Rattle.std.specs.List.{list_any, IsDistinct}
-use Rattle.std.proofs.lemmas.Bool.{false≢true}
+use Rattle.std.proofs.lemmas.Bool.{false≢true, eqb-true}
 use Rattle.std.proofs.lemmas.Option.{slice_get_past, slice_get_read}
 use Rattle.std.proofs.Math.ListN.{get_or}
 use Rattle.dw_unit.specs.Entries.{EntryValue, parent_of, tag_of, children_of, attributes_of, tag_or_zero, attributes_or_none, with_changed, filled_up, with_child, placed_under, with_new_child, without_child}
@@ -11,6 +11,7 @@ use Rattle.dw_unit.specs.UnitValue.{UnitValue, IsReserved, IsSound}
 use Rattle.dw_unit.proofs.Changed.{changed_at, same_at, seen_kept, seen_other, numbered_changed, numbered_new_child}
 use Rattle.dw_unit.specs.Lends.{length-with_changed}
 use Rattle.dw_unit.proofs.Filled.{length-filled_up, seen_filled, numbered_filled}
+use Rattle.dw_unit.proofs.Conditions.{and_left, and_right, nat_lt-holds}
 use Rattle.dw_unit.proofs.Linked.{linked_changed, linked_without, linked_filled, linked_new_child}
 
 pub sound_changed : (i : ℕ) (f : EntryValue → EntryValue) (u : UnitValue) → ((e : EntryValue) → (f e).id ≡ e.id) → ((e : EntryValue) → (f e).tag ≡ e.tag) → AreLinked (with_changed i f u.entries) → IsSound u → IsSound (record u { entries = with_changed i f u.entries })
@@ -104,7 +105,13 @@ pub arena_added_reserved : {E : Type 0} (r : Result (Unit {0}) E) (u v : UnitVal
 arena_added_reserved (Ok x) u v new child parent tag is free parent_in tagged ok kept s =
     let sound : List EntryValue → Type 0 = λ es. IsSound (record u { entries = es }) in
     let there : u.reserved ≡ v.reserved = ap (λ w. w.reserved) is in
-    subst sound (sym ok) (arena_added u.entries u.reserved u.reserved child parent tag u.is_written u.is_freed s (omega arith) (ap (λ w. tag_of w.entries child) is ∙ free.not_added) free.not_root (omega (arith, free.handed_out)) (omega arith) tagged)
+    let other = nat_lt 0 child in
+    let given = nat_lt child v.reserved in
+    let waits = tag_of v.entries child == 0 in
+    let not_root : 0 < child = nat_lt-holds 0 child (and_left other given (and_left (other && given) waits free)) in
+    let handed_out : child < v.reserved = nat_lt-holds child v.reserved (and_right other given (and_left (other && given) waits free)) in
+    let not_added : tag_of v.entries child ≡ 0 = eqb-true (tag_of v.entries child) 0 (and_right (other && given) waits free) in
+    subst sound (sym ok) (arena_added u.entries u.reserved u.reserved child parent tag u.is_written u.is_freed s (omega arith) (ap (λ w. tag_of w.entries child) is ∙ not_added) not_root (omega (arith, handed_out)) (omega arith) tagged)
 arena_added_reserved (Err x) u v new child parent tag is free parent_in tagged ok kept s =
     let sound : List EntryValue → Type 0 = λ es. IsSound (record u { entries = es }) in
     subst sound (sym kept) s

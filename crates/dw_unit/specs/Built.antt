@@ -7,7 +7,7 @@ use Rattle.dw_unit.specs.UnitValue.{UnitValue}
 use Rattle.dw_unit.specs.Coded.{coded}
 use Rattle.dw_unit.specs.Shapes.{Placement}
 use Rattle.dw_unit.specs.Tree.{preorder}
-use Rattle.dw_unit.specs.Whole.{tree_shapes, tree_declared, tree_bytes, tree_table}
+use Rattle.dw_unit.specs.Whole.{tree_shapes, tree_declared, tree_size, tree_table}
 
 -- the type that a header of version 5 tells, that of a compile unit
 abbrev pub unit_type_of : ℕ → Option ℕ
@@ -63,8 +63,8 @@ AreBuilt (u ∷ us) [] = ⊥
 AreBuilt (u ∷ us) (r ∷ rs) = IsBuilt u r × AreBuilt us rs
 
 -- the bytes of a unit and of its table, in the shortest spelling
-abbrev pub unit_size : Bool → UnitValue → ℕ
-unit_size big u = header_size u.encoding + length (tree_bytes big u.encoding u.entries)
+abbrev pub unit_size : UnitValue → ℕ
+unit_size u = header_size u.encoding + tree_size u.encoding u.entries
 
 abbrev pub table_size : UnitValue → ℕ
 table_size u = length (tree_table u.encoding u.entries)
@@ -74,5 +74,5 @@ pub record Built (units : List UnitValue) (big : Bool) (info abbrevs : List ℕ)
   pub read : List ReadUnit
   pub reads : read_info big info abbrevs ≡ Some read
   pub units_are : AreBuilt units read
-  pub info_size : length info ≡ sum_by (unit_size big) units
+  pub info_size : length info ≡ sum_by unit_size units
   pub abbrevs_size : length abbrevs ≡ sum_by table_size units

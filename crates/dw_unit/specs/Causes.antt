@@ -2,6 +2,7 @@
 use Rattle.std.specs.Prelude.{◌≡◌, ◌<◌, ℕ, Bool, false, List, Any, IsFalse}
 use Rattle.dw_base.specs.Numbers.{is_width, word_of, length_fits}
 use Rattle.dw_base.specs.declared.common.Encoding.{Encoding}
+use Rattle.dw_base.specs.declared.common.Format.TheVariants.{Dwarf32}
 use Rattle.dw_base.specs.declared.error.Error.{Error}
 use Rattle.dw_base.specs.declared.error.Error.TheVariants.{NoMemory, WriteFault, ValueTooLarge, UnsupportedWordSize, UnsupportedVersion, InvalidAttributeValue, InvalidReference, InitialLengthOverflow}
 use Rattle.dw_writer.specs.Meaning.{Meaning}
@@ -12,9 +13,8 @@ use Rattle.dw_unit.specs.Entries.{EntryValue}
 use Rattle.dw_unit.specs.Tree.{preorder}
 use Rattle.dw_unit.specs.Coded.{are_spelled}
 use Rattle.dw_unit.specs.UnitValue.{UnitValue}
-use Rattle.dw_unit.specs.UnitText.{unit_length}
-use Rattle.dw_unit.specs.Valid.{is_version, are_references_inside}
-use Rattle.dw_unit.specs.Whole.{tree_bytes, settled}
+use Rattle.dw_unit.specs.Valid.{is_version, are_references_inside, tree_length}
+use Rattle.dw_unit.specs.Whole.{settled}
 
 -- a version or an address size has no spelling
 abbrev pub EncodingRefused : Encoding → Error → Type 0
@@ -37,23 +37,33 @@ BodyRefused old new is_spelled is_placed InvalidAttributeValue = IsFalse is_spel
 BodyRefused old new is_spelled is_placed InvalidReference = IsFalse is_placed
 BodyRefused old new is_spelled is_placed _ = ⊥
 
+-- a string of a tree has a zero byte, a reference names an entry outside it, or its length has no spelling
+abbrev pub TreeUnspelled : Encoding → List EntryValue → Error → Type 0
+TreeUnspelled e es InvalidAttributeValue = IsFalse (are_spelled es (preorder es))
+TreeUnspelled e es InvalidReference = IsFalse (are_references_inside es)
+TreeUnspelled e es InitialLengthOverflow = (e.format ≡ Dwarf32) × IsFalse (length_fits Dwarf32 (tree_length e es))
+TreeUnspelled e es _ = ⊥
+
 -- why the entries of a tree are refused, whose table is to stand at a place: there was a rise of faults or not
-abbrev pub TreeRefused : Type 0 → Bool → ℕ → Bool → Encoding → List EntryValue → Error → Type 0
-TreeRefused rise is_plain table big e es NoMemory = Unit {0}
-TreeRefused rise is_plain table big e es WriteFault = rise
-TreeRefused rise is_plain table big e es ValueTooLarge = IsFalse (offset_fits is_plain (word_of e.format) table)
-TreeRefused rise is_plain table big e es InvalidAttributeValue = IsFalse (are_spelled es (preorder es))
-TreeRefused rise is_plain table big e es InvalidReference = IsFalse (are_references_inside es)
-TreeRefused rise is_plain table big e es InitialLengthOverflow = IsFalse (length_fits e.format (unit_length e (tree_bytes big e es)))
-TreeRefused rise is_plain table big e es _ = ⊥
+abbrev pub TreeRefused : Type 0 → Bool → ℕ → Encoding → List EntryValue → Error → Type 0
+TreeRefused rise is_plain table e es NoMemory = Unit {0}
+TreeRefused rise is_plain table e es WriteFault = rise
+TreeRefused rise is_plain table e es ValueTooLarge = IsFalse (offset_fits is_plain (word_of e.format) table)
+TreeRefused rise is_plain table e es error = TreeUnspelled e es error
+
+-- a unit's version or address size, or its settled tree, has no spelling
+abbrev pub UnitUnspelled : UnitValue → Error → Type 0
+UnitUnspelled u (UnsupportedVersion v) = EncodingRefused u.encoding (UnsupportedVersion v)
+UnitUnspelled u (UnsupportedWordSize n) = EncodingRefused u.encoding (UnsupportedWordSize n)
+UnitUnspelled u error = TreeUnspelled u.encoding (settled u).entries error
 
 -- why a unit is refused, which is to stand at the end of the sections
 abbrev pub UnitRefused : {W : Type 0} → (W → Meaning) → Sections W → Sections W → UnitValue → Error → Type 0
-UnitRefused meaning old new u (UnsupportedVersion v) = (v ≡ u.encoding.version) × IsFalse (is_version v)
-UnitRefused meaning old new u (UnsupportedWordSize n) = (n ≡ u.encoding.address_size) × IsFalse (is_width n)
-UnitRefused meaning old new u e =
-    TreeRefused (fault_sum meaning old < fault_sum meaning new) (meaning old.debug_info.0).is_plain (meaning old.debug_abbrev.0).size (meaning old.debug_info.0).is_big u.encoding (settled u).entries e
+UnitRefused meaning old new u (UnsupportedVersion v) = UnitUnspelled u (UnsupportedVersion v)
+UnitRefused meaning old new u (UnsupportedWordSize n) = UnitUnspelled u (UnsupportedWordSize n)
+UnitRefused meaning old new u error =
+    TreeRefused (fault_sum meaning old < fault_sum meaning new) (meaning old.debug_info.0).is_plain (meaning old.debug_abbrev.0).size u.encoding (settled u).entries error
 
 -- some unit that wasn't written before is refused
 abbrev pub UnitsRefused : {W : Type 0} → (W → Meaning) → Sections W → Sections W → List UnitValue → Error → Type 0
-UnitsRefused meaning old new us e = Any (λ u. (u.is_written ≡ false) × UnitRefused meaning old new u e) us
+UnitsRefused meaning old new us error = Any (λ u. (u.is_written ≡ false) × UnitRefused meaning old new u error) us

@@ -28,9 +28,13 @@ pub record EntryValue : Type 0 where
 abbrev pub blank_entry : ℕ → EntryValue
 blank_entry id = record { id = id; parent = None; tag = 0; sibling = false; attributes = []; children = [] }
 
+-- the tag DW_TAG_compile_unit (DWARF 5, table 7.3)
+abbrev pub compile_unit_tag : ℕ
+compile_unit_tag = 0x11
+
 -- the root as it is made: a compile unit's
 abbrev pub new_root : EntryValue
-new_root = record (blank_entry 0) { tag = 0x11 }
+new_root = record (blank_entry 0) { tag = compile_unit_tag }
 
 -- the entries with one of them changed
 abbrev pub with_changed : ℕ → (EntryValue → EntryValue) → List EntryValue → List EntryValue

@@ -9,6 +9,7 @@ pub mod Settled
 pub mod Values
 pub mod Shapes
 pub mod Coded
+pub mod DistinctShapes
 pub mod Laid
 pub mod Places
 pub mod Laying

@@ -6,9 +6,13 @@ use Rattle.dw_unit.specs.Entries.{EntryValue, with_changed, tag_of}
 abbrev pub with_children : List ℕ → EntryValue → EntryValue
 with_children cs e = record e { children = cs }
 
--- the entry has the tag DW_TAG_base_type
+-- the tag DW_TAG_base_type (DWARF 5, table 7.3)
+abbrev pub base_type_tag : ℕ
+base_type_tag = 0x24
+
+-- the entry is a base type
 abbrev pub is_base : List EntryValue → ℕ → Bool
-is_base es i = tag_of es i == 0x24
+is_base es i = tag_of es i == base_type_tag
 
 -- the base types among children
 abbrev pub base_children : List EntryValue → List ℕ → List ℕ

@@ -23,9 +23,13 @@ has_sibling x = x.sibling && has_any x.children
 abbrev pub specification : Encoding → Attribute → Specification
 specification e a = record { name = a.name.0; form = form_of e a.value; constant = constant_of a.value }
 
--- and of DW_AT_sibling, which is 1
+-- the name DW_AT_sibling (DWARF 5, table 7.5)
+abbrev pub sibling_name : ℕ
+sibling_name = 0x01
+
+-- and of the place past the entry
 abbrev pub sibling_specification : Encoding → Specification
-sibling_specification e = record { name = 1; form = reference_form e.format; constant = None }
+sibling_specification e = record { name = sibling_name; form = reference_form e.format; constant = None }
 
 -- what stands first, where the entry names the place past it
 abbrev pub before_attributes : {A : Type 0} → EntryValue → A → List A
@@ -41,7 +45,7 @@ read_attribute e p a = record { name = a.name.0; form = form_of e a.value; const
 
 -- the place past an entry, as it is read
 abbrev pub read_sibling : Encoding → ℕ → ReadAttribute
-read_sibling e past = record { name = 1; form = reference_form e.format; constant = None; operand = Number past }
+read_sibling e past = record { name = sibling_name; form = reference_form e.format; constant = None; operand = Number past }
 
 -- the attributes of the entry at an index, as they are read
 abbrev pub read_attributes : Encoding → Placement → ℕ → EntryValue → List ReadAttribute

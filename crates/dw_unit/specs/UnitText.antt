@@ -18,10 +18,10 @@ unfoldable pub fields_text : Encoding → ℕ → Model
 fields_text e table = after (number_text 2 e.version) (after_version_text e table)
 
 -- the unit's length counts what follows it: the fields and the entries
-abbrev pub unit_length : Encoding → List ℕ → ℕ
-unit_length e body = fields_size e + length body
+abbrev pub unit_length : Encoding → ℕ → ℕ
+unit_length e size = fields_size e + size
 
 -- a unit whose table stands at a place, with the bytes of its entries
 unfoldable pub unit_text : Encoding → ℕ → List ℕ → Model
 unit_text e table body =
-    after (bytes_text (escape_of e.format)) (after (number_text (word_of e.format) (unit_length e body)) (after (fields_text e table) (bytes_text body)))
+    after (bytes_text (escape_of e.format)) (after (number_text (word_of e.format) (unit_length e (length body))) (after (fields_text e table) (bytes_text body)))

@@ -1,5 +1,5 @@
 -- A unit, as contracts see it.
-use Rattle.std.specs.Prelude.{◌≡◌, ◌<◌, ℕ, List, [], ◌∷◌, Bool, false}
+use Rattle.std.specs.Prelude.{ℕ, List, [], ◌∷◌, Bool, false, ◌&&◌, nat_lt, ◌==◌, IsTrue}
 use Rattle.dw_base.specs.declared.common.Encoding.{Encoding}
 use Rattle.dw_unit.specs.declared.line_program.LineProgram.{LineProgram}
 use Rattle.dw_unit.specs.Entries.{EntryValue, new_root, tag_of}
@@ -20,10 +20,11 @@ new_unit encoding line_program =
     record { encoding = encoding; line_program = line_program; entries = new_root ∷ []; reserved = 1; is_written = false; is_freed = false }
 
 -- an id was handed out, is not the root's and was not added yet
-pub record IsReserved (u : UnitValue) (i : ℕ) : Type 0 where
-  pub not_root : 0 < i
-  pub handed_out : i < u.reserved
-  pub not_added : tag_of u.entries i ≡ 0
+abbrev pub is_reserved : UnitValue → ℕ → Bool
+is_reserved u i = nat_lt 0 i && nat_lt i u.reserved && (tag_of u.entries i == 0)
+
+abbrev pub IsReserved : UnitValue → ℕ → Type 0
+IsReserved u i = IsTrue (is_reserved u i)
 
 -- what is true of each unit
 abbrev pub IsSound : UnitValue → Type 0

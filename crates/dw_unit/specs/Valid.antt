@@ -6,7 +6,7 @@ use Rattle.dw_unit.specs.Entries.{EntryValue}
 use Rattle.dw_unit.specs.Tree.{preorder, has_entry}
 use Rattle.dw_unit.specs.Coded.{are_spelled, are_placed}
 use Rattle.dw_unit.specs.UnitText.{unit_length}
-use Rattle.dw_unit.specs.Whole.{tree_bytes, settled}
+use Rattle.dw_unit.specs.Whole.{tree_size, settled}
 use Rattle.dw_unit.specs.UnitValue.{UnitValue}
 
 -- the versions of units
@@ -21,13 +21,17 @@ is_encodable e = is_version e.version && is_width e.address_size
 abbrev pub are_references_inside : List EntryValue → Bool
 are_references_inside es = are_placed (has_entry (preorder es)) es (preorder es)
 
+-- the length that a tree's unit tells
+abbrev pub tree_length : Encoding → List EntryValue → ℕ
+tree_length e es = unit_length e (tree_size e es)
+
 -- the header, each value and the length of a tree have a spelling, and what references name is in the tree
-pub record IsWritableTree (big : Bool) (e : Encoding) (es : List EntryValue) : Type 0 where
+pub record IsWritableTree (e : Encoding) (es : List EntryValue) : Type 0 where
   pub encodable : IsTrue (is_encodable e)
   pub spelled : IsTrue (are_spelled es (preorder es))
   pub inside : IsTrue (are_references_inside es)
-  pub fits : IsTrue (length_fits e.format (unit_length e (tree_bytes big e es)))
+  pub fits : IsTrue (length_fits e.format (tree_length e es))
 
 -- the same of a unit, settled
-abbrev pub IsWritable : Bool → UnitValue → Type 0
-IsWritable big u = IsWritableTree big u.encoding (settled u).entries
+abbrev pub IsWritable : UnitValue → Type 0
+IsWritable u = IsWritableTree u.encoding (settled u).entries

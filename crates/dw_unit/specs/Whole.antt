@@ -1,5 +1,5 @@
 -- A unit as it is written: settled, in preorder, with codes.
-use Rattle.std.specs.Prelude.{ℕ, Bool, true, List, [], if◌then◌else◌}
+use Rattle.std.specs.Prelude.{ℕ, Bool, true, List, if◌then◌else◌}
 use Rattle.dw_base.specs.Abbreviations.{Shape, Declaration}
 use Rattle.dw_base.specs.Entries.{ReadEntry, Mark}
 use Rattle.dw_base.specs.Spelling.{body_bytes, header_size, table_bytes}
@@ -7,15 +7,16 @@ use Rattle.dw_base.specs.declared.common.Encoding.{Encoding}
 use Rattle.dw_abbrev.specs.Codes.{declarations}
 use Rattle.dw_unit.specs.Entries.{EntryValue}
 use Rattle.dw_unit.specs.Tree.{preorder}
-use Rattle.dw_unit.specs.Coded.{shapes_of, coded}
+use Rattle.dw_unit.specs.Coded.{coded}
+use Rattle.dw_unit.specs.DistinctShapes.{entry_shapes, distinct_shapes}
 use Rattle.dw_unit.specs.Laid.{sizes_of, laid_from}
 use Rattle.dw_unit.specs.Shapes.{Placement}
 use Rattle.dw_unit.specs.Settled.{settled_entries}
 use Rattle.dw_unit.specs.UnitValue.{UnitValue}
 
--- the shapes of the tree's entries, in the order in which each first comes
+-- the different shapes of the tree's entries, in the order in which each first comes
 abbrev pub tree_shapes : Encoding → List EntryValue → List Shape
-tree_shapes e es = shapes_of e es [] (preorder es)
+tree_shapes e es = distinct_shapes (entry_shapes e es (preorder es))
 
 -- the bytes of its entries
 abbrev pub tree_size : Encoding → List EntryValue → ℕ

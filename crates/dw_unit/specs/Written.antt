@@ -18,7 +18,11 @@ pub record AppendsTree {W : Type 0} (meaning : W → Meaning) (old new : Section
   pub table : Adds (meaning old.debug_abbrev.0) (meaning new.debug_abbrev.0) (tree_table e es)
   pub spelled : (meaning old.debug_info.0).is_plain ≡ true → IsUnit (meaning old.debug_info.0).is_big e (meaning old.debug_abbrev.0).size (tree_declared e es) (tree_read e es)
 
--- the first unit, settled, where it wasn't written before; of others nothing is said yet
+-- the two sections that units are written into are as before
+abbrev pub AddsNothing : {W : Type 0} → Sections W → Sections W → Type 0
+AddsNothing old new = (new.debug_info.0 ≡ old.debug_info.0) × (new.debug_abbrev.0 ≡ old.debug_abbrev.0)
+
+-- the first unit, settled, where it wasn't written before, and else nothing; of others nothing is said yet
 abbrev pub AppendsUnits : {W : Type 0} → (W → Meaning) → Sections W → Sections W → List UnitValue → Type 0
-AppendsUnits meaning old new [] = new ≡ old
-AppendsUnits meaning old new (u ∷ us) = MatchBool u.is_written (new ≡ old) (AppendsTree meaning old new u.encoding (settled u).entries)
+AppendsUnits meaning old new [] = AddsNothing old new
+AppendsUnits meaning old new (u ∷ us) = MatchBool u.is_written (AddsNothing old new) (AppendsTree meaning old new u.encoding (settled u).entries)

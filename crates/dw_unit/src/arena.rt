@@ -1,6 +1,6 @@
 //! The entries of a unit, each at the index that its id names.
 
-ghost use Rattle.std.specs.Prelude.{◌≡◌, ◌<◌, ◌≤◌, vec_len, IsTrue, ◌↔◌, OnOk, OnErr, IfErr};
+ghost use Rattle.std.specs.Prelude.{◌≡◌, ◌<◌, ◌≤◌, vec_len, ◌==◌, OnOk, OnErr, IfErr};
 ghost use Rattle.dw_base.specs.declared.error.Error.TheVariants.{NoMemory};
 ghost use Rattle.dw_unit.specs.Entries.{filled_up, with_new_child, tag_of};
 
@@ -69,7 +69,7 @@ fn link(
 
 /// Tells that no entry was added at an index.
 pub(crate) fn is_unadded(entries: &[DebuggingInformationEntry], index: usize) -> bool
-    ensures { IsTrue result ↔ (tag_of entries.now index ≡ 0) }
+    ensures { result ≡ (tag_of entries.now index == 0) }
 {
     match entries.get(index) {
         Some(entry) => entry.tag().0 == 0,

@@ -3,8 +3,8 @@
 ghost use Rattle.std.specs.Prelude.{◌≡◌, IfOk, IfErr};
 ghost use Rattle.dw_base.specs.declared.error.Error.TheVariants.{NoMemory};
 
-use crate::bytes::Bytes;
 use dw_base::{DwAt, Result, UnitEntryId};
+use dw_writer::Bytes;
 
 /// The value of an attribute. The form in which it is written follows from it and from the unit's
 /// encoding.

@@ -1,6 +1,6 @@
 //! The attributes of one entry.
 
-ghost use Rattle.std.specs.Prelude.{◌≡◌, ◌<◌, [], position, OnOk, OnErr, IfErr};
+ghost use Rattle.std.specs.Prelude.{◌≡◌, ◌<◌, [], None, position, OnOk, OnErr, IfErr};
 ghost use Rattle.std.specs.Option.{option_copied};
 ghost use Rattle.dw_base.specs.declared.error.Error.TheVariants.{NoMemory};
 ghost use Rattle.dw_unit.specs.Attributes.{is_named, get_named, set_named, without_name};
@@ -38,6 +38,7 @@ fn set_in(attributes: &mut Vec<Attribute>, name: DwAt, value: AttributeValue) ->
     ensures ok { OnOk result (attributes.new.items ≡ set_named name.0 value attributes.old.items) }
     ensures err { IfErr result (λ e. e ≡ NoMemory) }
     ensures kept { OnErr result (attributes.new.items ≡ attributes.old.items) }
+    ensures in_place { OnErr result (get_named name.0 attributes.old.items ≡ None) }
 {
     match position_of(attributes, name) {
         Some(i) => attributes[i] = Attribute { name, value },
@@ -88,6 +89,7 @@ impl Attributes {
         ensures ok { OnOk result (self.new ≡ set_named name.0 value self.old) }
         ensures err { IfErr result (λ e. e ≡ NoMemory) }
         ensures kept { OnErr result (self.new ≡ self.old) }
+        ensures in_place { OnErr result (get_named name.0 self.old ≡ None) }
     {
         set_in(&mut self.items, name, value)
     }

@@ -6,7 +6,6 @@ ghost use Rattle.dw_unit.specs.Places.{placement_of, FitsWords};
 
 use crate::attribute::AttributeValue;
 use crate::body::write_items;
-use crate::bytes::Bytes;
 use crate::codes::assign_codes;
 use crate::entry::DebuggingInformationEntry;
 use crate::places::Places;
@@ -16,7 +15,7 @@ use dw_base::constants::{
     DW_FORM_string, DW_FORM_udata, DW_TAG_base_type, DW_TAG_compile_unit, DW_TAG_variable,
 };
 use dw_base::{Encoding, Error, Format, LittleEndian, Result, UnitEntryId};
-use dw_writer::EndianVec;
+use dw_writer::{Bytes, EndianVec};
 use std::alloc::Global;
 use std::test::Fail;
 

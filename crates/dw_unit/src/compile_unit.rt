@@ -8,8 +8,8 @@ ghost use Rattle.dw_writer.specs.Causes.{HasRisen, offset_fits};
 ghost use Rattle.dw_writer.specs.Sections.{fault_sum};
 ghost use Rattle.dw_unit.specs.Entries.{tag_of};
 ghost use Rattle.dw_unit.specs.Arena.{AreLinked};
-ghost use Rattle.dw_unit.specs.Valid.{is_encodable, are_references_inside, IsWritableTree};
-ghost use Rattle.dw_unit.specs.UnitText.{unit_length, unit_text};
+ghost use Rattle.dw_unit.specs.Valid.{is_encodable, are_references_inside, tree_length, IsWritableTree};
+ghost use Rattle.dw_unit.specs.UnitText.{unit_text};
 ghost use Rattle.dw_unit.specs.Causes.{TreeRefused};
 ghost use Rattle.dw_unit.specs.Tree.{AreIn, marks, preorder, has_entry};
 ghost use Rattle.dw_unit.specs.Coded.{code_at, are_spelled, HaveOperands};
@@ -51,12 +51,12 @@ fn write_compile_unit<W: Writer>(
     ensures place { OnOk result
         (IsTrue (offset_fits (W.meaning w.old).is_plain (word_of encoding.format) table)) }
     ensures fits { OnOk result
-        (IsTrue (length_fits encoding.format (unit_length encoding (tree_bytes (W.meaning w.old).is_big encoding entries.now)))) }
+        (IsTrue (length_fits encoding.format (tree_length encoding entries.now))) }
     ensures operands { OnOk result (HaveOperands encoding entries.now (tree_placement encoding entries.now) (preorder entries.now)) }
     ensures spelled { OnOk result (IsTrue (are_spelled entries.now (preorder entries.now))) }
     ensures references { OnOk result (IsTrue (are_references_inside entries.now)) }
     ensures err { IfErr result
-        (TreeRefused (HasRisen (W.meaning w.old) (W.meaning w.new)) (W.meaning w.old).is_plain table (W.meaning w.old).is_big encoding entries.now) }
+        (TreeRefused (HasRisen (W.meaning w.old) (W.meaning w.new)) (W.meaning w.old).is_plain table encoding entries.now) }
     ensures same { IsSameWriter (W.meaning w.old) (W.meaning w.new) }
 {
     let place = w.write_initial_length(encoding.format)?;
@@ -79,9 +79,9 @@ pub(crate) fn write_tree<W: Writer>(
     requires linked { AreLinked entries.now }
     requires rooted { tag_of entries.now 0 ≢ 0 }
     ensures unit { OnOk result (AppendsTree W.meaning sections.old sections.new encoding entries.now) }
-    ensures writable { OnOk result (IsWritableTree (W.meaning sections.old.debug_info.0).is_big encoding entries.now) }
+    ensures writable { OnOk result (IsWritableTree encoding entries.now) }
     ensures err { IfErr result
-        (TreeRefused (fault_sum W.meaning sections.old < fault_sum W.meaning sections.new) (W.meaning sections.old.debug_info.0).is_plain (W.meaning sections.old.debug_abbrev.0).size (W.meaning sections.old.debug_info.0).is_big encoding entries.now) }
+        (TreeRefused (fault_sum W.meaning sections.old < fault_sum W.meaning sections.new) (W.meaning sections.old.debug_info.0).is_plain (W.meaning sections.old.debug_abbrev.0).size encoding entries.now) }
     ensures others { sections.new ≡ record sections.old { debug_abbrev = sections.new.debug_abbrev; debug_info = sections.new.debug_info } }
     ensures faults { fault_sum W.meaning sections.old ≤ fault_sum W.meaning sections.new }
 {

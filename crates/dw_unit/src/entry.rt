@@ -1,6 +1,6 @@
 //! One entry of a unit.
 
-ghost use Rattle.std.specs.Prelude.{◌≡◌, ◌<◌, map, not, ◌==◌, filter, OnOk, OnErr, IfErr};
+ghost use Rattle.std.specs.Prelude.{◌≡◌, ◌<◌, None, map, not, ◌==◌, filter, OnOk, OnErr, IfErr};
 ghost use Rattle.std.specs.Option.{option_copied};
 ghost use Rattle.std.specs.Slice.Iter.{iter_rest};
 ghost use Rattle.std.specs.Iterator.Adapters.{IterYieldsInOrder};
@@ -98,6 +98,7 @@ impl DebuggingInformationEntry {
         ensures ok { OnOk result (self.new ≡ with_attribute name.0 value self.old) }
         ensures err { IfErr result (λ e. e ≡ NoMemory) }
         ensures kept { OnErr result (self.new ≡ self.old) }
+        ensures in_place { OnErr result (get_named name.0 self.old.attributes ≡ None) }
     {
         self.walk.attributes.set(name, value)
     }
@@ -130,8 +131,8 @@ impl DebuggingInformationEntry {
         self.id
     }
 
-    /// The entry whose children it is among. The root has none, nor has an entry whose id is only
-    /// handed out.
+    /// The entry under which it was added, also once it was taken out of that entry's children. The
+    /// root has none, nor has an entry whose id is only handed out.
     pub fn parent(&self) -> Option<UnitEntryId>
         ensures { parent_index result ≡ self.now.parent }
     {

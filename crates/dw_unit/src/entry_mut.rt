@@ -47,8 +47,8 @@ impl<'a> EntryMut<'a> {
         self.unit.set_sibling(self.index, sibling);
     }
 
-    /// Replaces the value under a name in its position, or appends an attribute. `DW_AT_sibling`
-    /// is not among the names that are set.
+    /// Replaces the value under a name in its position, which takes no memory, or appends an
+    /// attribute. `DW_AT_sibling` is not among the names that are set. Refused only as `NoMemory`.
     pub fn set(&mut self, name: DwAt, value: AttributeValue) -> Result<()>
         requires named { name.0 ≢ 0 }
         requires not_sibling { name ≢ DW_AT_sibling }
@@ -62,6 +62,7 @@ impl<'a> EntryMut<'a> {
 
         ensures err { IfErr result (λ e. e ≡ NoMemory) }
         ensures kept { OnErr result (self.new.unit.now ≡ self.old.unit.now) }
+        ensures in_place { OnErr result (value_of self.old.unit.now.entries self.old.index name.0 ≡ None) }
     {
         self.unit.set_attribute(self.index, name, value)
     }

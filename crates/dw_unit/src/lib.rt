@@ -8,7 +8,6 @@ mod attributes;
 mod body;
 #[cfg(test)]
 mod body_tests;
-mod bytes;
 mod codes;
 mod compile_unit;
 mod entry;
@@ -28,7 +27,7 @@ mod value;
 
 pub use attribute::{Attribute, AttributeValue};
 pub use attribute_walk::{AttrMut, AttributeWalk, AttrsMut};
-pub use bytes::Bytes;
+pub use dw_writer::Bytes;
 pub use entry::DebuggingInformationEntry;
 pub use entry_mut::EntryMut;
 pub use line_program::LineProgram;

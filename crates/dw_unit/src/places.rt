@@ -2,6 +2,7 @@
 
 ghost use Rattle.std.specs.Prelude.{◌≡◌, ◌≤◌, ◌-◌, ℕ, Some, None, IsTrue, IsFalse, OnOk, IfErr, if◌then◌else◌};
 ghost use Rattle.dw_base.specs.Numbers.{word_of, fits, length_size, length_fits};
+ghost use Rattle.dw_base.specs.declared.common.Format.TheVariants.{Dwarf32};
 ghost use Rattle.dw_base.specs.declared.error.Error.TheVariants.{InitialLengthOverflow};
 ghost use Rattle.dw_unit.specs.Places.{placement_of, has_place};
 
@@ -46,7 +47,7 @@ impl Places {
     /// Refuses a unit whose length the format has no spelling for.
     pub(crate) fn check_length(&self, format: Format) -> Result<()>
         ensures ok { OnOk result ((n : ℕ) → n ≤ self.now.end → IsTrue (fits (word_of format) n)) }
-        ensures err { IfErr result (λ e. (e ≡ InitialLengthOverflow) × IsFalse (length_fits format (self.now.end - length_size format))) }
+        ensures err { IfErr result (λ e. (e ≡ InitialLengthOverflow) × (format ≡ Dwarf32) × IsFalse (length_fits Dwarf32 (self.now.end - length_size Dwarf32))) }
     {
         let end = self.end;
         match format {

@@ -51,7 +51,10 @@ fn specifications(
     ensures err { IfErr result (λ e. e ≡ NoMemory) }
 {
     let attributes = entry.attributes();
-    let mut declared = Vec::with_capacity(alloc, attributes.len())?;
+    let count = attributes
+        .len()
+        .saturating_add(usize::from(entry.has_sibling()));
+    let mut declared = Vec::with_capacity(alloc, count)?;
     if entry.has_sibling() {
         let form = reference_form(encoding.format);
         declared.push(AttributeSpecification::new(DW_AT_sibling, form, None))?;

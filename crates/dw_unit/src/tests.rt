@@ -1,7 +1,6 @@
 //! Units built by calls.
 
 use crate::attribute::AttributeValue;
-use crate::bytes::Bytes;
 use crate::line_program::LineProgram;
 use crate::tree::{Item, flatten};
 use crate::unit::Unit;
@@ -9,6 +8,7 @@ use dw_base::constants::{
     DW_AT_byte_size, DW_AT_name, DW_AT_type, DW_TAG_base_type, DW_TAG_compile_unit, DW_TAG_variable,
 };
 use dw_base::{Encoding, Format, UnitEntryId};
+use dw_writer::Bytes;
 use std::test::Fail;
 
 const ENCODING: Encoding = Encoding {
@@ -84,6 +84,39 @@ fn a_value_is_found_under_its_name(rt: HostRuntime) -> Result<(), Fail> {
     root.delete(DW_AT_byte_size);
     assert_eq!(rt; root.entry().get(DW_AT_byte_size), None);
     assert_eq!(rt; root.entry().get(DW_AT_type), None);
+    Ok(())
+}
+
+#[test]
+fn room_is_made_for_attributes(rt: HostRuntime) -> Result<(), Fail> {
+    let mut unit = Unit::new(rt.alloc(), ENCODING, LineProgram::none())?;
+    let mut root = unit.get_mut(UnitEntryId::new(0));
+    assert_eq!(rt; root.reserve(2), Ok(()));
+    assert_eq!(rt; root.set(DW_AT_byte_size, AttributeValue::Data1(4)), Ok(()));
+    assert_eq!(rt; root.entry().attrs().count(), 1);
+    Ok(())
+}
+
+#[test]
+fn copies_equal_what_they_are_made_from(rt: HostRuntime) -> Result<(), Fail> {
+    let text = Bytes::new(rt.alloc(), b"int")?;
+    let copy = text.try_clone()?;
+    assert_eq!(rt; copy, text);
+    let values = [
+        AttributeValue::Data1(4),
+        AttributeValue::Udata(300),
+        AttributeValue::String(text),
+        AttributeValue::UnitRef(UnitEntryId::new(1)),
+    ];
+    for value in &values {
+        assert_eq!(rt; value.try_clone()?, *value);
+    }
+    let mut unit = Unit::new(rt.alloc(), ENCODING, LineProgram::none())?;
+    let mut root = unit.get_mut(UnitEntryId::new(0));
+    root.set(DW_AT_name, AttributeValue::String(copy))?;
+    for attribute in root.entry().attrs() {
+        assert_eq!(rt; attribute.try_clone()?, *attribute);
+    }
     Ok(())
 }
 

@@ -1,9 +1,9 @@
 //! One unit.
 
-ghost use Rattle.std.specs.Prelude.{◌≡◌, ◌≢◌, ◌+◌, ◌<◌, ◌↔◌, false, length, IsTrue, Some, slice_get, OnOk, OnErr, IfOk, IfErr};
+ghost use Rattle.std.specs.Prelude.{◌≡◌, ◌≢◌, ◌+◌, ◌<◌, false, length, None, Some, slice_get, OnOk, OnErr, IfOk, IfErr};
 ghost use Rattle.dw_base.specs.declared.error.Error.TheVariants.{NoMemory};
-ghost use Rattle.dw_unit.specs.Entries.{with_changed, filled_up, with_new_child, with_sibling, with_attribute, without_attribute, without_child};
-ghost use Rattle.dw_unit.specs.UnitValue.{new_unit, IsReserved, IsSound};
+ghost use Rattle.dw_unit.specs.Entries.{with_changed, filled_up, with_new_child, with_sibling, with_attribute, without_attribute, without_child, value_of};
+ghost use Rattle.dw_unit.specs.UnitValue.{new_unit, is_reserved, IsReserved, IsSound};
 
 use crate::arena::{add_entry, is_unadded};
 use crate::attribute::AttributeValue;
@@ -99,7 +99,8 @@ impl Unit {
         self.encoding.format
     }
 
-    /// How many entries there are, those among them whose ids are only handed out.
+    /// How many entries there are. An id that is only handed out has a blank entry once another entry
+    /// was added after it.
     pub fn count(&self) -> usize
         ensures value { result ≡ length self.now.entries }
         ensures sound { IsSound self.now }
@@ -116,7 +117,7 @@ impl Unit {
 
     /// Tells that an id was handed out for an entry that isn't added yet.
     pub fn is_reserved(&self, id: UnitEntryId) -> bool
-        ensures { IsTrue result ↔ IsReserved self.now id.0 }
+        ensures { result ≡ is_reserved self.now id.0 }
     {
         let index = id.index();
         index != 0 && index < self.reserved && is_unadded(&self.entries, index)
@@ -227,6 +228,7 @@ impl Unit {
         ensures ok { OnOk result (self.new ≡ record self.old { entries = with_changed index (with_attribute name.0 value) self.old.entries }) }
         ensures err { IfErr result (λ e. e ≡ NoMemory) }
         ensures kept { OnErr result (self.new ≡ self.old) }
+        ensures in_place { OnErr result (value_of self.old.entries index name.0 ≡ None) }
     {
         let entry = &mut self.entries[index];
         entry.set(name, value)
@@ -269,7 +271,7 @@ impl Unit {
 impl Unit {
     ghost use Rattle.std.specs.Option.{option_copied_mut};
     ghost use Rattle.std.specs.Borrow.{sem};
-    ghost use Rattle.dw_unit.specs.Entries.{attributes_of, value_of};
+    ghost use Rattle.dw_unit.specs.Entries.{attributes_of};
     ghost use Rattle.dw_unit.specs.Lends.{LendsAttributesAt, LendsWalkAt, LendsNamedAt};
 
     pub(crate) fn attributes_mut(&mut self, index: usize) -> &mut Attributes
@@ -336,12 +338,19 @@ impl Unit {
 
     /// Writes the unit at the end of `.debug_info` and its abbreviation table at the end of
     /// `.debug_abbrev` (DWARF 5, 7.5.1 to 7.5.3), and marks it written. The root's base types move
-    /// before its other children. Where this is refused the unit is as it was, or has its base types
-    /// moved, and the two sections may have got some of the bytes.
+    /// before its other children.
+    ///
+    /// Refused as `UnsupportedVersion` or `UnsupportedWordSize` where the version isn't 2 to 5 or the
+    /// address size isn't 1, 2, 4 or 8, as `InvalidAttributeValue` where a string has a zero byte, as
+    /// `InvalidReference` where a reference names an entry outside the unit's tree, as
+    /// `InitialLengthOverflow` where a 32-bit unit has 0xffff_fff0 bytes or more after its length
+    /// (DWARF 5, 7.4), as `ValueTooLarge` where the place of its table has no room in a word, and as
+    /// `WriteFault` or `NoMemory`. A refused unit is as it was, or has its base types moved, and the
+    /// two sections may have got some of the bytes.
     pub fn write<W: Writer>(&mut self, sections: &mut Sections<W>) -> Result<()>
         requires { self.old.is_written ≡ false }
         ensures unit { OnOk result (AppendsTree W.meaning sections.old sections.new self.old.encoding (settled self.old).entries) }
-        ensures writable { OnOk result (IsWritable (W.meaning sections.old.debug_info.0).is_big self.old) }
+        ensures writable { OnOk result (IsWritable self.old) }
         ensures marked { OnOk result (self.new ≡ marked_written (settled self.old)) }
 
         ensures err { IfErr result (UnitRefused W.meaning sections.old sections.new self.old) }

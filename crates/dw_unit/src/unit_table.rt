@@ -4,7 +4,7 @@ ghost use Rattle.std.specs.Prelude.{◌≡◌, ◌⊎◌, ◌+◌, ◌<◌, ◌�
 ghost use Rattle.dw_base.specs.declared.error.Error.TheVariants.{NoMemory};
 ghost use Rattle.std.specs.Prelude.{All};
 ghost use Rattle.std.specs.Borrow.{sem};
-ghost use Rattle.dw_writer.specs.Sections.{fault_sum};
+ghost use Rattle.dw_writer.specs.Sections.{fault_sum, NoFixups};
 ghost use Rattle.dw_unit.specs.UnitValue.{UnitValue};
 ghost use Rattle.dw_unit.specs.Valid.{IsWritable};
 ghost use Rattle.dw_unit.specs.Whole.{settled, written};
@@ -85,12 +85,37 @@ impl UnitTable {
         &mut self.units[id.index()]
     }
 
-    /// Writes the units that aren't written yet, and marks them written. So far a table has one unit
-    /// at most where it is written.
+    /// Writes the units that aren't written yet, each behind what `.debug_info` and `.debug_abbrev`
+    /// hold, and marks them written. After Ok the three lists of fixups are empty.
+    ///
+    /// The table has one unit at most so far. Refused as `Unit::write` refuses a unit that isn't
+    /// written yet. A refused unit is as it was, or has its base types moved, and the two sections may
+    /// have got some of its bytes.
     pub fn write<W: Writer>(&mut self, sections: &mut Sections<W>) -> Result<()>
         requires { length self.old ≤ 1 }
         ensures units { OnOk result (AppendsUnits W.meaning sections.old sections.new self.old) }
-        ensures writable { OnOk result (All (λ u. u.is_written ≡ false → IsWritable (W.meaning sections.old.debug_info.0).is_big u) self.old) }
+        ensures writable { OnOk result (All (λ u. u.is_written ≡ false → IsWritable u) self.old) }
+        ensures marked { OnOk result (self.new ≡ map written self.old) }
+        ensures emptied { OnOk result (NoFixups sections.new) }
+
+        ensures err { IfErr result (UnitsRefused W.meaning sections.old sections.new self.old) }
+        ensures kept { OnErr result ((self.new ≡ self.old) ⊎ (self.new ≡ map settled self.old)) }
+
+        ensures others { sections.new ≡ record sections.old { debug_abbrev = sections.new.debug_abbrev; debug_info = sections.new.debug_info; debug_info_fixups = sections.new.debug_info_fixups; debug_loc_fixups = sections.new.debug_loc_fixups; debug_loclists_fixups = sections.new.debug_loclists_fixups } }
+        ensures faults { fault_sum W.meaning sections.old ≤ fault_sum W.meaning sections.new }
+    {
+        self.write_units(sections)?;
+        sections.debug_info_fixups.clear();
+        sections.debug_loc_fixups.clear();
+        sections.debug_loclists_fixups.clear();
+        Ok(())
+    }
+
+    /// Writes the units. The lists of fixups stay as they are.
+    fn write_units<W: Writer>(&mut self, sections: &mut Sections<W>) -> Result<()>
+        requires { length self.old ≤ 1 }
+        ensures units { OnOk result (AppendsUnits W.meaning sections.old sections.new self.old) }
+        ensures writable { OnOk result (All (λ u. u.is_written ≡ false → IsWritable u) self.old) }
         ensures marked { OnOk result (self.new ≡ map written self.old) }
 
         ensures err { IfErr result (UnitsRefused W.meaning sections.old sections.new self.old) }

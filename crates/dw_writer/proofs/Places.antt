@@ -97,10 +97,3 @@ overwrite-put zero (suc k) (x ∷ xs) [] e h = absurd (omega arith)
 overwrite-put zero (suc k) (x ∷ xs) (b ∷ bs) e h = ap (λ r. x ∷ r) (overwrite-put zero k xs bs (omega arith) (omega arith))
 overwrite-put (suc p) k xs [] e h = absurd (omega arith)
 overwrite-put (suc p) k xs (b ∷ bs) e h = ap (λ r. b ∷ r) (overwrite-put p k xs bs e (omega arith))
-
--- written over bytes that lie past the first part
-pub overwrite-past : (q : ℕ) (xs hs bs : List ℕ) → overwrite (length hs + q) xs (hs ++ bs) ≡ hs ++ overwrite q xs bs
-overwrite-past q xs [] bs = let e : 0 + q ≡ q = omega arith in ap (λ p. overwrite p xs bs) e
-overwrite-past q xs (a ∷ hs) bs =
-    let e : suc (length hs) + q ≡ suc (length hs + q) = omega arith in
-    ap (λ p. overwrite p xs (a ∷ (hs ++ bs))) e ∙ ap (λ r. a ∷ r) (overwrite-past q xs hs bs)

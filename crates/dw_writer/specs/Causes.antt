@@ -16,6 +16,11 @@ HasRisen old new = old.faults < new.faults
 abbrev pub NotAtAll : Error → Type 0
 NotAtAll _ = ⊥
 
+-- another cause than want of memory
+abbrev pub IsNotMemory : Error → Type 0
+IsNotMemory NoMemory = ⊥
+IsNotMemory _ = Unit {0}
+
 -- bytes are refused for want of memory or by a fault
 abbrev pub BytesRefused : Meaning → Meaning → Error → Type 0
 BytesRefused old new NoMemory = Unit {0}

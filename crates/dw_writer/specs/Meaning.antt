@@ -1,6 +1,12 @@
 -- What writers' calls do to what the writer holds.
-use Rattle.std.specs.Prelude.{◌≡◌, ◌⊎◌, ℕ, ◌+◌, ◌≤◌, Bool, List, [], ◌∷◌, ◌++◌, length, take, Some, IsTrue}
-use Rattle.dw_writer.specs.Texts.{Text, followed, patched}
+use Rattle.std.specs.Prelude.{◌≡◌, ◌⊎◌, ℕ, ◌+◌, ◌≤◌, Bool, true, false, ◌&&◌, List, [], ◌∷◌, ◌++◌, length, take, Some, ℤ, IsTrue, if◌then◌else◌}
+use Rattle.dw_base.specs.Numbers.{num, is_width, fits, word_of, length_fits}
+use Rattle.dw_base.specs.declared.address.Address.{Address}
+use Rattle.dw_base.specs.declared.address.Address.TheVariants.{Constant, Symbol}
+use Rattle.dw_base.specs.declared.common.Format.{Format}
+use Rattle.dw_writer.specs.Texts.{Text, zeros, followed, patched}
+use Rattle.dw_writer.specs.SignedNumbers.{signed_fits, signed_num}
+use Rattle.dw_writer.specs.Causes.{offset_fits}
 use Rattle.dw_writer.specs.declared.relocate.Relocation.{Relocation}
 pub use Rattle.dw_writer.specs.Layout.{Layout, section_number, start_of, target_value, is_zero, is_at_zero}
 pub use Rattle.dw_writer.specs.Contents.{Meaning}
@@ -55,13 +61,6 @@ pub record AddsSome (old new : Meaning) (bytes : List ℕ) : Type 0 where
   pub size : new.size ≡ old.size + length (take count bytes)
   pub told : new.bytes ≡ followed old.bytes (Some (take count bytes))
 
--- n bytes or fewer are added
-pub record AddsAtMost (old new : Meaning) (n : ℕ) : Type 0 where
-  pub bytes : List ℕ
-  pub within : length bytes ≤ n
-  pub size : new.size ≡ old.size + length bytes
-  pub told : new.bytes ≡ followed old.bytes (Some bytes)
-
 -- these bytes are written over those from p on, as they are
 pub record Replaces (old new : Meaning) (p : ℕ) (bytes : List ℕ) : Type 0 where
   pub same : IsSameWriter old new
@@ -69,6 +68,35 @@ pub record Replaces (old new : Meaning) (p : ℕ) (bytes : List ℕ) : Type 0 wh
   pub size : new.size ≡ old.size
   pub told : new.bytes ≡ patched p (Some bytes) old.bytes
   pub records : new.records ≡ old.records
+
+-- the first of these bytes are written over those from p on: none, some or all
+pub record ReplacesSome (old new : Meaning) (p : ℕ) (bytes : List ℕ) : Type 0 where
+  pub count : ℕ
+  pub size : new.size ≡ old.size
+  pub told : new.bytes ≡ patched p (Some (take count bytes)) old.bytes
+
+-- the bytes of a number in w bytes; one that has no spelling has none
+abbrev pub spelled_num : Bool → ℕ → ℕ → List ℕ
+spelled_num big w n = if is_width w && fits w n then num big w n else []
+
+-- the same of a signed number
+abbrev pub spelled_signed : Bool → ℕ → ℤ → List ℕ
+spelled_signed big w z = if is_width w && signed_fits w z then signed_num big w z else []
+
+-- the bytes of a length; one that the format can't spell has none
+abbrev pub spelled_length : Bool → Format → ℕ → List ℕ
+spelled_length big format n = if length_fits format n then num big (word_of format) n else []
+
+-- what an offset puts in its place: the number in a plain writer, and zeros beside a record in another
+abbrev pub offset_bytes : Bool → Bool → ℕ → ℕ → List ℕ
+offset_bytes true big w n = spelled_num big w n
+offset_bytes false big w n = if is_width w && offset_fits false w n then zeros w else []
+
+-- what an address puts in its place: a constant is a number, a symbol's value is left to a record
+abbrev pub address_bytes : Bool → Bool → ℕ → Address → List ℕ
+address_bytes is_plain big w (Constant n) = spelled_num big w n
+address_bytes true big w (Symbol s a) = []
+address_bytes false big w (Symbol s a) = if is_width w then zeros w else []
 
 -- a text that hangs on the byte order and on a layout
 abbrev pub Model : Type 0

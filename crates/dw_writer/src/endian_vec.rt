@@ -1,6 +1,6 @@
 //! A writer into memory.
 
-ghost use Rattle.std.specs.Prelude.{◌≡◌, ℕ, ◌+◌, ◌<◌, ◌≤◌, ◌++◌, [], length, true, refl, Some, vec_len, OnOk, IfErr};
+ghost use Rattle.std.specs.Prelude.{◌≡◌, ℕ, ◌+◌, ◌<◌, ◌≤◌, ◌++◌, [], length, true, refl, Some, vec_len, OnOk, OnErr, IfErr};
 ghost use Rattle.dw_writer.specs.Texts.{overwrite};
 ghost use Rattle.dw_writer.specs.Causes.{PlaceRefused};
 ghost use Rattle.dw_writer.specs.Meaning.{Meaning};
@@ -11,7 +11,7 @@ use dw_base::{Address, Endianity, Error, Result, SectionId};
 use std::alloc::{AllocError, Global};
 
 /// A writer into memory. It records no relocations, so it puts offsets as they are and refuses the
-/// addresses of symbols.
+/// addresses of symbols. It patches in place: the calls named `.._at` take no memory.
 #[derive(Drop)]
 pub struct EndianVec<E: Endianity> {
     bytes: Vec<u8>,
@@ -64,6 +64,8 @@ impl<E: Endianity> Writer for EndianVec<E> {
 
     ghost meaning = { λ s. record { bytes = Some s.bytes.items; size = vec_len s.bytes; is_big = E.is_big s.endian; is_plain = true; records = []; faults = 0 } };
 
+    ghost patches_in_place = { true };
+
     fn endian(&self) -> E {
         self.endian
     }
@@ -114,6 +116,7 @@ impl<E: Endianity> Writer for EndianVec<E> {
 fn overwrite_vec(v: &mut Vec<u8>, offset: usize, bytes: &[u8]) -> Result<()>
     ensures ok { OnOk result (v.new.items ≡ overwrite offset bytes.now v.old.items) }
     ensures within { OnOk result (offset + length bytes.now ≤ vec_len v.old) }
+    ensures kept { OnErr result (v.new.items ≡ v.old.items) }
     ensures len { vec_len v.new ≡ vec_len v.old }
     ensures err { IfErr result (PlaceRefused (vec_len v.old) offset (length bytes.now)) }
 {
@@ -124,6 +127,7 @@ fn overwrite_vec(v: &mut Vec<u8>, offset: usize, bytes: &[u8]) -> Result<()>
 fn overwrite_slice(s: &mut [u8], offset: usize, bytes: &[u8]) -> Result<()>
     ensures ok { OnOk result (s.new ≡ overwrite offset bytes.now s.old) }
     ensures within { OnOk result (offset + length bytes.now ≤ length s.old) }
+    ensures kept { OnErr result (s.new ≡ s.old) }
     ensures err { IfErr result (PlaceRefused (length s.old) offset (length bytes.now)) }
 {
     if offset > s.len() {

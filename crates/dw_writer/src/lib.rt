@@ -1,7 +1,8 @@
 //! Writers of sections, with their calls for bytes, numbers, offsets and addresses, a writer into
-//! memory, and the sections of a file.
+//! memory, the sections of a file, and lists of bytes that values own.
 #![tactic(auto)]
 
+mod bytes;
 mod endian_vec;
 mod fixup;
 mod leb128;
@@ -13,6 +14,7 @@ mod sections;
 mod tests;
 mod writer;
 
+pub use bytes::Bytes;
 pub use endian_vec::EndianVec;
 pub use fixup::{DebugInfoFixup, FixupList};
 pub use relocate::{Relocation, RelocationTarget};

@@ -1,6 +1,6 @@
 ghost use Rattle.std.specs.Prelude.{◌≡◌, IfOk};
 
-use crate::{DebugInfo, DebugInfoFixup, EndianVec, FixupList, Section, Sections, Writer};
+use crate::{Bytes, DebugInfo, DebugInfoFixup, EndianVec, FixupList, Section, Sections, Writer};
 use dw_base::{
     Address, BigEndian, DebugInfoOffset, Error, Format, LittleEndian, Result, RunTimeEndian,
     SectionId, UnitEntryId, UnitId,
@@ -259,15 +259,35 @@ fn has_no_writer_for_other_sections(rt: HostRuntime) -> std::result::Result<(), 
     Ok(())
 }
 
+/// One fixup for `.debug_info`, two for `.debug_loc` and three for `.debug_loclists`.
+fn push_fixups(sections: &mut Sections<EndianVec<LittleEndian>>) -> Result<()> {
+    let fixup = DebugInfoFixup {
+        offset: 11,
+        size: 4,
+        unit: UnitId::new(0),
+        entry: UnitEntryId::new(2),
+    };
+    sections.debug_info_fixups.push(fixup)?;
+    sections.debug_loc_fixups.push(fixup)?;
+    sections.debug_loc_fixups.push(fixup)?;
+    sections.debug_loclists_fixups.push(fixup)?;
+    sections.debug_loclists_fixups.push(fixup)?;
+    sections.debug_loclists_fixups.push(fixup)
+}
+
 #[test]
 fn visits_sections_in_order(rt: HostRuntime) -> std::result::Result<(), Fail> {
     let mut sections = new_sections(rt.alloc())?;
+    push_fixups(&mut sections)?;
     let mut names = Vec::new(rt.alloc());
     sections.for_each_mut(|id, section| {
         names.push(id.name())?;
         section.write_u8(7)
     })?;
     assert_eq!(rt; names.as_slice(), NAMES.as_slice());
+    assert_eq!(rt; sections.debug_info_fixups.len(), 1);
+    assert_eq!(rt; sections.debug_loc_fixups.len(), 2);
+    assert_eq!(rt; sections.debug_loclists_fixups.len(), 3);
     let mut names = Vec::new(rt.alloc());
     sections.for_each(|id, section| {
         names.push(id.name())?;
@@ -341,5 +361,20 @@ fn lists_fixups(rt: HostRuntime) -> std::result::Result<(), Fail> {
     list.clear();
     assert!(rt; list.is_empty());
     assert_eq!(rt; list.get(0), None);
+    Ok(())
+}
+
+#[test]
+fn owns_bytes(rt: HostRuntime) -> std::result::Result<(), Fail> {
+    let bytes = Bytes::new(rt.alloc(), b"abc")?;
+    let copy = bytes.try_clone()?;
+    assert_eq!(rt; copy, bytes);
+    assert_eq!(rt; copy.slice(), b"abc".as_slice());
+    assert_eq!(rt; copy.len(), 3);
+    assert!(rt; !copy.is_empty());
+    assert_eq!(rt; bytes.into_vec().as_slice(), b"abc".as_slice());
+    let none = Bytes::from(Vec::new(rt.alloc()));
+    assert!(rt; none.is_empty());
+    assert!(rt; none != copy);
     Ok(())
 }

@@ -1,12 +1,12 @@
 //! What every writer of a section does.
 
-ghost use Rattle.std.specs.Prelude.{◌≡◌, true, [], ℕ, ◌+◌, ◌<◌, ◌≤◌, ◌++◌, length, IsTrue, OnOk, IfOk, IfErr, OnErr};
+ghost use Rattle.std.specs.Prelude.{◌≡◌, Bool, true, false, [], ℕ, ◌+◌, ◌<◌, ◌≤◌, ◌++◌, length, IsTrue, OnOk, IfOk, IfErr, OnErr};
 ghost use Rattle.dw_base.specs.Numbers.{num, is_width, fits, word_of, escape_of, length_fits};
 ghost use Rattle.dw_base.specs.Leb128.{uleb, sleb};
 ghost use Rattle.dw_writer.specs.Texts.{zeros};
 ghost use Rattle.dw_writer.specs.SignedNumbers.{signed_fits, signed_num};
-ghost use Rattle.dw_writer.specs.Meaning.{Meaning, IsSameWriter, Adds, AddsSome, AddsAtMost, Replaces, Appends, Patches};
-ghost use Rattle.dw_writer.specs.Causes.{BytesRefused, PatchRefused, NumberRefused, AddressRefused, LengthRefused, offset_fits, address_fits};
+ghost use Rattle.dw_writer.specs.Meaning.{Meaning, IsSameWriter, Adds, AddsSome, Replaces, ReplacesSome, Appends, Patches, spelled_num, spelled_signed, spelled_length, offset_bytes, address_bytes};
+ghost use Rattle.dw_writer.specs.Causes.{IsNotMemory, BytesRefused, PatchRefused, NumberRefused, AddressRefused, LengthRefused, offset_fits, address_fits};
 ghost use Rattle.dw_writer.specs.SectionTexts.{offset_text, address_text};
 
 use crate::leb128::{sleb128_bytes, uleb128_bytes};
@@ -21,11 +21,15 @@ use dw_base::{Address, Endianity, Error, Format, Result, SectionId};
 /// writer's byte order.
 ///
 /// Any call may fail with `NoMemory`, or with `WriteFault` where the writer itself fails. A call
-/// that adds bytes may leave some of them behind when it fails.
+/// that fails may leave the first of its bytes behind, at the end or over those that were there.
+/// A writer that patches in place never answers `NoMemory` to the calls named `.._at`.
 pub trait Writer {
     type Endian: Endianity;
 
     ghost meaning: { Self → Meaning };
+
+    // A writer of this type takes no memory for writing over bytes that are there.
+    ghost patches_in_place: { Bool } = { false };
 
     /// The byte order of numbers.
     fn endian(&self) -> Self::Endian
@@ -48,6 +52,9 @@ pub trait Writer {
         ensures ok { OnOk result (Replaces (meaning self.old) (meaning self.new) offset bytes.now) }
         ensures err { IfErr result
             (PatchRefused (meaning self.old) (meaning self.new) offset (length bytes.now)) }
+        ensures memory { IsTrue patches_in_place → IfErr result IsNotMemory }
+        ensures partly { OnErr result
+            (ReplacesSome (meaning self.old) (meaning self.new) offset bytes.now) }
         ensures same { IsSameWriter (meaning self.old) (meaning self.new) };
 
     /// Adds the offset `val` into a section, in `size` bytes. A writer that records relocations
@@ -62,7 +69,8 @@ pub trait Writer {
         ensures err { IfErr result
             (NumberRefused size (offset_fits (meaning self.old).is_plain size val)
             (BytesRefused (meaning self.old) (meaning self.new))) }
-        ensures partly { AddsAtMost (meaning self.old) (meaning self.new) size }
+        ensures partly { AddsSome (meaning self.old) (meaning self.new)
+            (offset_bytes (meaning self.old).is_plain (meaning self.old).is_big size val) }
         ensures same { IsSameWriter (meaning self.old) (meaning self.new) };
 
     /// Writes such an offset over the bytes from `offset` on.
@@ -80,6 +88,10 @@ pub trait Writer {
         ensures err { IfErr result
             (NumberRefused size (offset_fits (meaning self.old).is_plain size val)
             (PatchRefused (meaning self.old) (meaning self.new) offset size)) }
+        ensures memory { IsTrue patches_in_place → IfErr result IsNotMemory }
+        ensures partly { OnErr result
+            (ReplacesSome (meaning self.old) (meaning self.new) offset
+            (offset_bytes (meaning self.old).is_plain (meaning self.old).is_big size val)) }
         ensures same { IsSameWriter (meaning self.old) (meaning self.new) };
 
     /// Adds an address of the target, in `size` bytes, with the same refusals as a number's. A
@@ -92,7 +104,8 @@ pub trait Writer {
         ensures err { IfErr result
             (AddressRefused (meaning self.old).is_plain size address
             (BytesRefused (meaning self.old) (meaning self.new))) }
-        ensures partly { AddsAtMost (meaning self.old) (meaning self.new) size }
+        ensures partly { AddsSome (meaning self.old) (meaning self.new)
+            (address_bytes (meaning self.old).is_plain (meaning self.old).is_big size address) }
         ensures same { IsSameWriter (meaning self.old) (meaning self.new) };
 
     /// Adds one byte.
@@ -166,6 +179,10 @@ pub trait Writer {
             (Replaces (meaning self.old) (meaning self.new) offset
             (num (meaning self.old).is_big 1 val)) }
         ensures err { IfErr result (PatchRefused (meaning self.old) (meaning self.new) offset 1) }
+        ensures memory { IsTrue patches_in_place → IfErr result IsNotMemory }
+        ensures partly { OnErr result
+            (ReplacesSome (meaning self.old) (meaning self.new) offset
+            (num (meaning self.old).is_big 1 val)) }
         ensures same { IsSameWriter (meaning self.old) (meaning self.new) }
     {
         self.write_at(offset, &[val])
@@ -177,6 +194,10 @@ pub trait Writer {
             (Replaces (meaning self.old) (meaning self.new) offset
             (num (meaning self.old).is_big 2 val)) }
         ensures err { IfErr result (PatchRefused (meaning self.old) (meaning self.new) offset 2) }
+        ensures memory { IsTrue patches_in_place → IfErr result IsNotMemory }
+        ensures partly { OnErr result
+            (ReplacesSome (meaning self.old) (meaning self.new) offset
+            (num (meaning self.old).is_big 2 val)) }
         ensures same { IsSameWriter (meaning self.old) (meaning self.new) }
     {
         let big = self.endian().is_big_endian();
@@ -189,6 +210,10 @@ pub trait Writer {
             (Replaces (meaning self.old) (meaning self.new) offset
             (num (meaning self.old).is_big 4 val)) }
         ensures err { IfErr result (PatchRefused (meaning self.old) (meaning self.new) offset 4) }
+        ensures memory { IsTrue patches_in_place → IfErr result IsNotMemory }
+        ensures partly { OnErr result
+            (ReplacesSome (meaning self.old) (meaning self.new) offset
+            (num (meaning self.old).is_big 4 val)) }
         ensures same { IsSameWriter (meaning self.old) (meaning self.new) }
     {
         let big = self.endian().is_big_endian();
@@ -201,6 +226,10 @@ pub trait Writer {
             (Replaces (meaning self.old) (meaning self.new) offset
             (num (meaning self.old).is_big 8 val)) }
         ensures err { IfErr result (PatchRefused (meaning self.old) (meaning self.new) offset 8) }
+        ensures memory { IsTrue patches_in_place → IfErr result IsNotMemory }
+        ensures partly { OnErr result
+            (ReplacesSome (meaning self.old) (meaning self.new) offset
+            (num (meaning self.old).is_big 8 val)) }
         ensures same { IsSameWriter (meaning self.old) (meaning self.new) }
     {
         let big = self.endian().is_big_endian();
@@ -218,7 +247,7 @@ pub trait Writer {
             (BytesRefused (meaning self.old) (meaning self.new))) }
         ensures partly { OnErr result
             (AddsSome (meaning self.old) (meaning self.new)
-            (num (meaning self.old).is_big size val)) }
+            (spelled_num (meaning self.old).is_big size val)) }
         ensures same { IsSameWriter (meaning self.old) (meaning self.new) }
     {
         let number = number_bytes(self.endian().is_big_endian(), val, size)?;
@@ -237,7 +266,7 @@ pub trait Writer {
             (BytesRefused (meaning self.old) (meaning self.new))) }
         ensures partly { OnErr result
             (AddsSome (meaning self.old) (meaning self.new)
-            (signed_num (meaning self.old).is_big size val)) }
+            (spelled_signed (meaning self.old).is_big size val)) }
         ensures same { IsSameWriter (meaning self.old) (meaning self.new) }
     {
         let number = signed_number_bytes(self.endian().is_big_endian(), val, size)?;
@@ -254,6 +283,10 @@ pub trait Writer {
         ensures err { IfErr result
             (NumberRefused size (fits size val)
             (PatchRefused (meaning self.old) (meaning self.new) offset size)) }
+        ensures memory { IsTrue patches_in_place → IfErr result IsNotMemory }
+        ensures partly { OnErr result
+            (ReplacesSome (meaning self.old) (meaning self.new) offset
+            (spelled_num (meaning self.old).is_big size val)) }
         ensures same { IsSameWriter (meaning self.old) (meaning self.new) }
     {
         let number = number_bytes(self.endian().is_big_endian(), val, size)?;
@@ -315,6 +348,10 @@ pub trait Writer {
         ensures err { IfErr result
             (LengthRefused format length
             (PatchRefused (meaning self.old) (meaning self.new) offset (word_of format))) }
+        ensures memory { IsTrue patches_in_place → IfErr result IsNotMemory }
+        ensures partly { OnErr result
+            (ReplacesSome (meaning self.old) (meaning self.new) offset
+            (spelled_length (meaning self.old).is_big format length)) }
         ensures same { IsSameWriter (meaning self.old) (meaning self.new) }
     {
         match format {

@@ -33,7 +33,7 @@ same_parts x1 x2 x3 x4 x5 x6 x7 x8 x9 x10 x11 info abbrevs p1 p2 p3 p4 p5 p6 p7 
 
 module _ {W : Type 0} where
   -- the listing of sections that hold a script's valid units lists the script
-  pub script_listed : (meaning : W → Meaning) (s : Script) (sections : Sections W) (text : List ℕ) → IsValid (is_big_of s.endian) s.dwarf.units → HoldsUnits meaning (is_big_of s.endian) sections (map settled s.dwarf.units) →
+  pub script_listed : (meaning : W → Meaning) (s : Script) (sections : Sections W) (text : List ℕ) → IsValid s.dwarf.units → HoldsUnits meaning (is_big_of s.endian) sections (map settled s.dwarf.units) →
       ListsSections meaning sections (is_big_of s.endian) text → ListsScript s text
   script_listed meaning s sections text valid held listed =
       let tells = listed.tells in

@@ -18,7 +18,7 @@ same_script a b r p q = let e : ◌≡◌ {A = Result Script Refusal} (Ok a) (Ok
 not_refused : (a : Script) (x : Refusal) (r : Result Script Refusal) → r ≡ Ok a → r ≡ Err x → ⊥
 not_refused a x r p q = let e : ◌≡◌ {A = Result Script Refusal} (Ok a) (Err x) = sym p ∙ q in cc
 
-module _ (words : List (List ℕ)) (left : Option (List ℕ)) (bytes : List ℕ) (s : Script) (build : IsBuild words) (told : left ≡ Some bytes) (short : IsShort bytes) (accepted : script bytes ≡ Ok s) (valid : IsValid (is_big_of s.endian) s.dwarf.units) where
+module _ (words : List (List ℕ)) (left : Option (List ℕ)) (bytes : List ℕ) (s : Script) (build : IsBuild words) (told : left ≡ Some bytes) (short : IsShort bytes) (accepted : script bytes ≡ Ok s) (valid : IsValid s.dwarf.units) where
   listed_only : (status : Status) (text : List ℕ) → Says words left status text → status ≡ Listed
   listed_only Listed text h = refl
   listed_only Usage text h = absurd (h.0 build)
@@ -30,8 +30,8 @@ module _ (words : List (List ℕ)) (left : Option (List ℕ)) (bytes : List ℕ)
       let value = h.1.says.1.value in
       let refusal = h.1.says.1.says in
       let is : value ≡ s = same_script value s (script bytes) (ap script (sym same) ∙ h.1.says.1.accepted) accepted in
-      let unspelled : Script → Type 0 = λ v. HasNoSpelling (is_big_of v.endian) v.dwarf.units refusal.error in
-      absurd (valid_spelled (is_big_of s.endian) s.dwarf.units refusal.error valid (subst unspelled is refusal.cause))
+      let unspelled : Script → Type 0 = λ v. HasNoSpelling v.dwarf.units refusal.error in
+      absurd (valid_spelled s.dwarf.units refusal.error valid (subst unspelled is refusal.cause))
   listed_only SourceFailed text h = absurd h
   listed_only SinkFailed text h = absurd h
   listed_only NoMemory text h = absurd h

@@ -13,8 +13,8 @@ use Rattle.dw_script.specs.declared.change.Change.{Change}
 use Rattle.dw_script.specs.declared.change.Change.TheVariants as change
 use Rattle.dw_script.specs.declared.reason.Reason.{Reason}
 use Rattle.dw_script.specs.declared.reason.Reason.TheVariants.{OrderNotFirst, NoSuchUnit, NoSuchEntry, NotReserved, BadTag, BadName}
-use Rattle.dw_unit.specs.UnitValue.{UnitValue, new_unit, no_line_program}
-use Rattle.dwarf_build.specs.Script.{one_more_unit, with_units, with_unit_changed, is_reserved, after_change, after_command, after_asked, after_line, after_lines, empty_script, script, IsOpen, HasFewUnits}
+use Rattle.dw_unit.specs.UnitValue.{UnitValue, new_unit, is_reserved, no_line_program}
+use Rattle.dwarf_build.specs.Script.{one_more_unit, with_units, with_unit_changed, after_change, after_command, after_asked, after_line, after_lines, empty_script, script, IsOpen, HasFewUnits}
 use Rattle.dwarf_build.specs.declared.script.Script.{Script}
 use Rattle.dwarf_build.specs.declared.script.Refusal.{Refusal}
 

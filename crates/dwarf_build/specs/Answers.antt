@@ -1,16 +1,10 @@
 -- What the program answers, by its status.
-use Rattle.std.specs.Prelude.{◌≡◌, ◌⊎◌, ℕ, ◌<◌, ◌≤◌, List, [], ◌∷◌, length, map, Any, Option, Some, Ok, Err, Bool, IsFalse, codes}
+use Rattle.std.specs.Prelude.{◌≡◌, ◌⊎◌, ℕ, ◌<◌, ◌≤◌, List, [], ◌∷◌, length, map, Any, Option, Some, Ok, Err, Bool, codes}
 use Rattle.dw_base.specs.Order.{is_big_of}
-use Rattle.dw_base.specs.Numbers.{length_fits}
 use Rattle.dw_base.specs.declared.error.Error.{Error}
-use Rattle.dw_base.specs.declared.error.Error.TheVariants.{InvalidAttributeValue, InvalidReference, InitialLengthOverflow}
 use Rattle.dw_unit.specs.UnitValue.{UnitValue}
-use Rattle.dw_unit.specs.Tree.{preorder}
-use Rattle.dw_unit.specs.Coded.{are_spelled}
-use Rattle.dw_unit.specs.UnitText.{unit_length}
-use Rattle.dw_unit.specs.Whole.{settled, tree_bytes}
-use Rattle.dw_unit.specs.Valid.{are_references_inside}
-use Rattle.dw_unit.specs.Causes.{EncodingRefused}
+use Rattle.dw_unit.specs.Whole.{settled}
+use Rattle.dw_unit.specs.Causes.{UnitUnspelled}
 use Rattle.dw_unit.specs.Built.{Built}
 use Rattle.dw_dwarf.specs.Valid.{IsValid}
 use Rattle.dw_ends.specs.Ends.{Input, Intake, HasRisen, used_up, with_after, TakesPrefix}
@@ -44,25 +38,18 @@ IsShort bytes = length bytes ≤ longest_script
 pub record ListsScript (s : Script) (text : List ℕ) : Type 0 where
   pub info : List ℕ
   pub abbrevs : List ℕ
-  pub valid : IsValid (is_big_of s.endian) s.dwarf.units
+  pub valid : IsValid s.dwarf.units
   pub built : Built (map settled s.dwarf.units) (is_big_of s.endian) info abbrevs
   pub listed : text ≡ sections_text (is_big_of s.endian) (only_units info abbrevs)
 
--- a version, an address size, a string or a length has no spelling, or a reference names an entry outside the tree
-abbrev pub IsUnspelled : Bool → UnitValue → Error → Type 0
-IsUnspelled big u InvalidAttributeValue = IsFalse (are_spelled (settled u).entries (preorder (settled u).entries))
-IsUnspelled big u InvalidReference = IsFalse (are_references_inside (settled u).entries)
-IsUnspelled big u InitialLengthOverflow = IsFalse (length_fits u.encoding.format (unit_length u.encoding (tree_bytes big u.encoding (settled u).entries)))
-IsUnspelled big u e = EncodingRefused u.encoding e
-
 -- some unit has no spelling
-abbrev pub HasNoSpelling : Bool → List UnitValue → Error → Type 0
-HasNoSpelling big units e = Any (λ u. IsUnspelled big u e) units
+abbrev pub HasNoSpelling : List UnitValue → Error → Type 0
+HasNoSpelling units error = Any (λ u. UnitUnspelled u error) units
 
 -- some unit of the script has no spelling, and the text says why
 pub record IsWriteRefusal (s : Script) (text : List ℕ) : Type 0 where
   pub error : Error
-  pub cause : HasNoSpelling (is_big_of s.endian) s.dwarf.units error
+  pub cause : HasNoSpelling s.dwarf.units error
   pub says : text ≡ refused_text error
 
 -- what is said of an accepted script

@@ -1,5 +1,5 @@
 -- What a script builds: each line does what it says to what the lines before it built.
-use Rattle.std.specs.Prelude.{◌≡◌, ℕ, ◌+◌, ◌≤◌, List, [], ◌∷◌, length, Option, Some, None, Result, Ok, Err, ok_or, Bool, true, false, not, ◌&&◌, nat_lt, ◌==◌, if◌then◌else◌, slice_get, slice_set, All}
+use Rattle.std.specs.Prelude.{◌≡◌, ℕ, ◌+◌, ◌≤◌, List, [], ◌∷◌, length, Option, Some, None, Result, Ok, Err, ok_or, Bool, true, false, not, nat_lt, ◌==◌, if◌then◌else◌, slice_get, slice_set, All}
 use Rattle.dw_base.specs.declared.endianity.RunTimeEndian.TheVariants.{Little}
 use Rattle.dw_script.specs.Fields.{Outcome, ◌>>=◌}
 use Rattle.dw_script.specs.Lines.{parsed_line}
@@ -11,8 +11,8 @@ use Rattle.dw_script.specs.declared.change.Change.TheVariants as change
 use Rattle.dw_script.specs.declared.reason.Reason.TheVariants.{NotBuilt, OrderNotFirst, NoSuchUnit, NoSuchEntry, NotReserved, BadTag, BadName}
 use Rattle.dw_script.specs.declared.value.Value.{Value}
 use Rattle.dw_script.specs.declared.value.Value.TheVariants as value
-use Rattle.dw_unit.specs.Entries.{EntryValue, with_changed, filled_up, with_new_child, with_sibling, with_attribute, without_attribute, without_child, tag_of}
-use Rattle.dw_unit.specs.UnitValue.{UnitValue, new_unit, no_line_program}
+use Rattle.dw_unit.specs.Entries.{EntryValue, with_changed, filled_up, with_new_child, with_sibling, with_attribute, without_attribute, without_child}
+use Rattle.dw_unit.specs.UnitValue.{UnitValue, new_unit, is_reserved, no_line_program}
 use Rattle.dw_unit.specs.declared.attribute.AttributeValue.{AttributeValue}
 use Rattle.dw_unit.specs.declared.attribute.AttributeValue.TheVariants as stored
 use Rattle.dwarf_build.specs.declared.script.Script.{Script}
@@ -48,10 +48,6 @@ after_add parent tag u =
 -- a unit that handed out one more id
 abbrev pub after_reserve : UnitValue → Outcome UnitValue
 after_reserve u = Ok (record u { reserved = u.reserved + 1 })
-
--- an id was handed out, is not the root's and was not added yet
-abbrev pub is_reserved : UnitValue → ℕ → Bool
-is_reserved u i = nat_lt 0 i && nat_lt i u.reserved && (tag_of u.entries i == 0)
 
 -- a unit with the entry of a reserved id added under a parent
 abbrev pub after_add_reserved : ℕ → ℕ → ℕ → UnitValue → Outcome UnitValue

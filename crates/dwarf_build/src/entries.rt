@@ -2,14 +2,15 @@
 
 ghost use Rattle.std.specs.Prelude.{◌≡◌, ◌<◌, ◌≤◌, false, IsFalse, IfOk, IfErr, OnOk};
 ghost use Rattle.dw_unit.specs.Entries.{with_sibling, without_attribute, without_child};
-ghost use Rattle.dw_unit.specs.UnitValue.{IsReserved};
-ghost use Rattle.dwarf_build.specs.Script.{attribute_value, after_change, after_add, after_reserve, is_reserved, after_add_reserved, with_entry_changed, after_set, RefusedFor};
+ghost use Rattle.dw_unit.specs.UnitValue.{is_reserved, IsReserved};
+ghost use Rattle.dwarf_build.specs.Script.{attribute_value, after_change, after_add, after_reserve, after_add_reserved, with_entry_changed, after_set, RefusedFor};
 
 use crate::script::CommandError;
 use dw_base::constants::DW_AT_sibling;
 use dw_base::{DwAt, DwTag, UnitEntryId};
 use dw_script::{Change, Reason, Value};
-use dw_unit::{AttributeValue, Bytes, Unit};
+use dw_unit::{AttributeValue, Unit};
+use dw_writer::Bytes;
 use std::alloc::{AllocError, Global};
 
 // The index that a line gives, where there is something at it.

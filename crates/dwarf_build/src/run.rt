@@ -1,7 +1,6 @@
 //! The program over any words, source and sink.
 
 ghost use Rattle.std.specs.Prelude.{◌≡◌, ◌⊎◌, ℕ, ◌≤◌, List, map, Some, Ok, string_bytes};
-ghost use Rattle.dw_base.specs.Order.{is_big_of};
 ghost use Rattle.dw_dwarf.specs.Valid.{IsValid};
 ghost use Rattle.dw_ends.specs.Ends.{HasRisen};
 ghost use Rattle.dwarf_build.specs.Script.{script};
@@ -37,7 +36,7 @@ pub fn run<S: Source, K: Sink>(
 ) -> u8
     ensures answers { RunAnswers (map string_bytes words.now.items) (S.input source.old) (S.input source.new) (K.intake sink.old) (K.intake sink.new) result }
     // Where the script's unit has a spelling and nothing fails, the listing is printed, if memory serves.
-    ensures complete { IsBuild (map string_bytes words.now.items) → (bytes : List ℕ) → (S.input source.old).left ≡ Some bytes → IsShort bytes → (s : Script) → script bytes ≡ Ok s → IsValid (is_big_of s.endian) s.dwarf.units → (HasRisen (S.input source.old).faults (S.input source.new).faults → ⊥) → (HasRisen (K.intake sink.old).faults (K.intake sink.new).faults → ⊥) → (result ≡ 0) ⊎ (result ≡ 6) }
+    ensures complete { IsBuild (map string_bytes words.now.items) → (bytes : List ℕ) → (S.input source.old).left ≡ Some bytes → IsShort bytes → (s : Script) → script bytes ≡ Ok s → IsValid s.dwarf.units → (HasRisen (S.input source.old).faults (S.input source.new).faults → ⊥) → (HasRisen (K.intake sink.old).faults (K.intake sink.new).faults → ⊥) → (result ≡ 0) ⊎ (result ≡ 6) }
     ensures source_faults { (S.input source.old).faults ≤ (S.input source.new).faults }
     ensures sink_faults { (K.intake sink.old).faults ≤ (K.intake sink.new).faults }
 {

@@ -6,8 +6,13 @@ use Rattle.dw_unit.specs.Coded.{are_spelled, HaveOperands}
 use Rattle.dw_unit.specs.Places.{placement_of}
 use Rattle.dw_unit.specs.Whole.{tree_placement}
 use Rattle.dw_unit.proofs.SamePlaces.{operands-same}
-use Rattle.dw_unit.proofs.UnitSteps.{tree_added, unit_small, references_are, unit_added, unit_length_is, place_within, length_refused, body_refused}
+use Rattle.dw_unit.proofs.PlaceSteps.{found_codes}
+use Rattle.dw_unit.proofs.UnitSteps.{tree_added, unit_small, references_are, unit_added, unit_length_is, tree_length_is, place_within, length_refused, body_refused}
 use Rattle.dw_unit.proofs.compile_unit.write_compile_unit.Goals as goal
+
+pub write_items-requires-clause-codes : goal.write_items-requires-clause-codes
+write_items-requires-clause-codes g c =
+    found_codes c.args.encoding c.args.entries.now (marks c.args.items.now) c.args.codes.now c.requires.tree c.requires.codes
 
 pub returns-clause-ok : goal.returns-clause-ok
 returns-clause-ok g c =
@@ -34,7 +39,7 @@ returns-clause-fits g c =
     let small = unit_small e es p (marks c.args.items.now) _ c.args.table c.len.result c.requires.tree start fields body c.len.ensures (omega arith) in
     let entries = tree_added (g.W.Writer.meaning c.args.w.now).is_big e es p (marks c.args.items.now) c.requires.tree (fields.same.order ∙ start.same.order) (c.requires.places small) body in
     let long = unit_length_is e c.args.table c.len.result c.len-start.result _ fields entries c.len.ensures c.len-start.ensures in
-    rw long at c.write_initial_length_at.ensures.fits
+    rw (long ∙ tree_length_is (g.W.Writer.meaning c.args.w.now).is_big e es) at c.write_initial_length_at.ensures.fits
 
 pub returns-clause-operands : goal.returns-clause-operands
 returns-clause-operands g c =
@@ -79,6 +84,6 @@ returns-clause-err g c =
     let long = unit_length_is e c.args.table c.len.result c.len-start.result _ fields entries c.len.ensures c.len-start.ensures in
     IfErr-map c.write_initial_length_at.result c.write_initial_length_at.ensures.err
     (λ error h. length_refused (g.W.Writer.meaning c.args.w.now) (g.W.Writer.meaning c.write_items.new.w) (g.W.Writer.meaning c.write_initial_length_at.new.self)
-    e es c.args.table _ _ _ error h long
+    e es c.args.table _ _ _ error (omega arith) h (long ∙ tree_length_is (g.W.Writer.meaning c.args.w.now).is_big e es)
     (omega (arith, place_within e c.in_ok-place.place start c.in_ok-place.ensures.place, fields.size, entries.size))
     (omega (arith, start.same.faults, fields.same.faults, entries.same.faults)))

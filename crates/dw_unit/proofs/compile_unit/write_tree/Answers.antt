@@ -1,4 +1,4 @@
-use Rattle.std.proofs.Common.{◌∙◌, sym, ap, subst, ◌<◌, length, arith}
+use Rattle.std.proofs.Common.{◌∙◌, sym, ap, subst, ◌<◌, length}
 use Rattle.std.proofs.lemmas.List.{length-map}
 use Rattle.std.proofs.lemmas.Result.{err_from_is_err_and}
 use Rattle.dw_writer.specs.Sections.{fault_sum}
@@ -45,7 +45,7 @@ returns-in_err-check_length-clause-err g c =
     let tree = ap marks c.as_slice-items.ensures.value ∙ c.in_ok-tree.ensures.items in
     let failed = err_from_is_err_and c.from_residual-in_err-check_length.result c.from_residual-in_err-check_length.ensures.1 in
     rw (failed.1, failed.2)
-    (length_refused_early (fault_sum g.W.Writer.meaning c.args.sections.now < fault_sum g.W.Writer.meaning c.args.sections.now) (g.W.Writer.meaning c.args.sections.now.debug_info.0).is_plain (g.W.Writer.meaning c.args.sections.now.debug_abbrev.0).size (g.W.Writer.meaning c.args.sections.now.debug_info.0).is_big c.args.encoding c.args.entries.now (marks c.as_slice-items.result.now) c.in_ok-places.places.end c.in_err-check_length.field-0.0 tree c.in_ok-places.ensures.end (omega arith) c.in_err-check_length.ensures.err)
+    (length_refused_early (fault_sum g.W.Writer.meaning c.args.sections.now < fault_sum g.W.Writer.meaning c.args.sections.now) (g.W.Writer.meaning c.args.sections.now.debug_info.0).is_plain (g.W.Writer.meaning c.args.sections.now.debug_abbrev.0).size c.args.encoding c.args.entries.now (marks c.as_slice-items.result.now) c.in_ok-places.places.end c.in_err-check_length.field-0.0 tree c.in_ok-places.ensures.end c.in_err-check_length.ensures.err)
 
 pub returns-clause-unit : goal.returns-clause-unit
 returns-clause-unit g c =

@@ -17,7 +17,7 @@ returns-in-Ok-write c =
     (record { bytes = refl; size = refl; records = refl; order = refl; plain = refl }) in
     let unwritten : AreUnwritten c.args.script.dwarf.units = λ k d within. (c.requires.1 k d within).0 in
     script_listed _ c.args.script _ _
-    (subst (λ big. IsValid big c.args.script.dwarf.units) new.writers.debug_info.order (c.in-Ok-write.ensures.valid unwritten))
+    (c.in-Ok-write.ensures.valid unwritten)
     (c.in-Ok-write.ensures.built (is_big_of c.args.script.endian) new unwritten)
     c.in_ok-text-in-Ok-write.ensures
 

@@ -18,4 +18,4 @@ returns-in_err-write_tree-clause-err g c =
 pub returns-clause-writable : goal.returns-clause-writable
 returns-clause-writable g c =
     let is = c.self-2.view_is ∙ c.in_ok-settle.ensures.ok in
-    settled_writable _ c.args.self.now _ _ (ap (λ w. w.encoding) is) (c.deref.ensures.value ∙ ap (λ w. w.entries) is) c.in_ok-write_tree.ensures.writable
+    settled_writable c.args.self.now _ _ (ap (λ w. w.encoding) is) (c.deref.ensures.value ∙ ap (λ w. w.entries) is) c.in_ok-write_tree.ensures.writable

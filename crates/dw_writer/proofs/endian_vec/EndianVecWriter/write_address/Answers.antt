@@ -1,7 +1,7 @@
 use Rattle.std.proofs.Common.{◌∙◌, ap}
 use Rattle.dw_base.specs.Numbers.{num}
 use Rattle.dw_writer.proofs.Plain.{Adds-constant_ok}
-use Rattle.dw_writer.proofs.Parts.{AddsAtMost-none, number-most}
+use Rattle.dw_writer.proofs.Parts.{AddsSome-none, AddsSome-either, num-spelled}
 use Rattle.dw_writer.proofs.endian_vec.EndianVecWriter.write_address.Goals as goal
 
 pub returns-in_ok-number-in-Constant-clause-ok : goal.returns-in_ok-number-in-Constant-clause-ok
@@ -15,10 +15,13 @@ returns-in_ok-number-in-Constant-clause-ok g c =
 pub returns-in_ok-number-in-Constant-clause-partly : goal.returns-in_ok-number-in-Constant-clause-partly
 returns-in_ok-number-in-Constant-clause-partly g c =
     let w = c.in_ok-number-in-Constant.ensures in
-    number-most c.write.result _ _ _ c.is_big_endian.result c.args.size c.in-Constant.val c.write.ensures.ok c.write.ensures.partly (c.slice.ensures ∙ w.ok)
+    let v = c.in-Constant.val in
+    rw c.in-Constant.is
+    (AddsSome-either c.write.result _ _ _ _ c.write.ensures.ok c.write.ensures.partly
+    (c.slice.ensures ∙ w.ok ∙ ap (λ b. num b c.args.size v) c.is_big_endian.ensures ∙ num-spelled _ c.args.size v w.fits.0 w.fits.1))
 
 pub returns-in_err-number-in-Constant-clause-partly : goal.returns-in_err-number-in-Constant-clause-partly
-returns-in_err-number-in-Constant-clause-partly g c = AddsAtMost-none _ c.args.size
+returns-in_err-number-in-Constant-clause-partly g c = AddsSome-none _ _
 
 pub returns-in-Symbol-clause-partly : goal.returns-in-Symbol-clause-partly
-returns-in-Symbol-clause-partly g c = AddsAtMost-none _ c.args.size
+returns-in-Symbol-clause-partly g c = AddsSome-none _ _

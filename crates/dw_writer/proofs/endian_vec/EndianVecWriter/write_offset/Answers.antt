@@ -1,7 +1,7 @@
 use Rattle.std.proofs.Common.{◌∙◌, ap, refl}
 use Rattle.dw_base.specs.Numbers.{num}
 use Rattle.dw_writer.proofs.Plain.{Adds-offset_ok}
-use Rattle.dw_writer.proofs.Parts.{AddsAtMost-none, number-most}
+use Rattle.dw_writer.proofs.Parts.{AddsSome-none, AddsSome-either, num-spelled}
 use Rattle.dw_writer.proofs.endian_vec.EndianVecWriter.write_offset.Goals as goal
 
 pub returns-clause-ok : goal.returns-clause-ok
@@ -13,7 +13,8 @@ returns-clause-ok g c =
 pub returns-clause-partly : goal.returns-clause-partly
 returns-clause-partly g c =
     let w = c.in_ok-number.ensures in
-    number-most c.write.result _ _ _ c.is_big_endian.result c.args.size c.args.val c.write.ensures.ok c.write.ensures.partly (c.slice.ensures ∙ w.ok)
+    AddsSome-either c.write.result _ _ _ _ c.write.ensures.ok c.write.ensures.partly
+    (c.slice.ensures ∙ w.ok ∙ ap (λ b. num b c.args.size c.args.val) c.is_big_endian.ensures ∙ num-spelled _ c.args.size c.args.val w.fits.0 w.fits.1)
 
 pub returns-in_err-number-clause-partly : goal.returns-in_err-number-clause-partly
-returns-in_err-number-clause-partly g c = AddsAtMost-none _ c.args.size
+returns-in_err-number-clause-partly g c = AddsSome-none _ _

@@ -1,6 +1,7 @@
 use Rattle.std.proofs.Common.{◌∙◌, ap, refl}
 use Rattle.dw_base.specs.Numbers.{num}
 use Rattle.dw_writer.proofs.Plain.{Replaces-offset_ok, Patch_refused}
+use Rattle.dw_writer.proofs.Parts.{OnErr-nothing_replaced}
 use Rattle.dw_writer.proofs.endian_vec.EndianVecWriter.write_offset_at.Goals as goal
 
 pub returns-clause-ok : goal.returns-clause-ok
@@ -13,3 +14,6 @@ pub returns-clause-err : goal.returns-clause-err
 returns-clause-err g c =
     let w = c.in_ok-number.ensures in
     Patch_refused c.write_at.result _ _ _ _ c.is_big_endian.result c.args.size c.args.val _ c.write_at.ensures.err (c.slice.ensures ∙ w.ok) w.fits.0 w.fits.1
+
+pub returns-in_err-number-clause-partly : goal.returns-in_err-number-clause-partly
+returns-in_err-number-clause-partly g c = OnErr-nothing_replaced c.from_residual.result _ c.args.offset _

@@ -1,4 +1,4 @@
-//! Lists of bytes inside attribute values.
+//! Lists of bytes inside values.
 
 ghost use Rattle.std.specs.Prelude.{◌≡◌, ◌↔◌, ℕ, List, [], length, IsTrue, IfOk, IfErr};
 ghost use Rattle.std.specs.Prelude.{nat_eq};
@@ -55,6 +55,14 @@ impl Bytes {
         ensures { IsTrue result ↔ (self.now ≡ []) }
     {
         self.items.is_empty()
+    }
+
+    /// The bytes, without a copy.
+    pub fn into_vec(self) -> Vec<u8>
+        ensures { result.items ≡ self }
+    {
+        let Bytes { items } = self;
+        items
     }
 
     /// A second list of the same bytes.
