@@ -35,7 +35,7 @@ KeepsCodes old new = (code : ℕ) (s : Shape) → shape_of_code (declarations ol
 -- a shape that a table can declare
 pub record IsShape (s : Shape) : Type 0 where
   pub tag : 0 < s.tag
-  pub tag_fits : s.tag < 2 ^ 64
+  pub tag_fits : s.tag < 2 ^ 16
   pub attributes : All IsSpecification s.attributes
 
 -- the table of these shapes is read again, whatever follows it

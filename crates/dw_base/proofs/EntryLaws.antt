@@ -5,7 +5,7 @@ use Rattle.std.proofs.lemmas.Bool.{ne_eqb}
 use Rattle.std.proofs.lemmas.List.Elements.{All-head, All-tail}
 use Rattle.dw_base.specs.Numbers.{◌>>=◌, number_at, num}
 use Rattle.dw_base.specs.Leb128.{groups_at, uleb_at, uleb}
-use Rattle.dw_base.specs.Forms.{Operand, Absent, Number, Signed, Bytes, Text, Kind, Empty, Fixed, Uleb, Sleb, Block, UlebBlock, Zeroed, kind_of, text_at, number_operand, block_operand, direct_at, kind_at, form_at}
+use Rattle.dw_base.specs.Forms.{Operand, Absent, Number, Signed, Bytes, Text, Kind, Empty, Fixed, Uleb, Sleb, Block, UlebBlock, Zeroed, Indirect, kind_of, text_at, number_operand, block_operand, direct_at, in_form, kind_at, form_at}
 use Rattle.dw_base.specs.Abbreviations.{Declaration}
 use Rattle.dw_base.specs.Entries.{ReadAttribute, ReadEntry, Mark, Open, Close, attributes_at, mark_at, next_depth, rows_at, children_of}
 use Rattle.dw_base.specs.Spelling.{kind_bytes, operand_bytes, attribute_bytes, mark_bytes, body_bytes, rows_of}
@@ -25,29 +25,40 @@ block-again : (xs rest : List ℕ) (length_read : Option (ℕ × List ℕ)) → 
 block-again xs rest length_read e =
     bind_is _ (length xs, xs ++ rest) _ e ∙ bind_is _ (xs, rest) (λ x. Some (Bytes x.0, x.1)) (bytes_at-again xs rest)
 
-pub kind-again : (big : Bool) (e : Encoding) (k : Kind) (o : Operand) (rest : List ℕ) → KindFits k o → kind_at big e k (kind_bytes big k o ++ rest) ≡ Some (o, rest)
+-- an operand in a kind that leads to no other form
+direct-again : (big : Bool) (k : Kind) (o : Operand) (rest : List ℕ) → KindFits k o → direct_at big k (kind_bytes big k o ++ rest) ≡ Some (o, rest)
 unfolding direct_at
-kind-again big e Empty Absent rest h = refl
-kind-again big e (Fixed w) (Number n) rest h = ap number_operand (number-fits-again big w n rest h)
-kind-again big e Uleb (Number n) rest h = ap number_operand (uleb-again n rest h)
-kind-again big e Sleb (Signed z) rest h = bind_is _ (z, rest) (λ x. Some (Signed x.0, x.1)) (sleb-again z rest h)
-kind-again big e (Block w) (Bytes xs) rest h =
+direct-again big Empty Absent rest h = refl
+direct-again big (Fixed w) (Number n) rest h = ap number_operand (number-fits-again big w n rest h)
+direct-again big Uleb (Number n) rest h = ap number_operand (uleb-again n rest h)
+direct-again big Sleb (Signed z) rest h = bind_is _ (z, rest) (λ x. Some (Signed x.0, x.1)) (sleb-again z rest h)
+direct-again big (Block w) (Bytes xs) rest h =
     ap (λ bs. block_operand (number_at big w bs)) (append_assoc (num big w (length xs)) xs rest)
     ∙ block-again xs rest _ (number-fits-again big w (length xs) (xs ++ rest) h)
-kind-again big e UlebBlock (Bytes xs) rest h =
+direct-again big UlebBlock (Bytes xs) rest h =
     ap (λ bs. block_operand (uleb_at bs)) (append_assoc (uleb (length xs)) xs rest)
     ∙ block-again xs rest _ (uleb-again (length xs) (xs ++ rest) h)
-kind-again big e Zeroed (Text t) rest h =
+direct-again big Zeroed (Text t) rest h =
     bind_is _ (t, rest) (λ x. Some (Text x.0, x.1)) (ap text_at (append_assoc t (0 ∷ []) rest) ∙ text-again t rest h)
-kind-again big e k o rest h = absurd h
+direct-again big k o rest h = absurd h
 
-operand-again : (big : Bool) (e : Encoding) (k : Option Kind) (o : Operand) (rest : List ℕ) → FormFits k o → (k >>= λ x. kind_at big e x (operand_bytes big k o ++ rest)) ≡ Some (o, rest)
-operand-again big e None o rest h = absurd h
-operand-again big e (Some k) o rest h = kind-again big e k o rest h
+pub kind-again : (big : Bool) (e : Encoding) (form : ℕ) (k : Kind) (o : Operand) (rest : List ℕ) → KindFits k o → kind_at big e form k (kind_bytes big k o ++ rest) ≡ Some ((form, o), rest)
+kind-again big e form Indirect o rest h = absurd h
+kind-again big e form Empty o rest h = ap (in_form form) (direct-again big Empty o rest h)
+kind-again big e form (Fixed w) o rest h = ap (in_form form) (direct-again big (Fixed w) o rest h)
+kind-again big e form Uleb o rest h = ap (in_form form) (direct-again big Uleb o rest h)
+kind-again big e form Sleb o rest h = ap (in_form form) (direct-again big Sleb o rest h)
+kind-again big e form (Block w) o rest h = ap (in_form form) (direct-again big (Block w) o rest h)
+kind-again big e form UlebBlock o rest h = ap (in_form form) (direct-again big UlebBlock o rest h)
+kind-again big e form Zeroed o rest h = ap (in_form form) (direct-again big Zeroed o rest h)
 
-pub form-again : (big : Bool) (e : Encoding) (a : ReadAttribute) (rest : List ℕ) → IsAttribute e a → form_at big e a.form (attribute_bytes big e a ++ rest) ≡ Some (a.operand, rest)
+operand-again : (big : Bool) (e : Encoding) (form : ℕ) (k : Option Kind) (o : Operand) (rest : List ℕ) → FormFits k o → (k >>= λ x. kind_at big e form x (operand_bytes big k o ++ rest)) ≡ Some ((form, o), rest)
+operand-again big e form None o rest h = absurd h
+operand-again big e form (Some k) o rest h = kind-again big e form k o rest h
+
+pub form-again : (big : Bool) (e : Encoding) (a : ReadAttribute) (rest : List ℕ) → IsAttribute e a → form_at big e a.form (attribute_bytes big e a ++ rest) ≡ Some ((a.form, a.operand), rest)
 unfolding form_at
-form-again big e a rest h = operand-again big e (kind_of e a.form) a.operand rest h
+form-again big e a rest h = operand-again big e a.form (kind_of e a.form) a.operand rest h
 
 attributes-again : (big : Bool) (e : Encoding) (given : List ReadAttribute) (rest : List ℕ) → All (IsAttribute e) given → attributes_at big e (map specification_of given) (flat_map (attribute_bytes big e) given ++ rest) ≡ Some (given, rest)
 unfolding attributes_at

@@ -6,7 +6,7 @@ use Rattle.std.proofs.lemmas.Bool.{lt-ltb, le-ltb, ltb-true, ltb-false, cases_lt
 use Rattle.std.proofs.lemmas.List.Elements.{All-head, All-tail}
 use Rattle.std.proofs.lemmas.Option.{none-some, some_pair_parts}
 use Rattle.dw_base.specs.Numbers.{◌>>=◌, when}
-use Rattle.dw_base.specs.Leb128.{groups_at, uleb_at, signed_seven, above_seven, signed_groups_at, fits_i64, sleb_at, uleb_groups, uleb, low_seven, without_seven, fits_seven, sleb_groups, sleb}
+use Rattle.dw_base.specs.Leb128.{groups_at, uleb_at, uleb16_at, signed_seven, above_seven, signed_groups_at, fits_i64, sleb_at, uleb_groups, uleb, low_seven, without_seven, fits_seven, sleb_groups, sleb}
 use Rattle.dw_base.proofs.NumberLaws.{bind_is, bind_parts, when_same}
 
 groups_last : (b : ℕ) (bs : List ℕ) → nat_lt b 128 ≡ true → groups_at (b ∷ bs) ≡ Some (b, bs)
@@ -45,6 +45,13 @@ pub uleb-again : (n : ℕ) (rest : List ℕ) → n < 2 ^ 64 → uleb_at (uleb n 
 unfolding uleb_at uleb
 uleb-again n rest h =
     bind_is _ (n, rest) (λ x. when (nat_lt x.0 (2 ^ 64)) (Some x)) (groups-again 9 n rest (omega arith))
+    ∙ ap (λ b. when b (Some (n, rest))) (lt-ltb _ _ h)
+
+-- a number of 16 bits
+pub uleb16-again : (n : ℕ) (rest : List ℕ) → n < 2 ^ 16 → uleb16_at (uleb n ++ rest) ≡ Some (n, rest)
+unfolding uleb16_at
+uleb16-again n rest h =
+    bind_is _ (n, rest) (λ x. when (nat_lt x.0 (2 ^ 16)) (Some x)) (uleb-again n rest (omega (arith, h)))
     ∙ ap (λ b. when b (Some (n, rest))) (lt-ltb _ _ h)
 
 uleb_groups_long : (k n : ℕ) → (0 < length (uleb_groups k n)) × (length (uleb_groups k n) ≤ suc k)

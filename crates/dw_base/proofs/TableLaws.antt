@@ -4,13 +4,13 @@ use Rattle.std.specs.List.{flat_map}
 use Rattle.std.proofs.lemmas.Bool.{ne_eqb, and_parts}
 use Rattle.std.proofs.lemmas.List.Elements.{All-head, All-tail}
 use Rattle.dw_base.specs.Numbers.{◌>>=◌}
-use Rattle.dw_base.specs.Leb128.{groups_at, uleb_at, sleb_at, uleb}
+use Rattle.dw_base.specs.Leb128.{groups_at, uleb_at, uleb16_at, sleb_at, uleb}
 use Rattle.dw_base.specs.Forms.{implicit_const}
 use Rattle.dw_base.specs.Abbreviations.{Specification, Shape, Declaration, specifications_at, children_at, shape_at, is_new_code, declarations_at, table_at}
 use Rattle.dw_base.specs.Spelling.{constant_bytes, specification_bytes, children_byte, shape_bytes, declaration_bytes, table_bytes}
 use Rattle.dw_base.specs.Spellable.{IsConstant, IsSpecification, IsDeclaration, codes_differ, AreDeclarations}
 use Rattle.dw_base.proofs.NumberLaws.{bind_is}
-use Rattle.dw_base.proofs.Leb128Laws.{uleb-again, uleb_long, sleb-again}
+use Rattle.dw_base.proofs.Leb128Laws.{uleb-again, uleb16-again, uleb_long, sleb-again}
 
 constant_if : (asked : Bool) (c : Option ℤ) (rest : List ℕ) → IsConstant asked c → (if asked then ◌>>=◌ {B = Option ℤ × List ℕ} (sleb_at (constant_bytes c ++ rest)) (λ x. Some (Some x.0, x.1)) else Some (None, constant_bytes c ++ rest)) ≡ Some (c, rest)
 constant_if true (Some z) rest h = bind_is _ (z, rest) (λ x. Some (Some x.0, x.1)) (sleb-again z rest h)
@@ -19,14 +19,14 @@ constant_if false (Some z) rest h = absurd h
 constant_if false None rest h = refl
 
 specifications_end : (fuel : ℕ) (rest : List ℕ) → specifications_at (suc fuel) (0 ∷ 0 ∷ rest) ≡ Some ([], rest)
-unfolding specifications_at uleb_at groups_at
+unfolding specifications_at uleb16_at uleb_at groups_at
 specifications_end fuel rest = refl
 
 specifications_more : (fuel : ℕ) (s : Specification) (bytes : List ℕ) → IsSpecification s → specifications_at (suc fuel) (uleb s.name ++ (uleb s.form ++ (constant_bytes s.constant ++ bytes))) ≡ (specifications_at fuel bytes >>= λ more. Some (s ∷ more.0, more.1))
 unfolding specifications_at
 specifications_more fuel s bytes h =
-    let e1 = uleb-again s.name (uleb s.form ++ (constant_bytes s.constant ++ bytes)) h.name_fits in
-    let e2 = uleb-again s.form (constant_bytes s.constant ++ bytes) h.form_fits in
+    let e1 = uleb16-again s.name (uleb s.form ++ (constant_bytes s.constant ++ bytes)) h.name_fits in
+    let e2 = uleb16-again s.form (constant_bytes s.constant ++ bytes) h.form_fits in
     let e3 : nat_eq s.name 0 ≡ false = ne_eqb s.name 0 (λ z. omega (arith, h.name)) in
     rw (specifications_at, e1) (rw e2 (rw e3 (bind_is _ _ _ (constant_if (s.form == implicit_const) s.constant bytes h.constant))))
 
@@ -48,12 +48,12 @@ children-again : (b : Bool) (rest : List ℕ) → children_at (children_byte b �
 children-again true rest = refl
 children-again false rest = refl
 
-pub shape-again : (s : Shape) (rest : List ℕ) → 0 < s.tag → s.tag < 2 ^ 64 → All IsSpecification s.attributes → shape_at (shape_bytes s ++ rest) ≡ Some (s, rest)
+pub shape-again : (s : Shape) (rest : List ℕ) → 0 < s.tag → s.tag < 2 ^ 16 → All IsSpecification s.attributes → shape_at (shape_bytes s ++ rest) ≡ Some (s, rest)
 unfolding shape_at
 shape-again s rest positive small attributes =
     let tail : List ℕ = flat_map specification_bytes s.attributes ++ 0 ∷ 0 ∷ rest in
     let regrouped : shape_bytes s ++ rest ≡ uleb s.tag ++ children_byte s.has_children ∷ tail = simp append_assoc in
-    let e1 = uleb-again s.tag (children_byte s.has_children ∷ tail) small in
+    let e1 = uleb16-again s.tag (children_byte s.has_children ∷ tail) small in
     let e2 : nat_eq s.tag 0 ≡ false = ne_eqb s.tag 0 (λ z. omega (arith, positive)) in
     let e3 = specifications-again (length tail) s.attributes rest attributes (omega (arith, specifications_long s.attributes, length-append (flat_map specification_bytes s.attributes) (0 ∷ 0 ∷ rest))) in
     ap shape_at regrouped ∙ bind_is _ _ _ e1 ∙ rw e2 (bind_is _ _ _ (children-again s.has_children tail) ∙ bind_is _ _ _ e3)

@@ -2,12 +2,12 @@
 use Rattle.std.proofs.Common.{◌≡◌, ℕ, List, [], ◌∷◌, Some, None, true, false, refl}
 use Rattle.std.specs.Prelude.{pos, negsuc}
 use Rattle.dw_base.specs.Numbers.{bytes_at, number_at, initial_length_at}
-use Rattle.dw_base.specs.Leb128.{uleb_at, groups_at, sleb_at, signed_groups_at}
+use Rattle.dw_base.specs.Leb128.{uleb_at, uleb16_at, groups_at, sleb_at, signed_groups_at}
 use Rattle.dw_base.specs.Forms.{Absent, Number, Signed, form_at, kind_of, direct_at, text_at}
 use Rattle.dw_base.specs.Abbreviations.{table_at, declarations_at, shape_at, specifications_at, shape_of_code}
 use Rattle.dw_base.specs.Headers.{header_at}
-use Rattle.dw_base.specs.Entries.{Open, Close, rows_at, mark_at, attributes_at, closes, is_one_tree}
-use Rattle.dw_base.specs.Info.{units_at, read_info}
+use Rattle.dw_base.specs.Entries.{Open, Close, Row, rows_at, mark_at, attributes_at, closes, is_one_tree, past_row}
+use Rattle.dw_base.specs.Info.{units_at, read_info, section_places}
 use Rattle.dw_base.specs.declared.common.Format.TheVariants.{Dwarf32, Dwarf64}
 
 -- A unit of version 5 that is only its root.
@@ -28,7 +28,7 @@ bare-read : read_info false bare_info bare_abbrev ≡ Some (
       rows =
           record { from = 12; depth = 0; mark = Open (record { code = 1; tag = 0x11; has_children = false; attributes = [] }); to = 13 } ∷ [];
     } ∷ [])
-unfolding bare_info bare_abbrev read_info units_at header_at bytes_at number_at initial_length_at table_at declarations_at shape_at specifications_at shape_of_code rows_at mark_at attributes_at form_at kind_of direct_at text_at uleb_at groups_at sleb_at signed_groups_at closes is_one_tree
+unfolding bare_info bare_abbrev read_info units_at header_at bytes_at number_at initial_length_at table_at declarations_at shape_at specifications_at shape_of_code rows_at mark_at attributes_at form_at kind_of direct_at text_at uleb16_at uleb_at groups_at sleb_at signed_groups_at closes is_one_tree
 bare-read = refl
 
 -- A subprogram of version 4 that names a base type, which stands before it.
@@ -54,7 +54,7 @@ typed-read : read_info false typed_info typed_abbrev ≡ Some (
           ∷ record { from = 14; depth = 1; mark = Open (record { code = 3; tag = 0x2e; has_children = false; attributes = record { name = 0x49; form = 0x13; constant = None; operand = Number 12 } ∷ [] }); to = 19 }
           ∷ record { from = 19; depth = 1; mark = Close; to = 20 } ∷ [];
     } ∷ [])
-unfolding typed_info typed_abbrev read_info units_at header_at bytes_at number_at initial_length_at table_at declarations_at shape_at specifications_at shape_of_code rows_at mark_at attributes_at form_at kind_of direct_at text_at uleb_at groups_at sleb_at signed_groups_at closes is_one_tree
+unfolding typed_info typed_abbrev read_info units_at header_at bytes_at number_at initial_length_at table_at declarations_at shape_at specifications_at shape_of_code rows_at mark_at attributes_at form_at kind_of direct_at text_at uleb16_at uleb_at groups_at sleb_at signed_groups_at closes is_one_tree
 typed-read = refl
 
 -- A subprogram with a child and a sibling attribute, which holds the place past the child's closing zero.
@@ -81,7 +81,7 @@ sibling-read : read_info false sibling_info sibling_abbrev ≡ Some (
           ∷ record { from = 19; depth = 2; mark = Close; to = 20 }
           ∷ record { from = 20; depth = 1; mark = Close; to = 21 } ∷ [];
     } ∷ [])
-unfolding sibling_info sibling_abbrev read_info units_at header_at bytes_at number_at initial_length_at table_at declarations_at shape_at specifications_at shape_of_code rows_at mark_at attributes_at form_at kind_of direct_at text_at uleb_at groups_at sleb_at signed_groups_at closes is_one_tree
+unfolding sibling_info sibling_abbrev read_info units_at header_at bytes_at number_at initial_length_at table_at declarations_at shape_at specifications_at shape_of_code rows_at mark_at attributes_at form_at kind_of direct_at text_at uleb16_at uleb_at groups_at sleb_at signed_groups_at closes is_one_tree
 sibling-read = refl
 
 -- Two units, of which the first names the second one's root by its place in the section.
@@ -110,7 +110,7 @@ across-read : read_info false across_info across_abbrev ≡ Some (
       rows =
           record { from = 12; depth = 0; mark = Open (record { code = 1; tag = 0x11; has_children = false; attributes = [] }); to = 13 } ∷ [];
     } ∷ [])
-unfolding across_info across_abbrev read_info units_at header_at bytes_at number_at initial_length_at table_at declarations_at shape_at specifications_at shape_of_code rows_at mark_at attributes_at form_at kind_of direct_at text_at uleb_at groups_at sleb_at signed_groups_at closes is_one_tree
+unfolding across_info across_abbrev read_info units_at header_at bytes_at number_at initial_length_at table_at declarations_at shape_at specifications_at shape_of_code rows_at mark_at attributes_at form_at kind_of direct_at text_at uleb16_at uleb_at groups_at sleb_at signed_groups_at closes is_one_tree
 across-read = refl
 
 -- Two variables with constants that stand in their declarations.
@@ -136,7 +136,7 @@ constant-read : read_info false constant_info constant_abbrev ≡ Some (
           ∷ record { from = 14; depth = 1; mark = Open (record { code = 3; tag = 0x34; has_children = false; attributes = record { name = 0x0b; form = 0x21; constant = Some (pos 1); operand = Absent } ∷ [] }); to = 15 }
           ∷ record { from = 15; depth = 1; mark = Close; to = 16 } ∷ [];
     } ∷ [])
-unfolding constant_info constant_abbrev read_info units_at header_at bytes_at number_at initial_length_at table_at declarations_at shape_at specifications_at shape_of_code rows_at mark_at attributes_at form_at kind_of direct_at text_at uleb_at groups_at sleb_at signed_groups_at closes is_one_tree
+unfolding constant_info constant_abbrev read_info units_at header_at bytes_at number_at initial_length_at table_at declarations_at shape_at specifications_at shape_of_code rows_at mark_at attributes_at form_at kind_of direct_at text_at uleb16_at uleb_at groups_at sleb_at signed_groups_at closes is_one_tree
 constant-read = refl
 
 -- The same two in version 4, with signed operands and one declaration.
@@ -161,7 +161,7 @@ signed-read : read_info false signed_info signed_abbrev ≡ Some (
           ∷ record { from = 14; depth = 1; mark = Open (record { code = 2; tag = 0x34; has_children = false; attributes = record { name = 0x0b; form = 0x0d; constant = None; operand = Signed (pos 1) } ∷ [] }); to = 16 }
           ∷ record { from = 16; depth = 1; mark = Close; to = 17 } ∷ [];
     } ∷ [])
-unfolding signed_info signed_abbrev read_info units_at header_at bytes_at number_at initial_length_at table_at declarations_at shape_at specifications_at shape_of_code rows_at mark_at attributes_at form_at kind_of direct_at text_at uleb_at groups_at sleb_at signed_groups_at closes is_one_tree
+unfolding signed_info signed_abbrev read_info units_at header_at bytes_at number_at initial_length_at table_at declarations_at shape_at specifications_at shape_of_code rows_at mark_at attributes_at form_at kind_of direct_at text_at uleb16_at uleb_at groups_at sleb_at signed_groups_at closes is_one_tree
 signed-read = refl
 
 -- A bare unit of version 3 in the 64-bit format, the highest bytes first.
@@ -182,35 +182,109 @@ big-read : read_info true big_info big_abbrev ≡ Some (
       rows =
           record { from = 23; depth = 0; mark = Open (record { code = 1; tag = 0x11; has_children = false; attributes = [] }); to = 24 } ∷ [];
     } ∷ [])
-unfolding big_info big_abbrev read_info units_at header_at bytes_at number_at initial_length_at table_at declarations_at shape_at specifications_at shape_of_code rows_at mark_at attributes_at form_at kind_of direct_at text_at uleb_at groups_at sleb_at signed_groups_at closes is_one_tree
+unfolding big_info big_abbrev read_info units_at header_at bytes_at number_at initial_length_at table_at declarations_at shape_at specifications_at shape_of_code rows_at mark_at attributes_at form_at kind_of direct_at text_at uleb16_at uleb_at groups_at sleb_at signed_groups_at closes is_one_tree
 big-read = refl
 
 -- One byte more after the unit.
 one_byte_more : read_info false (0x09 ∷ 0x00 ∷ 0x00 ∷ 0x00 ∷ 0x05 ∷ 0x00 ∷ 0x01 ∷ 0x08 ∷ 0x00 ∷ 0x00 ∷ 0x00 ∷ 0x00 ∷ 0x01 ∷ 0x00 ∷ []) (0x01 ∷ 0x11 ∷ 0x00 ∷ 0x00 ∷ 0x00 ∷ 0x00 ∷ []) ≡ None
-unfolding read_info units_at header_at bytes_at number_at initial_length_at table_at declarations_at shape_at specifications_at shape_of_code rows_at mark_at attributes_at form_at kind_of direct_at text_at uleb_at groups_at sleb_at signed_groups_at closes is_one_tree
+unfolding read_info units_at header_at bytes_at number_at initial_length_at table_at declarations_at shape_at specifications_at shape_of_code rows_at mark_at attributes_at form_at kind_of direct_at text_at uleb16_at uleb_at groups_at sleb_at signed_groups_at closes is_one_tree
 one_byte_more = refl
 
 -- One byte less than the length says.
 one_byte_less : read_info false (0x09 ∷ 0x00 ∷ 0x00 ∷ 0x00 ∷ 0x05 ∷ 0x00 ∷ 0x01 ∷ 0x08 ∷ 0x00 ∷ 0x00 ∷ 0x00 ∷ 0x00 ∷ []) (0x01 ∷ 0x11 ∷ 0x00 ∷ 0x00 ∷ 0x00 ∷ 0x00 ∷ []) ≡ None
-unfolding read_info units_at header_at bytes_at number_at initial_length_at table_at declarations_at shape_at specifications_at shape_of_code rows_at mark_at attributes_at form_at kind_of direct_at text_at uleb_at groups_at sleb_at signed_groups_at closes is_one_tree
+unfolding read_info units_at header_at bytes_at number_at initial_length_at table_at declarations_at shape_at specifications_at shape_of_code rows_at mark_at attributes_at form_at kind_of direct_at text_at uleb16_at uleb_at groups_at sleb_at signed_groups_at closes is_one_tree
 one_byte_less = refl
 
 -- A second tree in the unit.
 two_trees : read_info false (0x0a ∷ 0x00 ∷ 0x00 ∷ 0x00 ∷ 0x05 ∷ 0x00 ∷ 0x01 ∷ 0x08 ∷ 0x00 ∷ 0x00 ∷ 0x00 ∷ 0x00 ∷ 0x01 ∷ 0x01 ∷ []) (0x01 ∷ 0x11 ∷ 0x00 ∷ 0x00 ∷ 0x00 ∷ 0x00 ∷ []) ≡ None
-unfolding read_info units_at header_at bytes_at number_at initial_length_at table_at declarations_at shape_at specifications_at shape_of_code rows_at mark_at attributes_at form_at kind_of direct_at text_at uleb_at groups_at sleb_at signed_groups_at closes is_one_tree
+unfolding read_info units_at header_at bytes_at number_at initial_length_at table_at declarations_at shape_at specifications_at shape_of_code rows_at mark_at attributes_at form_at kind_of direct_at text_at uleb16_at uleb_at groups_at sleb_at signed_groups_at closes is_one_tree
 two_trees = refl
 
 -- Two declarations of one code.
 same_code_twice : read_info false (0x09 ∷ 0x00 ∷ 0x00 ∷ 0x00 ∷ 0x05 ∷ 0x00 ∷ 0x01 ∷ 0x08 ∷ 0x00 ∷ 0x00 ∷ 0x00 ∷ 0x00 ∷ 0x01 ∷ []) (0x01 ∷ 0x11 ∷ 0x00 ∷ 0x00 ∷ 0x00 ∷ 0x01 ∷ 0x34 ∷ 0x00 ∷ 0x00 ∷ 0x00 ∷ 0x00 ∷ []) ≡ None
-unfolding read_info units_at header_at bytes_at number_at initial_length_at table_at declarations_at shape_at specifications_at shape_of_code rows_at mark_at attributes_at form_at kind_of direct_at text_at uleb_at groups_at sleb_at signed_groups_at closes is_one_tree
+unfolding read_info units_at header_at bytes_at number_at initial_length_at table_at declarations_at shape_at specifications_at shape_of_code rows_at mark_at attributes_at form_at kind_of direct_at text_at uleb16_at uleb_at groups_at sleb_at signed_groups_at closes is_one_tree
 same_code_twice = refl
 
 -- A byte between the tables of two units.
 gap_between_tables : read_info false (0x09 ∷ 0x00 ∷ 0x00 ∷ 0x00 ∷ 0x05 ∷ 0x00 ∷ 0x01 ∷ 0x08 ∷ 0x00 ∷ 0x00 ∷ 0x00 ∷ 0x00 ∷ 0x01 ∷ 0x09 ∷ 0x00 ∷ 0x00 ∷ 0x00 ∷ 0x05 ∷ 0x00 ∷ 0x01 ∷ 0x08 ∷ 0x07 ∷ 0x00 ∷ 0x00 ∷ 0x00 ∷ 0x01 ∷ []) (0x01 ∷ 0x11 ∷ 0x00 ∷ 0x00 ∷ 0x00 ∷ 0x00 ∷ 0x00 ∷ 0x01 ∷ 0x11 ∷ 0x00 ∷ 0x00 ∷ 0x00 ∷ 0x00 ∷ []) ≡ None
-unfolding read_info units_at header_at bytes_at number_at initial_length_at table_at declarations_at shape_at specifications_at shape_of_code rows_at mark_at attributes_at form_at kind_of direct_at text_at uleb_at groups_at sleb_at signed_groups_at closes is_one_tree
+unfolding read_info units_at header_at bytes_at number_at initial_length_at table_at declarations_at shape_at specifications_at shape_of_code rows_at mark_at attributes_at form_at kind_of direct_at text_at uleb16_at uleb_at groups_at sleb_at signed_groups_at closes is_one_tree
 gap_between_tables = refl
 
 -- A table that no unit has.
 table_left_over : read_info false (0x09 ∷ 0x00 ∷ 0x00 ∷ 0x00 ∷ 0x05 ∷ 0x00 ∷ 0x01 ∷ 0x08 ∷ 0x00 ∷ 0x00 ∷ 0x00 ∷ 0x00 ∷ 0x01 ∷ []) (0x01 ∷ 0x11 ∷ 0x00 ∷ 0x00 ∷ 0x00 ∷ 0x00 ∷ 0x01 ∷ 0x11 ∷ 0x00 ∷ 0x00 ∷ 0x00 ∷ 0x00 ∷ []) ≡ None
-unfolding read_info units_at header_at bytes_at number_at initial_length_at table_at declarations_at shape_at specifications_at shape_of_code rows_at mark_at attributes_at form_at kind_of direct_at text_at uleb_at groups_at sleb_at signed_groups_at closes is_one_tree
+unfolding read_info units_at header_at bytes_at number_at initial_length_at table_at declarations_at shape_at specifications_at shape_of_code rows_at mark_at attributes_at form_at kind_of direct_at text_at uleb16_at uleb_at groups_at sleb_at signed_groups_at closes is_one_tree
 table_left_over = refl
+
+-- A tag, a name and a form past 16 bits, the number 0x11 in more groups than it needs, and 0xffff.
+wide_tag : table_at (0x01 ∷ 0x91 ∷ 0x80 ∷ 0x04 ∷ 0x00 ∷ 0x00 ∷ 0x00 ∷ 0x00 ∷ []) ≡ None
+unfolding table_at declarations_at shape_at specifications_at uleb16_at uleb_at groups_at
+wide_tag = refl
+
+wide_name : table_at (0x01 ∷ 0x11 ∷ 0x00 ∷ 0x83 ∷ 0x80 ∷ 0x04 ∷ 0x0b ∷ 0x00 ∷ 0x00 ∷ 0x00 ∷ []) ≡ None
+unfolding table_at declarations_at shape_at specifications_at uleb16_at uleb_at groups_at
+wide_name = refl
+
+wide_form : table_at (0x01 ∷ 0x11 ∷ 0x00 ∷ 0x03 ∷ 0x8b ∷ 0x80 ∷ 0x04 ∷ 0x00 ∷ 0x00 ∷ 0x00 ∷ []) ≡ None
+unfolding table_at declarations_at shape_at specifications_at uleb16_at uleb_at groups_at
+wide_form = refl
+
+padded_tag : table_at (0x01 ∷ 0x91 ∷ 0x80 ∷ 0x00 ∷ 0x00 ∷ 0x00 ∷ 0x00 ∷ 0x00 ∷ []) ≡ Some (record { code = 1; shape = record { tag = 0x11; has_children = false; attributes = [] } } ∷ [], [])
+unfolding table_at declarations_at shape_at specifications_at uleb16_at uleb_at groups_at
+padded_tag = refl
+
+last_tag : table_at (0x01 ∷ 0xff ∷ 0xff ∷ 0x03 ∷ 0x00 ∷ 0x00 ∷ 0x00 ∷ 0x00 ∷ []) ≡ Some (record { code = 1; shape = record { tag = 0xffff; has_children = false; attributes = [] } } ∷ [], [])
+unfolding table_at declarations_at shape_at specifications_at uleb16_at uleb_at groups_at
+last_tag = refl
+
+-- An attribute of the form indirect (0x16) has the form that stands before its operand, here data1 (0x0b).
+indirect-read : attributes_at false (record { address_size = 8; format = Dwarf32; version = 4 }) (record { name = 0x03; form = 0x16; constant = None } ∷ []) (0x0b ∷ 0x2a ∷ 0x07 ∷ []) ≡ Some (record { name = 0x03; form = 0x0b; constant = None; operand = Number 42 } ∷ [], 0x07 ∷ [])
+unfolding attributes_at form_at kind_of direct_at bytes_at number_at uleb16_at uleb_at groups_at
+indirect-read = refl
+
+-- None stands before the operand in more than 16 bits, and neither indirect nor implicit_const (0x21) stands there.
+indirect_wide : form_at false (record { address_size = 8; format = Dwarf32; version = 4 }) 0x16 (0x8b ∷ 0x80 ∷ 0x04 ∷ 0x2a ∷ []) ≡ None
+unfolding form_at kind_of direct_at uleb16_at uleb_at groups_at
+indirect_wide = refl
+
+indirect_twice : form_at false (record { address_size = 8; format = Dwarf32; version = 4 }) 0x16 (0x16 ∷ 0x0b ∷ 0x2a ∷ []) ≡ None
+unfolding form_at kind_of direct_at uleb16_at uleb_at groups_at
+indirect_twice = refl
+
+indirect_constant : form_at false (record { address_size = 8; format = Dwarf32; version = 5 }) 0x16 (0x21 ∷ 0x2a ∷ []) ≡ None
+unfolding form_at kind_of direct_at uleb16_at uleb_at groups_at
+indirect_constant = refl
+
+-- The rows of the subprogram with a child: the place past the subprogram is behind its child's closing zero, that past the
+-- child behind the child, and that past the root at the unit's end.
+root_row : Row
+root_row = record { from = 12; depth = 0; mark = Open (record { code = 1; tag = 0x11; has_children = true; attributes = [] }); to = 13 }
+
+subprogram_row : Row
+subprogram_row = record { from = 13; depth = 1; mark = Open (record { code = 2; tag = 0x2e; has_children = true; attributes = record { name = 0x01; form = 0x13; constant = None; operand = Number 20 } ∷ [] }); to = 18 }
+
+child_row : Row
+child_row = record { from = 18; depth = 2; mark = Open (record { code = 3; tag = 0x34; has_children = false; attributes = [] }); to = 19 }
+
+closing_rows : List Row
+closing_rows = record { from = 19; depth = 2; mark = Close; to = 20 } ∷ record { from = 20; depth = 1; mark = Close; to = 21 } ∷ []
+
+past_root : past_row root_row (subprogram_row ∷ child_row ∷ closing_rows) ≡ 21
+unfolding root_row subprogram_row child_row closing_rows
+past_root = refl
+
+past_subprogram : past_row subprogram_row (child_row ∷ closing_rows) ≡ 20
+unfolding subprogram_row child_row closing_rows
+past_subprogram = refl
+
+past_child : past_row child_row closing_rows ≡ 19
+unfolding child_row closing_rows
+past_child = refl
+
+-- The root of a unit that begins at place 17 of the section: its row begins at place 12 of the unit.
+place_of_second_root : section_places (record {
+  from = 17;
+  header = record { encoding = record { address_size = 8; format = Dwarf32; version = 5 }; unit_type = Some 1; table_offset = 8; identity = None; type_offset = None };
+  table = [];
+  rows = record { from = 12; depth = 0; mark = Close; to = 13 } ∷ [];
+}) ≡ 29 ∷ []
+place_of_second_root = refl

@@ -1,7 +1,7 @@
 -- Abbreviation tables (DWARF 5, 7.5.3).
 use Rattle.std.specs.Prelude.{ℕ, zero, suc, List, [], ◌∷◌, length, Option, Some, None, Bool, true, false, ◌&&◌, not, ◌==◌, ℤ, if◌then◌else◌}
 use Rattle.dw_base.specs.Numbers.{Parser, ◌>>=◌, when}
-use Rattle.dw_base.specs.Leb128.{uleb_at, sleb_at}
+use Rattle.dw_base.specs.Leb128.{uleb_at, uleb16_at, sleb_at}
 use Rattle.dw_base.specs.Forms.{implicit_const}
 
 -- an attribute in a declaration; the constant is there for the form implicit_const alone
@@ -28,7 +28,7 @@ constant_at form bytes = if form == implicit_const then (sleb_at bytes >>= λ x.
 unfoldable pub specifications_at : ℕ → Parser (List Specification)
 specifications_at zero bytes = None
 specifications_at (suc fuel) bytes =
-    uleb_at bytes >>= λ name. uleb_at name.1 >>= λ form.
+    uleb16_at bytes >>= λ name. uleb16_at name.1 >>= λ form.
     if name.0 == 0 then when (form.0 == 0) (Some ([], form.1))
     else (constant_at form.0 form.1 >>= λ constant. specifications_at fuel constant.1 >>= λ more.
     Some (record { name = name.0; form = form.0; constant = constant.0 } ∷ more.0, more.1))
@@ -43,7 +43,7 @@ children_at (suc (suc n) ∷ bs) = None
 -- a tag, which isn't zero, the byte on children, and the attributes
 unfoldable pub shape_at : Parser Shape
 shape_at bytes =
-    uleb_at bytes >>= λ tag. when (not (tag.0 == 0)) (children_at tag.1 >>= λ children. specifications_at (length children.1) children.1 >>= λ attributes.
+    uleb16_at bytes >>= λ tag. when (not (tag.0 == 0)) (children_at tag.1 >>= λ children. specifications_at (length children.1) children.1 >>= λ attributes.
     Some (record { tag = tag.0; has_children = children.0; attributes = attributes.0 }, attributes.1))
 
 -- no declaration has the code

@@ -7,7 +7,7 @@ use Rattle.dw_base.specs.Forms.{Operand, form_at}
 use Rattle.dw_base.specs.Abbreviations.{Specification, Declaration, shape_of_code}
 use Rattle.dw_base.specs.declared.common.Encoding.{Encoding}
 
--- an attribute of an entry, as it is read
+-- an attribute of an entry, as it is read, with the form in which its operand stands
 pub record ReadAttribute : Type 0 where
   pub name : ℕ
   pub form : ℕ
@@ -38,7 +38,7 @@ unfoldable pub attributes_at : Bool → Encoding → List Specification → Pars
 attributes_at big e [] bytes = Some ([], bytes)
 attributes_at big e (s ∷ ss) bytes =
     form_at big e s.form bytes >>= λ x. attributes_at big e ss x.1 >>= λ more.
-    Some (record { name = s.name; form = s.form; constant = s.constant; operand = x.0 } ∷ more.0, more.1)
+    Some (record { name = s.name; form = x.0.0; constant = s.constant; operand = x.0.1 } ∷ more.0, more.1)
 
 -- a code, and the operands of its declaration
 unfoldable pub mark_at : Bool → Encoding → List Declaration → Parser (Mark ReadEntry)
@@ -80,3 +80,16 @@ is_one_tree (Close ∷ ms) = false
 abbrev pub children_of : Mark ReadEntry → Mark Bool
 children_of (Open e) = Open e.has_children
 children_of Close = Close
+
+-- the row closes a list of children at a depth
+abbrev pub is_closing : ℕ → Row → Bool
+is_closing depth r = elim r.mark [ Open x ↦ false | Close ↦ r.depth == depth ]
+
+-- the place behind the first row that closes a list of children at a depth
+abbrev pub behind_read : ℕ → List Row → ℕ
+behind_read depth [] = 0
+behind_read depth (r ∷ rows) = if is_closing depth r then r.to else behind_read depth rows
+
+-- the place past a row's entry, where these rows follow it: behind the zero that closes its children, or behind itself
+abbrev pub past_row : Row → List Row → ℕ
+past_row r rows = elim r.mark [ Open x ↦ (if x.has_children then behind_read (suc r.depth) rows else r.to) | Close ↦ r.to ]

@@ -1,7 +1,7 @@
 -- Operands by their forms (DWARF 5, 7.5.6; 7.5.5 for the classes).
 use Rattle.std.specs.Prelude.{ℕ, zero, suc, Bool, not, ◌==◌, List, [], ◌∷◌, Option, Some, None, ℤ, if◌then◌else◌}
 use Rattle.dw_base.specs.Numbers.{Parser, ◌>>=◌, when, bytes_at, number_at, word_of}
-use Rattle.dw_base.specs.Leb128.{uleb_at, sleb_at}
+use Rattle.dw_base.specs.Leb128.{uleb_at, uleb16_at, sleb_at}
 use Rattle.dw_base.specs.declared.common.Encoding.{Encoding}
 
 -- what stands for an attribute in an entry
@@ -104,15 +104,19 @@ direct_at big UlebBlock bytes = block_operand (uleb_at bytes)
 direct_at big Zeroed bytes = text_at bytes >>= λ x. Some (Text x.0, x.1)
 direct_at big Indirect bytes = None
 
--- an operand after the form that tells its kind; such a form leads to no other and has no constant in a declaration
-abbrev pub indirect_at : Bool → Encoding → Parser Operand
+-- an operand with the form in which it stands
+abbrev pub in_form : ℕ → Option (Operand × List ℕ) → Option ((ℕ × Operand) × List ℕ)
+in_form form r = r >>= λ x. Some ((form, x.0), x.1)
+
+-- an operand after the form in which it stands; such a form leads to no other and has no constant in a declaration
+abbrev pub indirect_at : Bool → Encoding → Parser (ℕ × Operand)
 indirect_at big e bytes =
-    uleb_at bytes >>= λ form. when (not (form.0 == implicit_const)) (kind_of e form.0 >>= λ k. direct_at big k form.1)
+    uleb16_at bytes >>= λ form. when (not (form.0 == implicit_const)) (kind_of e form.0 >>= λ k. in_form form.0 (direct_at big k form.1))
 
-abbrev pub kind_at : Bool → Encoding → Kind → Parser Operand
-kind_at big e Indirect bytes = indirect_at big e bytes
-kind_at big e k bytes = direct_at big k bytes
+abbrev pub kind_at : Bool → Encoding → ℕ → Kind → Parser (ℕ × Operand)
+kind_at big e form Indirect bytes = indirect_at big e bytes
+kind_at big e form k bytes = in_form form (direct_at big k bytes)
 
--- the operand of a form
-unfoldable pub form_at : Bool → Encoding → ℕ → Parser Operand
-form_at big e form bytes = kind_of e form >>= λ k. kind_at big e k bytes
+-- the operand of a declared form, with the form in which it stands: the declared one, or the one that indirect leads to
+unfoldable pub form_at : Bool → Encoding → ℕ → Parser (ℕ × Operand)
+form_at big e form bytes = kind_of e form >>= λ k. kind_at big e form k bytes

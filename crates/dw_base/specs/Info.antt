@@ -13,6 +13,14 @@ pub record ReadUnit : Type 0 where
   pub table : List Declaration
   pub rows : List Row
 
+-- the place in the section of a place in a unit
+abbrev pub place_in_section : ReadUnit → ℕ → ℕ
+place_in_section u place = u.from + place
+
+-- the places of the unit's rows in the section
+abbrev pub section_places : ReadUnit → List ℕ
+section_places u = map (λ r. place_in_section u r.from) u.rows
+
 -- Units from a place on, with the tables that stand from table_from on: each unit begins where the one before it ends, each
 -- table where the one before it ends.
 unfoldable pub units_at : ℕ → Bool → ℕ → ℕ → List ℕ → List ℕ → Option (List ReadUnit)

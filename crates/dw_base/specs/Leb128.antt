@@ -11,6 +11,11 @@ groups_at (b ∷ bs) = if nat_lt b 128 then Some (b, bs) else (groups_at bs >>= 
 unfoldable pub uleb_at : Parser ℕ
 uleb_at bytes = groups_at bytes >>= λ x. when (nat_lt x.0 (2 ^ 64)) (Some x)
 
+-- an unsigned number of 16 bits, in any spelling: tags, names and forms are such numbers, of which none above 0xffff is
+-- defined or free for use (DWARF 5, 7.5.3 with tables 7.3, 7.5 and 7.6)
+unfoldable pub uleb16_at : Parser ℕ
+uleb16_at bytes = uleb_at bytes >>= λ x. when (nat_lt x.0 (2 ^ 16)) (Some x)
+
 -- the last seven bits of a signed number, of which bit 0x40 is the sign
 abbrev pub signed_seven : ℕ → ℤ
 signed_seven b = if nat_lt b 64 then pos b else negsuc (127 - b)

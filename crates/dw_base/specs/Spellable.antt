@@ -19,15 +19,15 @@ IsConstant false None = ⊤
 -- the form implicit_const alone has a constant
 pub record IsSpecification (s : Specification) : Type 0 where
   pub name : 0 < s.name
-  pub name_fits : s.name < 2 ^ 64
-  pub form_fits : s.form < 2 ^ 64
+  pub name_fits : s.name < 2 ^ 16
+  pub form_fits : s.form < 2 ^ 16
   pub constant : IsConstant (s.form == implicit_const) s.constant
 
 pub record IsDeclaration (d : Declaration) : Type 0 where
   pub code : 0 < d.code
   pub code_fits : d.code < 2 ^ 64
   pub tag : 0 < d.shape.tag
-  pub tag_fits : d.shape.tag < 2 ^ 64
+  pub tag_fits : d.shape.tag < 2 ^ 16
   pub attributes : All IsSpecification d.shape.attributes
 
 -- no code is declared twice

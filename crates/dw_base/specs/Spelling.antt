@@ -36,11 +36,15 @@ counted big e content = escape_of e.format ++ (num big (word_of e.format) (lengt
 unfoldable pub unit_bytes : Bool → Encoding → ℕ → List ℕ → List ℕ
 unit_bytes big e table body = counted big e (fields_bytes big e table ++ body)
 
+-- the type that a header tells from version 5 on, that of a compile unit (DWARF 5, table 7.2)
+abbrev pub unit_type_of : ℕ → Option ℕ
+unit_type_of version = if version == 5 then Some 1 else None
+
 -- the header of a compile unit
 abbrev pub compile_header : Encoding → ℕ → Header
 compile_header e table = record {
   encoding = e;
-  unit_type = if e.version == 5 then Some 1 else None;
+  unit_type = unit_type_of e.version;
   table_offset = table;
   identity = None;
   type_offset = None;

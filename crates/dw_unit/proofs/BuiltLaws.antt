@@ -6,7 +6,7 @@ use Rattle.std.proofs.lemmas.Bool.{and_parts, or_left, or_right, or_cases, not_f
 use Rattle.std.proofs.lemmas.Option.{none-some, same_Some, slice_get-map}
 use Rattle.dw_base.specs.Abbreviations.{Declaration}
 use Rattle.dw_base.specs.Forms.{Number}
-use Rattle.dw_base.specs.Entries.{ReadAttribute, ReadEntry, Mark, Open, Close, Row}
+use Rattle.dw_base.specs.Entries.{ReadAttribute, ReadEntry, Mark, Open, Close, Row, past_row}
 use Rattle.dw_base.specs.Info.{ReadUnit}
 use Rattle.dw_base.specs.declared.common.Encoding.{Encoding}
 use Rattle.dw_base.specs.declared.ids.UnitEntryId.{UnitEntryId}
@@ -23,7 +23,7 @@ use Rattle.dw_unit.specs.Coded.{entry_at, coded_mark}
 use Rattle.dw_unit.specs.DistinctShapes.{entry_shapes, distinct_shapes}
 use Rattle.dw_unit.specs.Arena.{AreLinked}
 use Rattle.dw_unit.specs.Tree.{preorder, has_entry, are_entries_distinct}
-use Rattle.dw_unit.specs.Built.{place_read, past_row, past_read, placement_read, IsBuilt}
+use Rattle.dw_unit.specs.Built.{place_read, past_read, placement_read, IsBuilt}
 use Rattle.dw_unit.specs.Whole.{tree_shapes}
 use Rattle.dw_unit.proofs.Distinct.{preorder_distinct}
 use Rattle.dw_unit.proofs.DistinctShapes.{has_shape-distinct, has_shape-entry, has_shape-at, distinct_shapes-differ, Contains-shape, code_in-place, numbered-declares, entry_of_shape}

@@ -3,7 +3,7 @@ use Rattle.std.proofs.Common.{◌≡◌, ◌∙◌, sym, ap, ℕ, zero, suc, ◌
 use Rattle.std.specs.Prelude.{◌==◌, if◌then◌else◌}
 use Rattle.std.proofs.lemmas.Bool.{eq-eqb, ne_eqb}
 use Rattle.dw_base.specs.Abbreviations.{Shape}
-use Rattle.dw_base.specs.Entries.{ReadEntry, Mark, Open, Close, Row, next_depth}
+use Rattle.dw_base.specs.Entries.{behind_read, ReadEntry, Mark, Open, Close, Row, next_depth}
 use Rattle.dw_base.specs.Spelling.{header_size, mark_bytes, rows_of}
 use Rattle.dw_base.specs.declared.common.Encoding.{Encoding}
 use Rattle.dw_unit.specs.Entries.{EntryValue}
@@ -12,7 +12,7 @@ use Rattle.dw_unit.specs.Coded.{coded_mark, coded}
 use Rattle.dw_unit.specs.Tree.{preorder}
 use Rattle.dw_unit.specs.Laid.{is_parent, size_of, place_from, behind_from, past_from}
 use Rattle.dw_unit.specs.Places.{IsSamePlacement}
-use Rattle.dw_unit.specs.Built.{place_read, behind_read, past_read, placement_read}
+use Rattle.dw_unit.specs.Built.{place_read, past_read, placement_read}
 use Rattle.dw_unit.specs.Whole.{tree_shapes, tree_placement, tree_read}
 use Rattle.dw_unit.proofs.SamePlaces.{placement-same}
 use Rattle.dw_unit.proofs.SizeLaws.{length-mark_bytes}

@@ -1,5 +1,5 @@
 -- Why a unit is refused whose entries are.
-use Rattle.std.proofs.Common.{◌≡◌, ◌<◌, subst, Bool, List}
+use Rattle.std.proofs.Common.{◌≡◌, ◌<◌, subst, List}
 use Rattle.dw_base.specs.declared.common.Encoding.{Encoding}
 use Rattle.dw_base.specs.declared.error.Error.{Error}
 use Rattle.dw_base.specs.declared.error.Error.TheVariants.{NoMemory, WriteFault, ValueTooLarge, InvalidAttributeValue, InvalidReference, InitialLengthOverflow}

@@ -1,17 +1,13 @@
 -- The units that are read are those that were built.
-use Rattle.std.specs.Prelude.{◌≡◌, ℕ, suc, ◌+◌, List, [], ◌∷◌, length, map, sum_by, Option, Some, None, Bool, false, ◌==◌, if◌then◌else◌}
-use Rattle.dw_base.specs.Entries.{Mark, Open, Close, Row}
+use Rattle.std.specs.Prelude.{◌≡◌, ℕ, ◌+◌, List, [], ◌∷◌, length, map, sum_by, Some, Bool, ◌==◌, if◌then◌else◌}
+use Rattle.dw_base.specs.Entries.{Mark, Open, Close, Row, past_row}
 use Rattle.dw_base.specs.Info.{ReadUnit, read_info}
-use Rattle.dw_base.specs.Spelling.{header_size}
+use Rattle.dw_base.specs.Spelling.{header_size, unit_type_of}
 use Rattle.dw_unit.specs.UnitValue.{UnitValue}
 use Rattle.dw_unit.specs.Coded.{coded}
 use Rattle.dw_unit.specs.Shapes.{Placement}
 use Rattle.dw_unit.specs.Tree.{preorder}
 use Rattle.dw_unit.specs.Whole.{tree_shapes, tree_declared, tree_size, tree_table}
-
--- the type that a header of version 5 tells, that of a compile unit
-abbrev pub unit_type_of : ℕ → Option ℕ
-unit_type_of version = if version == 5 then Some 1 else None
 
 -- where the row is read that has the same number in preorder as an entry
 abbrev pub place_read : List (Mark ℕ) → List Row → ℕ → ℕ
@@ -20,20 +16,7 @@ place_read (m ∷ ms) [] i = 0
 place_read (Open j ∷ ms) (r ∷ rows) i = if j == i then r.from else place_read ms rows i
 place_read (Close ∷ ms) (r ∷ rows) i = place_read ms rows i
 
--- the row closes a list of children at a depth
-abbrev pub is_closing : ℕ → Row → Bool
-is_closing depth r = elim r.mark [ Open x ↦ false | Close ↦ r.depth == depth ]
-
--- the place behind the first row that closes a list of children at a depth
-abbrev pub behind_read : ℕ → List Row → ℕ
-behind_read depth [] = 0
-behind_read depth (r ∷ rows) = if is_closing depth r then r.to else behind_read depth rows
-
--- the place past a row's entry: behind the zero that closes its children, or behind itself
-abbrev pub past_row : Row → List Row → ℕ
-past_row r rows = elim r.mark [ Open x ↦ (if x.has_children then behind_read (suc r.depth) rows else r.to) | Close ↦ r.to ]
-
--- the same of the row that has the same number in preorder as an entry
+-- the place past the entry of the row that has the same number in preorder as an entry
 abbrev pub past_read : List (Mark ℕ) → List Row → ℕ → ℕ
 past_read [] rows i = 0
 past_read (m ∷ ms) [] i = 0
