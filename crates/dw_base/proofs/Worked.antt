@@ -1,11 +1,11 @@
 -- Sections of small units, read by the grammar, and some that it doesn't read.
-use Rattle.std.proofs.Common.{◌≡◌, ℕ, List, [], ◌∷◌, Some, None, true, false, refl}
+use Rattle.std.proofs.Common.{◌≡◌, ℕ, List, [], ◌∷◌, map, Some, None, true, false, refl}
 use Rattle.std.specs.Prelude.{pos, negsuc}
 use Rattle.dw_base.specs.Numbers.{bytes_at, number_at, initial_length_at}
 use Rattle.dw_base.specs.Leb128.{uleb_at, uleb16_at, groups_at, sleb_at, signed_groups_at}
-use Rattle.dw_base.specs.Forms.{Absent, Number, Signed, form_at, kind_of, direct_at, text_at}
+use Rattle.dw_base.specs.Forms.{Absent, Number, Signed, kinds, form_at, kind_of, direct_at, text_at}
 use Rattle.dw_base.specs.Abbreviations.{table_at, declarations_at, shape_at, specifications_at, shape_of_code}
-use Rattle.dw_base.specs.Headers.{header_at}
+use Rattle.dw_base.specs.Headers.{header_at, is_unit_type, has_identity, has_type_offset}
 use Rattle.dw_base.specs.Entries.{Open, Close, Row, rows_at, mark_at, attributes_at, closes, is_one_tree, past_row}
 use Rattle.dw_base.specs.Info.{units_at, read_info, section_places}
 use Rattle.dw_base.specs.declared.common.Format.TheVariants.{Dwarf32, Dwarf64}
@@ -288,3 +288,17 @@ place_of_second_root : section_places (record {
   rows = record { from = 12; depth = 0; mark = Close; to = 13 } ∷ [];
 }) ≡ 29 ∷ []
 place_of_second_root = refl
+
+-- The codes of the forms, as the standard's table has them.
+form_codes : map (λ k. k.0) (kinds (record { address_size = 8; format = Dwarf32; version = 5 })) ≡ 0x01 ∷ 0x03 ∷ 0x04 ∷ 0x05 ∷ 0x06 ∷ 0x07 ∷ 0x08 ∷ 0x09 ∷ 0x0a ∷ 0x0b ∷ 0x0c ∷ 0x0d ∷ 0x0e ∷ 0x0f ∷ 0x10 ∷ 0x11 ∷ 0x12 ∷ 0x13 ∷ 0x14 ∷ 0x15 ∷ 0x16 ∷ 0x17 ∷ 0x18 ∷ 0x19 ∷ 0x1a ∷ 0x1b ∷ 0x1c ∷ 0x1d ∷ 0x1e ∷ 0x1f ∷ 0x20 ∷ 0x21 ∷ 0x22 ∷ 0x23 ∷ 0x24 ∷ 0x25 ∷ 0x26 ∷ 0x27 ∷ 0x28 ∷ 0x29 ∷ 0x2a ∷ 0x2b ∷ 0x2c ∷ []
+form_codes = refl
+
+-- The types of unit that have eight bytes of their own, and those that have the place of a type.
+identities : map has_identity (1 ∷ 2 ∷ 3 ∷ 4 ∷ 5 ∷ 6 ∷ []) ≡ false ∷ true ∷ false ∷ true ∷ true ∷ true ∷ []
+identities = refl
+
+type_offsets : map has_type_offset (1 ∷ 2 ∷ 3 ∷ 4 ∷ 5 ∷ 6 ∷ []) ≡ false ∷ true ∷ false ∷ false ∷ false ∷ true ∷ []
+type_offsets = refl
+
+unit_types : map is_unit_type (0 ∷ 1 ∷ 6 ∷ 7 ∷ []) ≡ false ∷ true ∷ true ∷ false ∷ []
+unit_types = refl

@@ -3,6 +3,7 @@ use Rattle.std.specs.Prelude.{ℕ, zero, suc, Bool, not, ◌==◌, List, [], ◌
 use Rattle.dw_base.specs.Numbers.{Parser, ◌>>=◌, when, bytes_at, number_at, word_of}
 use Rattle.dw_base.specs.Leb128.{uleb_at, uleb16_at, sleb_at}
 use Rattle.dw_base.specs.declared.common.Encoding.{Encoding}
+use Rattle.dw_base.specs.declared.constants.TheConstants.{DW_FORM_addr, DW_FORM_block2, DW_FORM_block4, DW_FORM_data2, DW_FORM_data4, DW_FORM_data8, DW_FORM_string, DW_FORM_block, DW_FORM_block1, DW_FORM_data1, DW_FORM_flag, DW_FORM_sdata, DW_FORM_strp, DW_FORM_udata, DW_FORM_ref_addr, DW_FORM_ref1, DW_FORM_ref2, DW_FORM_ref4, DW_FORM_ref8, DW_FORM_ref_udata, DW_FORM_indirect, DW_FORM_sec_offset, DW_FORM_exprloc, DW_FORM_flag_present, DW_FORM_strx, DW_FORM_addrx, DW_FORM_ref_sup4, DW_FORM_strp_sup, DW_FORM_data16, DW_FORM_line_strp, DW_FORM_ref_sig8, DW_FORM_implicit_const, DW_FORM_loclistx, DW_FORM_rnglistx, DW_FORM_ref_sup8, DW_FORM_strx1, DW_FORM_strx2, DW_FORM_strx3, DW_FORM_strx4, DW_FORM_addrx1, DW_FORM_addrx2, DW_FORM_addrx3, DW_FORM_addrx4}
 
 -- what stands for an attribute in an entry
 pub data Operand : Type 0 where
@@ -31,7 +32,7 @@ pub data Kind : Type 0 where
 
 -- the form DW_FORM_implicit_const, whose constant stands in the declaration (DWARF 5, 7.5.3)
 abbrev pub implicit_const : ℕ
-implicit_const = 0x21
+implicit_const = DW_FORM_implicit_const.0
 
 -- the width of a place in .debug_info, which version 2 gives that of an address (DWARF 2, 7.5.4)
 abbrev pub info_place_of : Encoding → ℕ
@@ -40,38 +41,49 @@ info_place_of e = if e.version == 2 then e.address_size else word_of e.format
 -- the forms of versions 2 to 5
 abbrev pub kinds : Encoding → List (ℕ × Kind)
 kinds e =
-    -- addr
-    (0x01, Fixed e.address_size)
-    -- block2, block4
-    ∷ (0x03, Block 2) ∷ (0x04, Block 4)
-    -- data2, data4, data8
-    ∷ (0x05, Fixed 2) ∷ (0x06, Fixed 4) ∷ (0x07, Fixed 8)
-    -- string, block, block1
-    ∷ (0x08, Zeroed) ∷ (0x09, UlebBlock) ∷ (0x0a, Block 1)
-    -- data1, flag
-    ∷ (0x0b, Fixed 1) ∷ (0x0c, Fixed 1)
-    -- sdata, strp, udata
-    ∷ (0x0d, Sleb) ∷ (0x0e, Fixed (word_of e.format)) ∷ (0x0f, Uleb)
-    -- ref_addr
-    ∷ (0x10, Fixed (info_place_of e))
-    -- ref1, ref2, ref4, ref8, ref_udata
-    ∷ (0x11, Fixed 1) ∷ (0x12, Fixed 2) ∷ (0x13, Fixed 4) ∷ (0x14, Fixed 8) ∷ (0x15, Uleb)
-    -- indirect, sec_offset
-    ∷ (0x16, Indirect) ∷ (0x17, Fixed (word_of e.format))
-    -- exprloc, flag_present
-    ∷ (0x18, UlebBlock) ∷ (0x19, Empty)
-    -- strx, addrx
-    ∷ (0x1a, Uleb) ∷ (0x1b, Uleb)
-    -- ref_sup4, strp_sup, data16, line_strp
-    ∷ (0x1c, Fixed 4) ∷ (0x1d, Fixed (word_of e.format)) ∷ (0x1e, Fixed 16) ∷ (0x1f, Fixed (word_of e.format))
-    -- ref_sig8, implicit_const
-    ∷ (0x20, Fixed 8) ∷ (0x21, Empty)
-    -- loclistx, rnglistx, ref_sup8
-    ∷ (0x22, Uleb) ∷ (0x23, Uleb) ∷ (0x24, Fixed 8)
-    -- strx1 to strx4
-    ∷ (0x25, Fixed 1) ∷ (0x26, Fixed 2) ∷ (0x27, Fixed 3) ∷ (0x28, Fixed 4)
-    -- addrx1 to addrx4
-    ∷ (0x29, Fixed 1) ∷ (0x2a, Fixed 2) ∷ (0x2b, Fixed 3) ∷ (0x2c, Fixed 4)
+    (DW_FORM_addr.0, Fixed e.address_size)
+    ∷ (DW_FORM_block2.0, Block 2)
+    ∷ (DW_FORM_block4.0, Block 4)
+    ∷ (DW_FORM_data2.0, Fixed 2)
+    ∷ (DW_FORM_data4.0, Fixed 4)
+    ∷ (DW_FORM_data8.0, Fixed 8)
+    ∷ (DW_FORM_string.0, Zeroed)
+    ∷ (DW_FORM_block.0, UlebBlock)
+    ∷ (DW_FORM_block1.0, Block 1)
+    ∷ (DW_FORM_data1.0, Fixed 1)
+    ∷ (DW_FORM_flag.0, Fixed 1)
+    ∷ (DW_FORM_sdata.0, Sleb)
+    ∷ (DW_FORM_strp.0, Fixed (word_of e.format))
+    ∷ (DW_FORM_udata.0, Uleb)
+    ∷ (DW_FORM_ref_addr.0, Fixed (info_place_of e))
+    ∷ (DW_FORM_ref1.0, Fixed 1)
+    ∷ (DW_FORM_ref2.0, Fixed 2)
+    ∷ (DW_FORM_ref4.0, Fixed 4)
+    ∷ (DW_FORM_ref8.0, Fixed 8)
+    ∷ (DW_FORM_ref_udata.0, Uleb)
+    ∷ (DW_FORM_indirect.0, Indirect)
+    ∷ (DW_FORM_sec_offset.0, Fixed (word_of e.format))
+    ∷ (DW_FORM_exprloc.0, UlebBlock)
+    ∷ (DW_FORM_flag_present.0, Empty)
+    ∷ (DW_FORM_strx.0, Uleb)
+    ∷ (DW_FORM_addrx.0, Uleb)
+    ∷ (DW_FORM_ref_sup4.0, Fixed 4)
+    ∷ (DW_FORM_strp_sup.0, Fixed (word_of e.format))
+    ∷ (DW_FORM_data16.0, Fixed 16)
+    ∷ (DW_FORM_line_strp.0, Fixed (word_of e.format))
+    ∷ (DW_FORM_ref_sig8.0, Fixed 8)
+    ∷ (DW_FORM_implicit_const.0, Empty)
+    ∷ (DW_FORM_loclistx.0, Uleb)
+    ∷ (DW_FORM_rnglistx.0, Uleb)
+    ∷ (DW_FORM_ref_sup8.0, Fixed 8)
+    ∷ (DW_FORM_strx1.0, Fixed 1)
+    ∷ (DW_FORM_strx2.0, Fixed 2)
+    ∷ (DW_FORM_strx3.0, Fixed 3)
+    ∷ (DW_FORM_strx4.0, Fixed 4)
+    ∷ (DW_FORM_addrx1.0, Fixed 1)
+    ∷ (DW_FORM_addrx2.0, Fixed 2)
+    ∷ (DW_FORM_addrx3.0, Fixed 3)
+    ∷ (DW_FORM_addrx4.0, Fixed 4)
     ∷ []
 
 abbrev pub kind_among : ℕ → List (ℕ × Kind) → Option Kind

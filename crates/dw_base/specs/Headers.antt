@@ -3,6 +3,7 @@ use Rattle.std.specs.Prelude.{ℕ, ◌+◌, ◌-◌, List, length, Option, Some,
 use Rattle.dw_base.specs.Numbers.{Parser, ◌>>=◌, when, bytes_at, number_at, initial_length_at, word_of, length_size, is_width}
 use Rattle.dw_base.specs.declared.common.Encoding.{Encoding}
 use Rattle.dw_base.specs.declared.common.Format.{Format}
+use Rattle.dw_base.specs.declared.constants.TheConstants.{DW_UT_compile, DW_UT_type, DW_UT_skeleton, DW_UT_split_compile, DW_UT_split_type}
 
 pub record Header : Type 0 where
   pub encoding : Encoding
@@ -15,17 +16,18 @@ pub record Header : Type 0 where
   -- where the type of a type unit stands in it
   pub type_offset : Option ℕ
 
--- the types of unit: compile 1, type 2, partial 3, skeleton 4, split compile 5, split type 6 (DWARF 5, table 7.2)
+-- the types of unit, from compile to split type (DWARF 5, table 7.2)
 abbrev pub is_unit_type : ℕ → Bool
-is_unit_type type = nat_le 1 type && nat_le type 6
+is_unit_type type = nat_le DW_UT_compile.0 type && nat_le type DW_UT_split_type.0
 
 -- a skeleton and a split compile unit have an id, type units a signature (DWARF 5, 7.5.1.2 and 7.5.1.3)
 abbrev pub has_identity : ℕ → Bool
-has_identity type = (type == 2) || (type == 4) || (type == 5) || (type == 6)
+has_identity type =
+    (type == DW_UT_type.0) || (type == DW_UT_skeleton.0) || (type == DW_UT_split_compile.0) || (type == DW_UT_split_type.0)
 
 -- type units have the place of their type (DWARF 5, 7.5.1.3)
 abbrev pub has_type_offset : ℕ → Bool
-has_type_offset type = (type == 2) || (type == 6)
+has_type_offset type = (type == DW_UT_type.0) || (type == DW_UT_split_type.0)
 
 -- eight bytes that only some types of unit have
 abbrev pub identity_at : Bool → ℕ → Parser (Option ℕ)

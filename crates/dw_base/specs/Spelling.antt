@@ -9,11 +9,12 @@ use Rattle.dw_base.specs.Headers.{Header}
 use Rattle.dw_base.specs.Entries.{ReadAttribute, ReadEntry, Mark, Open, Close, Row, next_depth}
 use Rattle.dw_base.specs.Info.{ReadUnit}
 use Rattle.dw_base.specs.declared.common.Encoding.{Encoding}
+use Rattle.dw_base.specs.declared.constants.TheConstants.{DW_UT_compile}
 
--- what follows the version in the header of a compile unit, whose type is 1 from version 5 on
+-- what follows the version in the header of a compile unit, whose type stands there from version 5 on
 abbrev pub after_version : Bool → Encoding → ℕ → List ℕ
 after_version big e table =
-    if e.version == 5 then 1 ∷ e.address_size ∷ num big (word_of e.format) table
+    if e.version == 5 then DW_UT_compile.0 ∷ e.address_size ∷ num big (word_of e.format) table
     else num big (word_of e.format) table ++ e.address_size ∷ []
 
 -- what follows the length in the header of a compile unit
@@ -38,7 +39,7 @@ unit_bytes big e table body = counted big e (fields_bytes big e table ++ body)
 
 -- the type that a header tells from version 5 on, that of a compile unit (DWARF 5, table 7.2)
 abbrev pub unit_type_of : ℕ → Option ℕ
-unit_type_of version = if version == 5 then Some 1 else None
+unit_type_of version = if version == 5 then Some DW_UT_compile.0 else None
 
 -- the header of a compile unit
 abbrev pub compile_header : Encoding → ℕ → Header

@@ -49,7 +49,13 @@ pub struct LineEncoding {
 }
 
 impl Default for LineEncoding {
-    ghost is_default = { λ l. l ≡ record { minimum_instruction_length = 1; maximum_operations_per_instruction = 1; default_is_stmt = true; line_base = negsuc 4; line_range = 14 } };
+    ghost is_default = { λ l. l ≡ record {
+      minimum_instruction_length = 1;
+      maximum_operations_per_instruction = 1;
+      default_is_stmt = true;
+      line_base = negsuc 4;
+      line_range = 14;
+    } };
 
     /// Instructions of one byte and one operation, lines from -5 to 8.
     fn default() -> LineEncoding {

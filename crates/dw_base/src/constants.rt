@@ -741,8 +741,9 @@ pub struct DwOrd(pub u8);
 #[derive(Clone, Copy, Debug, PartialEq, Eq, Hash)]
 pub struct DwAddr(pub u64);
 
-/// How a pointer of `.eh_frame` is encoded: a format in the low four bits, and in the bits 0x70 what
-/// it counts from. The bit 0x80 says that the pointer's place holds the address (Linux Standard Base).
+/// How a pointer of `.eh_frame` is encoded: a format in the low four bits, and in the bits 0x70
+/// what it counts from. The bit 0x80 says that the pointer's place holds the address (Linux
+/// Standard Base).
 #[derive(Clone, Copy, Debug, PartialEq, Eq, Hash)]
 pub struct DwEhPe(pub u8);
 
