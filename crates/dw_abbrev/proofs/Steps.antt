@@ -9,9 +9,9 @@ use Rattle.dw_base.specs.Numbers.{num}
 use Rattle.dw_base.specs.Spelling.{children_byte}
 use Rattle.dw_writer.specs.Texts.{followed}
 use Rattle.dw_writer.specs.Meaning.{Meaning, Adds, AddsSome}
-use Rattle.dw_writer.proofs.Parts.{followed-nothing}
 use Rattle.dw_writer.proofs.Plain.{num-byte}
 use Rattle.dw_writer.proofs.Steps.{told_twice, Adds-then}
+pub use Rattle.dw_writer.proofs.Parts.{Adds-none}
 
 -- some of the first bytes are some of all
 take_of_more : (k : ℕ) (xs ys : List ℕ) → (j : ℕ) × (take j (xs ++ ys) ≡ take k xs)
@@ -39,10 +39,6 @@ AddsSome-then {a} {b} {c} {xs} {ys} p q =
       size = omega (arith, ap length e, length-append xs (take q.count ys));
       told = q.told ∙ ap (λ t. followed t (Some (take q.count ys))) p.told ∙ sym (told_twice a.bytes xs (take q.count ys)) ∙ sym (ap (λ l. followed a.bytes (Some l)) e);
     }
-
--- a call that added nothing
-pub Adds-none : (m : Meaning) → Adds m m []
-Adds-none m = record { same = record { order = refl; kind = refl; faults = omega arith }; size = omega arith; told = sym (followed-nothing m.bytes); records = refl }
 
 module _ {X : Type 0} (f : X → List ℕ) (xs : List X) (i : ℕ) (x : X) (below : i < length xs) (is : x ≡ get_or xs i x) where
   flat_map-take : flat_map f (take (i + 1) xs) ≡ flat_map f (take i xs) ++ f x

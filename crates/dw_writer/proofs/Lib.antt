@@ -8,3 +8,5 @@ pub mod Plain
 pub mod Leb
 pub mod NewLemmas
 pub mod VisitSteps
+pub mod DraftLaws
+pub mod WriteLaws

@@ -20,6 +20,10 @@ unfolding patched
 patched-nothing p None = refl
 patched-nothing p (Some xs) = ap Some (overwrite-none p xs)
 
+-- a call that added nothing
+pub Adds-none : (m : Meaning) → Adds m m []
+Adds-none m = record { same = record { order = refl; kind = refl; faults = omega arith }; size = omega arith; told = sym (followed-nothing m.bytes); records = refl }
+
 -- a call that did nothing
 pub AddsSome-none : (m : Meaning) (bytes : List ℕ) → AddsSome m m bytes
 AddsSome-none m bytes = record { count = 0; size = omega arith; told = sym (followed-nothing m.bytes) }

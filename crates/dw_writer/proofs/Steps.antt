@@ -38,7 +38,7 @@ unfolding followed
 followed-wide n None ys wide zs e = cc
 followed-wide n (Some xs) ys wide zs e = let f : xs ++ ys ≡ zs = cc in let g : length xs ≡ n = wide xs refl in sym (ap length f) ∙ length-append xs ys ∙ ap (λ k. k + length ys) g
 
-followed_texts-wide : (m n : ℕ) (t u : Text) → IsWide m t → IsWide n u → IsWide (m + n) (followed t u)
+pub followed_texts-wide : (m n : ℕ) (t u : Text) → IsWide m t → IsWide n u → IsWide (m + n) (followed t u)
 unfolding followed
 followed_texts-wide m n None u w v zs e = cc
 followed_texts-wide m n (Some xs) None w v zs e = cc

@@ -9,3 +9,4 @@ pub mod SectionTexts
 pub mod Sections
 pub mod New
 pub mod Visits
+pub mod Drafts

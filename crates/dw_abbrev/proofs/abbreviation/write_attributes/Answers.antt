@@ -3,7 +3,8 @@ use Rattle.std.proofs.lemmas.List.Elements.{All-more}
 use Rattle.dw_base.specs.Spelling.{specification_bytes}
 use Rattle.dw_base.specs.Spellable.{IsSpecification}
 use Rattle.dw_writer.proofs.Outcomes.{OnErr-always}
-use Rattle.dw_abbrev.proofs.Steps.{Adds-none, Adds-element, AddsSome-element}
+use Rattle.dw_writer.proofs.Parts.{Adds-none}
+use Rattle.dw_abbrev.proofs.Steps.{Adds-element, AddsSome-element}
 use Rattle.dw_abbrev.proofs.abbreviation.write_attributes.Goals as goal
 
 pub loop-attribute-init : goal.loop-attribute-init

@@ -5,9 +5,10 @@ use Rattle.std.specs.List.{flat_map, All}
 use Rattle.dw_base.specs.Spelling.{declaration_bytes}
 use Rattle.dw_writer.specs.Meaning.{Adds}
 use Rattle.dw_writer.proofs.Outcomes.{OnErr-always}
+use Rattle.dw_writer.proofs.Parts.{Adds-none}
 use Rattle.dw_writer.proofs.Steps.{Adds-then}
 use Rattle.dw_abbrev.specs.Codes.{declarations, IsShape}
-use Rattle.dw_abbrev.proofs.Steps.{Adds-none, Adds-element, AddsSome-more, AddsSome-then, AddsSome-element}
+use Rattle.dw_abbrev.proofs.Steps.{Adds-element, AddsSome-more, AddsSome-then, AddsSome-element}
 use Rattle.dw_abbrev.proofs.Again.{numbered_at, length-numbered, declarations_are}
 use Rattle.dw_abbrev.proofs.table.write_declarations.Goals as goal
 
