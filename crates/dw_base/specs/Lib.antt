@@ -10,3 +10,4 @@ pub mod Entries
 pub mod Info
 pub mod Spelling
 pub mod Spellable
+pub mod Faults

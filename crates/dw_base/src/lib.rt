@@ -7,6 +7,7 @@ mod common;
 pub mod constants;
 mod endianity;
 mod error;
+mod faults;
 mod ids;
 mod leb128;
 mod offsets;
@@ -20,6 +21,7 @@ pub use constants::{
 };
 pub use endianity::{BigEndian, Endianity, LittleEndian, RunTimeEndian};
 pub use error::{Error, Result};
+pub use faults::{FaultPlan, one_fault_more};
 pub use ids::{
     CieId, DirectoryId, FileId, LineStringId, LocationListId, RangeListId, StringId, UnitEntryId,
     UnitId,
