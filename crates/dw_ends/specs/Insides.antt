@@ -5,6 +5,7 @@ use Rattle.dw_ends.specs.declared.source.SliceSource.{SliceSource}
 use Rattle.dw_ends.specs.declared.source.StdinSource.{StdinSource}
 use Rattle.dw_ends.specs.declared.sink.FailingSink.{FailingSink}
 use Rattle.dw_ends.specs.declared.sink.StdoutSink.{StdoutSink}
+use Rattle.dw_ends.specs.declared.sink.VecSink.{VecSink}
 use Rattle.std.specs.Prelude.{Some, None}
 use Rattle.dw_ends.specs.Ends.{Input, Intake}
 use Rattle.dw_ends.specs.Plan.{Plan}
@@ -25,9 +26,13 @@ source_input source = record { left = Some source.rest.now; faults = source.plan
 abbrev pub source_plan : FailingSource → Plan
 source_plan source = plan_of source.plan
 
+-- what a sink in memory has taken: it tells all of it, and counts no fault
+abbrev pub vec_intake : VecSink → Intake
+vec_intake sink = record { taken = Some sink.bytes.items; faults = 0 }
+
 -- what a failing sink has taken: it tells all of it
 abbrev pub sink_intake : FailingSink → Intake
-sink_intake sink = record { taken = Some sink.bytes.items; faults = sink.plan.faults }
+sink_intake sink = record { taken = Some sink.sink.bytes.items; faults = sink.plan.faults }
 
 -- which writes are to fail
 abbrev pub sink_plan : FailingSink → Plan

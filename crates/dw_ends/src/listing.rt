@@ -24,13 +24,19 @@ fn push_hex(text: &mut Vec<u8>, bytes: &[u8]) -> Result<(), AllocError>
     if bytes.is_empty() {
         return Ok(());
     }
-    let digits = hex::encode(*text.allocator(), bytes)?;
     text.push(b' ')?;
-    text.extend_from_slice(digits.as_bytes())
+    let digits = bytes.len() * 2;
+    text.reserve(digits)?;
+    let start = text.len();
+    text.resize(start + digits, b'0')?;
+    match hex::encode_to_slice(bytes, &mut text[start..]) {
+        Ok(()) => Ok(()),
+        Err(_) => unreachable!(),
+    }
 }
 
-/// Appends a section's line: its name, its length and its bytes in hex. Where memory runs out, a front
-/// of the line may stay in `text`.
+/// Appends a section's line: its name, its length and its bytes in hex. Where memory runs out, a
+/// front of the line may stay in `text`.
 pub fn push_section(text: &mut Vec<u8>, name: &str, bytes: &[u8]) -> Result<(), AllocError>
     ensures ok { OnOk result (text.new.items ≡ text.old.items ++ section_line name.now bytes.now) }
     ensures err { OnErr result (StartsWith text.new.items text.old.items) }

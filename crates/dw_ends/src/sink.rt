@@ -1,6 +1,6 @@
 //! Where text goes.
 
-ghost use Rattle.std.specs.Prelude.{◌≡◌, ◌<◌, ◌≤◌, ◌↔◌, ◌⊎◌, [], length, take, Some, None, Ok, IfOk, OnOk, OnErr, IsErrOf};
+ghost use Rattle.std.specs.Prelude.{◌≡◌, ◌<◌, ◌≤◌, ◌↔◌, ◌⊎◌, [], length, take, Some, None, Ok, IfOk, IfErr, OnOk, OnErr, IsErrOf};
 ghost use Rattle.dw_ends.specs.declared.sink.SinkError.TheVariants.{NoMemory};
 ghost use Rattle.std.specs.Io.KnownBytes.{WriteAppends};
 ghost use Rattle.dw_ends.specs.Plan.{FailsNext, after_call};
@@ -52,9 +52,11 @@ pub struct VecSink {
 }
 
 impl VecSink {
+    ghost use Rattle.dw_ends.specs.Insides.{vec_intake};
+
     /// A sink that has taken nothing yet. Its bytes are to stand in memory of `alloc`.
     pub fn new(alloc: Global) -> VecSink
-        ensures { ⟦<VecSink as Sink>⟧.intake result ≡ record { taken = Some []; faults = 0 } }
+        ensures { vec_intake result ≡ record { taken = Some []; faults = 0 } }
     {
         VecSink {
             bytes: Vec::new(alloc),
@@ -63,26 +65,34 @@ impl VecSink {
 
     /// The bytes taken.
     pub fn slice(&self) -> &[u8]
-        ensures { (⟦<VecSink as Sink>⟧.intake self.now).taken ≡ Some result.now }
+        ensures { (vec_intake self.now).taken ≡ Some result.now }
     {
         self.bytes.as_slice()
     }
 }
 
 impl Sink for VecSink {
-    ghost intake = { λ s. record { taken = Some s.bytes.items; faults = 0 } };
+    ghost use Rattle.dw_ends.specs.Insides.{vec_intake};
 
-    fn write(&mut self, bytes: &[u8]) -> Result<usize, SinkError> {
+    ghost intake = { vec_intake };
+
+    fn write(&mut self, bytes: &[u8]) -> Result<usize, SinkError>
+        ensures whole { IfOk result (λ n. n ≡ length bytes.now) }
+        ensures taken { OnOk result
+            ((vec_intake self.new).taken ≡ with_after (vec_intake self.old).taken bytes.now) }
+        ensures unchanged { OnErr result (vec_intake self.new ≡ vec_intake self.old) }
+        ensures memory { IfErr result (λ e. e ≡ SinkError.NoMemory) }
+    {
         self.bytes.extend_from_slice(bytes)?;
         Ok(bytes.len())
     }
 }
 
-/// A sink in memory that fails at chosen calls of `write`, which are counted from 0. A call that fails
-/// takes nothing.
+/// A sink in memory that fails at chosen calls of `write`, which are counted from 0. A call that
+/// fails takes nothing.
 #[derive(Drop)]
 pub struct FailingSink {
-    bytes: Vec<u8>,
+    sink: VecSink,
     plan: FaultPlan,
 }
 
@@ -95,7 +105,7 @@ impl FailingSink {
         ensures plan { sink_plan result ≡ record { failing = failing.items; calls = 0 } }
     {
         FailingSink {
-            bytes: Vec::new(alloc),
+            sink: VecSink::new(alloc),
             plan: FaultPlan::new(failing),
         }
     }
@@ -104,7 +114,7 @@ impl FailingSink {
     pub fn slice(&self) -> &[u8]
         ensures { (sink_intake self.now).taken ≡ Some result.now }
     {
-        self.bytes.as_slice()
+        self.sink.slice()
     }
 }
 
@@ -122,13 +132,16 @@ impl Sink for FailingSink {
 
         ensures fits { IfOk result (λ n. n ≤ length bytes.now) }
         ensures taken { IfOk result (λ n.
-            (sink_intake self.new).taken ≡ with_after (sink_intake self.old).taken (take n bytes.now)) }
-        ensures unchanged { OnErr result ((sink_intake self.new).taken ≡ (sink_intake self.old).taken) }
+            (sink_intake self.new).taken
+            ≡ with_after (sink_intake self.old).taken (take n bytes.now)) }
+        ensures unchanged { OnErr result
+            ((sink_intake self.new).taken ≡ (sink_intake self.old).taken) }
 
         ensures chosen { IsErrOf result SinkError.Failed ↔ FailsNext (sink_plan self.old) }
         ensures counted { sink_plan self.new ≡ after_call (sink_plan self.old) }
         ensures whole { IfOk result (λ n. n ≡ length bytes.now) }
-        ensures quiet { OnOk result ((sink_intake self.new).faults ≡ (sink_intake self.old).faults) }
+        ensures quiet { OnOk result
+            ((sink_intake self.new).faults ≡ (sink_intake self.old).faults) }
         ensures memory { IsErrOf result SinkError.NoMemory →
             (sink_intake self.new).faults ≡ (sink_intake self.old).faults }
         ensures once { IsErrOf result SinkError.Failed →
@@ -137,13 +150,12 @@ impl Sink for FailingSink {
         if self.plan.next_fails() {
             return Err(SinkError::Failed);
         }
-        self.bytes.extend_from_slice(bytes)?;
-        Ok(bytes.len())
+        self.sink.write(bytes)
     }
 }
 
-/// Standard output by `io::writer(&rt)`, or another writer that keeps nothing back: nothing flushes it.
-/// It tells no bytes.
+/// Standard output by `io::writer(&rt)`, or another writer that keeps nothing back: nothing flushes
+/// it. It tells no bytes.
 #[derive(Drop)]
 pub struct StdoutSink<W> {
     writer: W,
@@ -177,12 +189,13 @@ impl<W: Write> Sink for StdoutSink<W> {
         ensures fits { IfOk result (λ n. n ≤ length bytes.now) }
 
         // Where the writer tells its bytes, they are the ones that were passed on.
-        ensures passed { WriteAppends (W.contents (writer_of self.old)) (W.contents (writer_of self.new))
-            result bytes.now }
+        ensures passed { WriteAppends
+            (W.contents (writer_of self.old)) (W.contents (writer_of self.new)) result bytes.now }
 
         ensures quiet { IfOk result (λ n. (0 < n) ⊎ (bytes.now ≡ []) →
             (writer_intake self.new).faults ≡ (writer_intake self.old).faults) }
-        ensures counted { OnErr result ((writer_intake self.new).faults ≡ one_higher (writer_intake self.old).faults) }
+        ensures counted { OnErr result
+            ((writer_intake self.new).faults ≡ one_higher (writer_intake self.old).faults) }
         ensures counted_stuck { result ≡ Ok 0 → 0 < length bytes.now →
             (writer_intake self.new).faults ≡ one_higher (writer_intake self.old).faults }
         ensures no_memory { IsErrOf result SinkError.NoMemory → ⊥ }

@@ -65,11 +65,14 @@ impl<'a> Source for SliceSource<'a> {
 
     fn read(&mut self, buffer: &mut [u8]) -> Result<usize, Failed>
         ensures faults { (slice_input self.old).faults ≤ (slice_input self.new).faults }
-        ensures failed { OnErr result (HasRisen (slice_input self.old).faults (slice_input self.new).faults) }
+        ensures failed { OnErr result
+            (HasRisen (slice_input self.old).faults (slice_input self.new).faults) }
 
         ensures fits { IfOk result (λ n. n ≤ length buffer.new) }
-        ensures left { IfOk result (λ n. (slice_input self.new).left ≡ without n (slice_input self.old).left) }
-        ensures enough { IfOk result (λ n. IfSome (slice_input self.old).left (λ xs. n ≤ length xs)) }
+        ensures left { IfOk result (λ n.
+            (slice_input self.new).left ≡ without n (slice_input self.old).left) }
+        ensures enough { IfOk result (λ n.
+            IfSome (slice_input self.old).left (λ xs. n ≤ length xs)) }
         ensures moved { IfOk result (λ n. IfSome (slice_input self.old).left (λ xs.
             take n buffer.new ≡ take n xs)) }
         ensures end { result ≡ Ok 0 → 0 < length buffer.new →
@@ -85,7 +88,7 @@ impl<'a> Source for SliceSource<'a> {
     }
 }
 
-/// The bytes of a slice, by a source that fails at chosen calls of `read`, which are counted from 0.
+/// The bytes of a slice, by a source that fails at chosen calls of `read`, counted from 0.
 /// A call that fails moves nothing.
 #[derive(Drop)]
 pub struct FailingSource<'a> {
@@ -115,11 +118,14 @@ impl<'a> Source for FailingSource<'a> {
 
     fn read(&mut self, buffer: &mut [u8]) -> Result<usize, Failed>
         ensures faults { (source_input self.old).faults ≤ (source_input self.new).faults }
-        ensures failed { OnErr result (HasRisen (source_input self.old).faults (source_input self.new).faults) }
+        ensures failed { OnErr result
+            (HasRisen (source_input self.old).faults (source_input self.new).faults) }
 
         ensures fits { IfOk result (λ n. n ≤ length buffer.new) }
-        ensures left { IfOk result (λ n. (source_input self.new).left ≡ without n (source_input self.old).left) }
-        ensures enough { IfOk result (λ n. IfSome (source_input self.old).left (λ xs. n ≤ length xs)) }
+        ensures left { IfOk result (λ n.
+            (source_input self.new).left ≡ without n (source_input self.old).left) }
+        ensures enough { IfOk result (λ n.
+            IfSome (source_input self.old).left (λ xs. n ≤ length xs)) }
         ensures moved { IfOk result (λ n. IfSome (source_input self.old).left (λ xs.
             take n buffer.new ≡ take n xs)) }
         ensures end { result ≡ Ok 0 → 0 < length buffer.new →
@@ -127,9 +133,12 @@ impl<'a> Source for FailingSource<'a> {
 
         ensures chosen { IsErr result ↔ FailsNext (source_plan self.old) }
         ensures counted { source_plan self.new ≡ after_call (source_plan self.old) }
-        ensures unchanged { OnErr result ((source_input self.new).left ≡ (source_input self.old).left) }
-        ensures quiet { OnOk result ((source_input self.new).faults ≡ (source_input self.old).faults) }
-        ensures once { OnErr result ((source_input self.new).faults ≡ one_higher (source_input self.old).faults) }
+        ensures unchanged { OnErr result
+            ((source_input self.new).left ≡ (source_input self.old).left) }
+        ensures quiet { OnOk result
+            ((source_input self.new).faults ≡ (source_input self.old).faults) }
+        ensures once { OnErr result
+            ((source_input self.new).faults ≡ one_higher (source_input self.old).faults) }
         ensures full { IfOk result (λ n. IfSome (source_input self.old).left (λ xs.
             n ≡ min (length xs) (length buffer.new))) }
     {
@@ -168,16 +177,20 @@ impl<R: Read> Source for StdinSource<R> {
 
     fn read(&mut self, buffer: &mut [u8]) -> Result<usize, Failed>
         ensures faults { (reader_input self.old).faults ≤ (reader_input self.new).faults }
-        ensures failed { OnErr result (HasRisen (reader_input self.old).faults (reader_input self.new).faults) }
+        ensures failed { OnErr result
+            (HasRisen (reader_input self.old).faults (reader_input self.new).faults) }
 
         ensures fits { IfOk result (λ n. n ≤ length buffer.new) }
 
         // Where the reader tells its bytes, they are the ones that are passed on.
-        ensures passed { ReadConsumes (R.remaining (reader_of self.old)) (R.remaining (reader_of self.new))
+        ensures passed { ReadConsumes
+            (R.remaining (reader_of self.old)) (R.remaining (reader_of self.new))
             result buffer.new }
 
-        ensures quiet { OnOk result ((reader_input self.new).faults ≡ (reader_input self.old).faults) }
-        ensures counted { OnErr result ((reader_input self.new).faults ≡ one_higher (reader_input self.old).faults) }
+        ensures quiet { OnOk result
+            ((reader_input self.new).faults ≡ (reader_input self.old).faults) }
+        ensures counted { OnErr result
+            ((reader_input self.new).faults ≡ one_higher (reader_input self.old).faults) }
     {
         match self.reader.read(buffer) {
             Ok(count) => Ok(count),

@@ -53,8 +53,8 @@ fn make_room(bytes: &mut Vec<u8>, more: usize, limit: usize) -> Result<(), Alloc
     bytes.reserve_exact(doubled.max(held + more) - held)
 }
 
-/// Reads a source to its end, where that comes within `limit` bytes. What was read before an error is
-/// lost.
+/// Reads a source to its end, where that comes within `limit` bytes. What was read before an error
+/// is lost.
 pub fn read_all<S: Source>(
     alloc: Global,
     source: &mut S,
@@ -62,7 +62,8 @@ pub fn read_all<S: Source>(
 ) -> Result<Vec<u8>, ReadAllError>
     ensures faults { (S.input source.old).faults ≤ (S.input source.new).faults }
     ensures within { IfOk result (λ bytes. vec_len bytes ≤ limit) }
-    ensures whole { IfOk result (λ bytes. IfSome (S.input source.old).left (λ xs. bytes.items ≡ xs)) }
+    ensures whole { IfOk result (λ bytes.
+        IfSome (S.input source.old).left (λ xs. bytes.items ≡ xs)) }
     ensures ended { OnOk result ((S.input source.new).left ≡ used_up (S.input source.old).left) }
 
     ensures too_long { IsErrOf result ReadAllError.TooLong →
@@ -85,12 +86,14 @@ pub fn read_all<S: Source>(
     }
 }
 
-/// Writes a whole text to a sink, in as many writes as the sink asks for. A write that takes nothing
-/// ends it as a failed one does.
+/// Writes a whole text to a sink, in as many writes as the sink asks for. A write that takes
+/// nothing ends it as a failed one does.
 pub fn write_all<K: Sink>(sink: &mut K, text: &[u8]) -> Result<(), SinkError>
     ensures faults { (K.intake sink.old).faults ≤ (K.intake sink.new).faults }
-    ensures ok { OnOk result ((K.intake sink.new).taken ≡ with_after (K.intake sink.old).taken text.now) }
-    ensures err { OnErr result (TakesPrefix (K.intake sink.old).taken (K.intake sink.new).taken text.now) }
+    ensures ok { OnOk result
+        ((K.intake sink.new).taken ≡ with_after (K.intake sink.old).taken text.now) }
+    ensures err { OnErr result
+        (TakesPrefix (K.intake sink.old).taken (K.intake sink.new).taken text.now) }
     ensures failed { IsErrOf result SinkError.Failed →
         HasRisen (K.intake sink.old).faults (K.intake sink.new).faults }
 {
