@@ -1,8 +1,19 @@
-//! Whole DWARF: units, written into the sections of a file.
+//! Whole DWARF: units, written into the sections of a file. The names that a first program needs
+//! are all offered here, so that it names this crate alone.
 #![tactic(auto)]
 
 mod dwarf;
 #[cfg(test)]
 mod tests;
 
+pub use dw_base::constants;
+pub use dw_base::{
+    BigEndian, DwAt, DwAte, DwForm, DwLang, DwTag, Encoding, Endianity, Error, Format,
+    LittleEndian, Result, RunTimeEndian, SectionId, UnitEntryId, UnitId,
+};
+pub use dw_unit::{
+    AttrMut, Attribute, AttributeValue, AttributeWalk, AttrsMut, DebuggingInformationEntry,
+    EntryMut, LineProgram, Unit, UnitTable,
+};
+pub use dw_writer::{Bytes, EndianVec, Section, Sections, Writer};
 pub use dwarf::Dwarf;
