@@ -11,3 +11,4 @@ pub mod Info
 pub mod Spelling
 pub mod Spellable
 pub mod Faults
+pub mod Pointers

@@ -19,7 +19,7 @@ use Rattle.dw_unit.specs.UnitText.{fields_text, unit_length, unit_text}
 
 -- every section starts at 0, and there are no symbols
 abbrev pub at_zero : Layout
-at_zero = record { starts = []; symbols = [] }
+at_zero = record { starts = []; own_start = 0; symbols = [] }
 
 -- a plain writer's bytes are its resolved bytes
 pub resolved-plain : (m : Meaning) → m.is_plain ≡ true → m.records ≡ [] → resolved at_zero m ≡ m.bytes

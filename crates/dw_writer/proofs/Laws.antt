@@ -1,12 +1,17 @@
 -- Laws of texts, and of records that are put into them.
-use Rattle.std.specs.Prelude.{◌≡◌, ℕ, suc, zero, ◌+◌, ◌≤◌, Bool, true, false, ◌&&◌, not, List, [], ◌∷◌, ◌++◌, length, take, drop, Option, Some, None, refl, ℤ, pos, negsuc, ◌+ℤ◌, IsTrue, if◌then◌else◌}
+use Rattle.std.specs.Prelude.{◌≡◌, ◌==◌, ℕ, suc, zero, ◌+◌, ◌≤◌, Bool, true, false, ◌&&◌, not, List, [], ◌∷◌, ◌++◌, length, take, drop, Option, Some, None, refl, ℤ, pos, negsuc, ◌+ℤ◌, IsTrue, if◌then◌else◌}
 use Rattle.std.specs.Int.{bytes_low_first, bytes_high_first}
 use Rattle.std.proofs.Common.{sym, ◌∙◌, ap, subst, inl, inr, arith, length-append, length-drop, append_assoc}
 use Rattle.std.proofs.lemmas.Bool.Decides.{nat_tests}
 use Rattle.std.proofs.lemmas.List.{take-append-le, drop-append-le}
-use Rattle.dw_base.specs.Numbers.{num, is_width, fits, high_first, low_first}
+use Rattle.dw_base.specs.Numbers.{◌>>=◌, when, num, is_width, fits, high_first, low_first}
+use Rattle.dw_base.specs.Pointers.{format_of, application_of, from_zero, from_place, pointer_width, is_signed, signed_of, distance}
+use Rattle.dw_base.specs.declared.constants.DwEhPe.{DwEhPe}
 use Rattle.dw_writer.specs.Texts.{Text, followed, num_text, int_text, overwrite, patched}
-use Rattle.dw_writer.specs.Resolved.{number_at_place, record_text, put_record, put_records, resolved}
+use Rattle.dw_writer.specs.SignedNumbers.{signed_fits, signed_num, twos_complement}
+use Rattle.dw_writer.specs.Layout.{is_symbol}
+use Rattle.dw_writer.specs.Pointers.{signed_text, address_of, formatted, pointer_text}
+use Rattle.dw_writer.specs.Resolved.{sum_text, number_at_place, record_text, put_record, put_records, resolved}
 use Rattle.dw_writer.specs.Meaning.{Layout, Meaning, target_value, is_inside, IsApart, AllInside, AllApart, IsTidy, IsClear, is_at_zero}
 use Rattle.dw_writer.specs.declared.relocate.Relocation.{Relocation}
 use Rattle.dw_writer.proofs.Places.{length-overwrite, overwrite-append, overwrite-apart, part-before, drop-overwrite}
@@ -55,14 +60,48 @@ unfolding int_text
 length-int_text big w (pos n) xs e = length-num_text big w n xs e
 length-int_text big w (negsuc n) xs e = cc
 
-length-record_by : (big : Bool) (w : ℕ) (z : ℤ) (v : Option ℕ) (xs : List ℕ) →
-    ◌≡◌ {A = Text} (elim v [ None ↦ None | Some n ↦ int_text big w (z +ℤ pos n) ]) (Some xs) → length xs ≡ w
-length-record_by big w z None xs e = cc
-length-record_by big w z (Some n) xs e = length-int_text big w (z +ℤ pos n) xs e
+when_some : (b : Bool) (t : Text) (xs : List ℕ) → when b t ≡ Some xs → t ≡ Some xs
+when_some true t xs e = e
+when_some false t xs e = cc
+
+length-signed_text : (big : Bool) (w : ℕ) (z : ℤ) (xs : List ℕ) → signed_text big w z ≡ Some xs → length xs ≡ w
+unfolding signed_text signed_num
+length-signed_text big w z xs e =
+    sym (ap length (some_if (is_width w && signed_fits w z) (num big w (twos_complement w z)) xs e)) ∙ length-num big w (twos_complement w z)
+
+length-either : (b : Bool) (t u : Text) (xs : List ℕ) (w : ℕ) → (t ≡ Some xs → length xs ≡ w) → (u ≡ Some xs → length xs ≡ w) →
+    ◌≡◌ {A = Text} (if b then t else u) (Some xs) → length xs ≡ w
+length-either true t u xs w f g e = f e
+length-either false t u xs w f g e = g e
+
+length-bound : {A : Type 0} (o : Option A) (f : A → Text) (xs : List ℕ) (w : ℕ) → ((x : A) → f x ≡ Some xs → length xs ≡ w) →
+    ◌≡◌ {A = Text} (o >>= f) (Some xs) → length xs ≡ w
+length-bound None f xs w h e = cc
+length-bound (Some x) f xs w h e = h x e
+
+length-formatted : (big : Bool) (w format n : ℕ) (xs : List ℕ) → formatted big w format n ≡ Some xs → length xs ≡ w
+unfolding formatted
+length-formatted big w format n xs e =
+    length-bound (pointer_width w format) _ xs w
+    (λ k d. length-either (is_signed format) _ _ xs w (length-signed_text big w (signed_of n) xs) (length-num_text big w n xs) (when_some (k == w) _ xs d)) e
+
+pub length-pointer_text : (big : Bool) (w encoding place n : ℕ) (xs : List ℕ) → pointer_text big w encoding place n ≡ Some xs → length xs ≡ w
+unfolding pointer_text
+length-pointer_text big w encoding place n xs e =
+    length-either (application_of encoding == from_zero) _ _ xs w (length-formatted big w (format_of encoding) n xs)
+    (length-either (application_of encoding == from_place) _ _ xs w (length-formatted big w (format_of encoding) (distance place n) xs) (λ d. cc)) e
+
+length-sum_text : (big : Bool) (w place : ℕ) (is_symbolic : Bool) (o : Option DwEhPe) (z : ℤ) (xs : List ℕ) → sum_text big w place is_symbolic o z ≡ Some xs → length xs ≡ w
+unfolding sum_text
+length-sum_text big w place is_symbolic None z xs e = length-int_text big w z xs e
+length-sum_text big w place is_symbolic (Some encoding) z xs e =
+    length-bound (address_of z) _ xs w (λ n. length-pointer_text big w encoding.0 place n xs) (when_some is_symbolic _ xs e)
 
 pub length-record_text : (big : Bool) (l : Layout) (r : Relocation) (n : ℕ) (xs : List ℕ) → record_text big l r n ≡ Some xs → length xs ≡ r.size
 unfolding record_text
-length-record_text big l r n xs e = length-record_by big r.size (pos n +ℤ r.addend) (target_value l r.target) xs e
+length-record_text big l r n xs e =
+    length-bound (target_value l r.target) _ xs r.size
+    (λ v. length-sum_text big r.size (l.own_start + r.offset) (is_symbol r.target) r.eh_pe (pos n +ℤ r.addend +ℤ pos v) xs) e
 
 -- Records
 

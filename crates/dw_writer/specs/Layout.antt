@@ -25,9 +25,11 @@ section_number DebugMacinfo = 13
 section_number DebugMacro = 14
 section_number DebugAranges = 15
 
--- the starts of sections, by their numbers, and the values of symbols
+-- Where what the writers have written starts in the sections, by their numbers, where the writer's own part starts in
+-- its section, and the values of symbols. Only pointers that count from their own place look at the second.
 pub record Layout : Type 0 where
   pub starts : List ℕ
+  pub own_start : ℕ
   pub symbols : List ℕ
 
 -- where a section starts; one that isn't listed starts at 0
@@ -46,3 +48,8 @@ is_at_zero l = list_all is_zero l.starts
 abbrev pub target_value : Layout → RelocationTarget → Option ℕ
 target_value l (Symbol n) = slice_get l.symbols n
 target_value l (Section s) = Some (start_of l s)
+
+-- a target is a symbol
+abbrev pub is_symbol : RelocationTarget → Bool
+is_symbol (Symbol n) = true
+is_symbol (Section s) = false

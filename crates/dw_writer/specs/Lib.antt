@@ -1,5 +1,6 @@
 pub mod Texts
 pub mod SignedNumbers
+pub mod Pointers
 pub mod Layout
 pub mod Contents
 pub mod Resolved
