@@ -29,7 +29,7 @@ take-past k (x ∷ xs) ys =
 pub AddsSome-more : {a b : Meaning} (xs ys : List ℕ) → AddsSome a b xs → AddsSome a b (xs ++ ys)
 AddsSome-more {a} {b} xs ys p =
     let r = take_of_more p.count xs ys in
-    record { count = r.0; size = p.size ∙ sym (ap (λ l. a.size + length l) r.1); told = p.told ∙ sym (ap (λ l. followed a.bytes (Some l)) r.1) }
+    record { count = r.0; size = p.size ∙ sym (ap (λ l. a.size + length l) r.1); told = p.told ∙ sym (ap (λ l. followed a.bytes (Some l)) r.1); records = p.records }
 
 pub AddsSome-then : {a b c : Meaning} {xs ys : List ℕ} → Adds a b xs → AddsSome b c ys → AddsSome a c (xs ++ ys)
 AddsSome-then {a} {b} {c} {xs} {ys} p q =
@@ -38,6 +38,7 @@ AddsSome-then {a} {b} {c} {xs} {ys} p q =
       count = length xs + q.count;
       size = omega (arith, ap length e, length-append xs (take q.count ys));
       told = q.told ∙ ap (λ t. followed t (Some (take q.count ys))) p.told ∙ sym (told_twice a.bytes xs (take q.count ys)) ∙ sym (ap (λ l. followed a.bytes (Some l)) e);
+      records = q.records ∙ p.records;
     }
 
 module _ {X : Type 0} (f : X → List ℕ) (xs : List X) (i : ℕ) (x : X) (below : i < length xs) (is : x ≡ get_or xs i x) where

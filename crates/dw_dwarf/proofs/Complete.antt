@@ -11,7 +11,7 @@ use Rattle.dw_base.specs.declared.error.Error.TheVariants.{NoMemory, WriteFault,
 use Rattle.dw_writer.specs.Contents.{Meaning}
 use Rattle.dw_writer.specs.Causes.{offset_fits}
 use Rattle.dw_writer.specs.New.{IsNewPlain}
-use Rattle.dw_writer.specs.Sections.{fault_sum}
+use Rattle.dw_writer.specs.Sections.{SomeHasRisen}
 use Rattle.dw_writer.specs.declared.sections.Sections.{Sections}
 use Rattle.dw_unit.specs.UnitValue.{UnitValue}
 use Rattle.dw_unit.specs.Whole.{settled}
@@ -29,9 +29,9 @@ valid_at us k u valid within at = subst IsWritable at (valid k u within)
 
 module _ {W : Type 0} where
   unit_complete : (meaning : W → Meaning) (big : Bool) (old new : Sections W) (u : UnitValue) → IsNewPlain meaning big old → IsWritable u →
-      fault_sum meaning new ≤ fault_sum meaning old → (e : Error) → UnitRefused meaning old new u e → e ≡ NoMemory
+      (SomeHasRisen meaning old new → ⊥) → (e : Error) → UnitRefused meaning old new u e → e ≡ NoMemory
   unit_complete meaning big old new u empty valid calm NoMemory r = refl
-  unit_complete meaning big old new u empty valid calm WriteFault r = absurd (omega (arith, r, calm))
+  unit_complete meaning big old new u empty valid calm WriteFault r = absurd (calm r)
   unit_complete meaning big old new u empty valid calm ValueTooLarge r =
       absurd (not_both _ (place_fits _ u.encoding.format _ empty.writers.debug_info.plain empty.writers.debug_abbrev.size) r)
   unit_complete meaning big old new u empty valid calm InvalidAttributeValue r = absurd (not_both _ valid.spelled r)
@@ -46,6 +46,6 @@ module _ {W : Type 0} where
   unit_complete meaning big old new u empty valid calm _ r = absurd r
 
   pub write_complete : (meaning : W → Meaning) (big : Bool) (old new : Sections W) (us : List UnitValue) → IsNewPlain meaning big old → IsValid us →
-      fault_sum meaning new ≤ fault_sum meaning old → (e : Error) → UnitsRefused meaning old new us e → e ≡ NoMemory
+      (SomeHasRisen meaning old new → ⊥) → (e : Error) → UnitsRefused meaning old new us e → e ≡ NoMemory
   write_complete meaning big old new us empty valid calm e r =
       unit_complete meaning big old new r.1 empty (valid_at us r.0 r.1 valid r.2 r.3) calm e r.4.1

@@ -3,7 +3,7 @@
 ghost use Rattle.std.specs.Prelude.{◌≡◌, ◌⊎◌, ◌≤◌, Bool, [], length, map, OnOk, OnErr, IfErr};
 ghost use Rattle.dw_base.specs.declared.error.Error.TheVariants.{NoMemory};
 ghost use Rattle.dw_writer.specs.New.{IsNewPlain};
-ghost use Rattle.dw_writer.specs.Sections.{fault_sum, NoFixups};
+ghost use Rattle.dw_writer.specs.Sections.{SomeHasRisen, fault_sum, NoFixups};
 ghost use Rattle.dw_unit.specs.Whole.{settled, written};
 ghost use Rattle.dw_unit.specs.Written.{AppendsUnits};
 ghost use Rattle.dw_unit.specs.Causes.{UnitsRefused};
@@ -60,7 +60,7 @@ impl Dwarf {
         ensures err { IfErr result (UnitsRefused W.meaning sections.old sections.new self.old.units) }
         ensures kept { OnErr result ((self.new ≡ self.old) ⊎ (self.new ≡ record self.old { units = map settled self.old.units })) }
         // A valid unit is refused over new plain sections only for want of memory, or by a fault that was counted.
-        ensures complete { (big : Bool) → IsNewPlain W.meaning big sections.old → IsValid self.old.units → fault_sum W.meaning sections.new ≤ fault_sum W.meaning sections.old → IfErr result (λ e. e ≡ NoMemory) }
+        ensures complete { (big : Bool) → IsNewPlain W.meaning big sections.old → IsValid self.old.units → (SomeHasRisen W.meaning sections.old sections.new → ⊥) → IfErr result (λ e. e ≡ NoMemory) }
 
         ensures others { sections.new ≡ record sections.old { debug_abbrev = sections.new.debug_abbrev; debug_info = sections.new.debug_info; debug_info_fixups = sections.new.debug_info_fixups; debug_loc_fixups = sections.new.debug_loc_fixups; debug_loclists_fixups = sections.new.debug_loclists_fixups } }
         ensures faults { fault_sum W.meaning sections.old ≤ fault_sum W.meaning sections.new }

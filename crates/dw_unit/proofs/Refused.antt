@@ -1,10 +1,10 @@
 -- Why a unit is refused whose entries are.
-use Rattle.std.proofs.Common.{◌≡◌, ◌<◌, subst, List}
+use Rattle.std.proofs.Common.{◌≡◌, subst, List}
 use Rattle.dw_base.specs.declared.common.Encoding.{Encoding}
 use Rattle.dw_base.specs.declared.error.Error.{Error}
 use Rattle.dw_base.specs.declared.error.Error.TheVariants.{NoMemory, WriteFault, ValueTooLarge, InvalidAttributeValue, InvalidReference, InitialLengthOverflow}
 use Rattle.dw_writer.specs.Contents.{Meaning}
-use Rattle.dw_writer.specs.Sections.{fault_sum}
+use Rattle.dw_writer.specs.Sections.{SomeHasRisen}
 use Rattle.dw_writer.specs.declared.sections.Sections.{Sections}
 use Rattle.dw_unit.specs.Entries.{EntryValue}
 use Rattle.dw_unit.specs.UnitValue.{UnitValue}
@@ -13,7 +13,7 @@ use Rattle.dw_unit.specs.Valid.{IsWritableTree, IsWritable}
 use Rattle.dw_unit.specs.Causes.{TreeRefused, UnitRefused}
 
 module _ {W : Type 0} (meaning : W → Meaning) (old new : Sections W) (u : UnitValue) where
-  settled_refused : (error : Error) → TreeRefused (fault_sum meaning old < fault_sum meaning new) (meaning old.debug_info.0).is_plain (meaning old.debug_abbrev.0).size u.encoding (settled u).entries error →
+  settled_refused : (error : Error) → TreeRefused (SomeHasRisen meaning old new) (meaning old.debug_info.0).is_plain (meaning old.debug_abbrev.0).size u.encoding (settled u).entries error →
       UnitRefused meaning old new u error
   settled_refused NoMemory h = tt
   settled_refused WriteFault h = h
@@ -25,9 +25,9 @@ module _ {W : Type 0} (meaning : W → Meaning) (old new : Sections W) (u : Unit
 
   -- the entries that were written are those of the settled unit
   pub tree_refused : (e : Encoding) (es : List EntryValue) (error : Error) → e ≡ u.encoding → es ≡ (settled u).entries →
-      TreeRefused (fault_sum meaning old < fault_sum meaning new) (meaning old.debug_info.0).is_plain (meaning old.debug_abbrev.0).size e es error → UnitRefused meaning old new u error
+      TreeRefused (SomeHasRisen meaning old new) (meaning old.debug_info.0).is_plain (meaning old.debug_abbrev.0).size e es error → UnitRefused meaning old new u error
   tree_refused e es error is_e is_es h =
-      let rise = fault_sum meaning old < fault_sum meaning new in
+      let rise = SomeHasRisen meaning old new in
       let plain = (meaning old.debug_info.0).is_plain in
       let place = (meaning old.debug_abbrev.0).size in
       settled_refused error

@@ -19,7 +19,8 @@ use Rattle.dw_base.specs.declared.error.Error.TheVariants.{NoMemory, WriteFault,
 use Rattle.dw_base.specs.declared.section_id.SectionId.TheVariants.{DebugAbbrev}
 use Rattle.dw_writer.specs.Texts.{zeros}
 use Rattle.dw_writer.specs.Meaning.{Meaning, Adds, Replaces, Appends}
-use Rattle.dw_writer.specs.Causes.{LengthRefused, PatchRefused, HasRisen, offset_fits}
+use Rattle.dw_writer.proofs.FaultLaws.{HasRisen-from}
+use Rattle.dw_writer.specs.Causes.{BytesRefused, LengthRefused, PatchRefused, HasRisen, offset_fits}
 use Rattle.dw_writer.specs.SectionTexts.{bytes_text, offset_text, after}
 use Rattle.dw_writer.proofs.Places.{length-zeros}
 use Rattle.dw_writer.proofs.Steps.{Adds-appends, Appends-then, Appends-as, Adds-filled, Patches-by}
@@ -116,17 +117,35 @@ pub length_refused : (old mid new : Meaning) (e : Encoding) (es : List EntryValu
     LengthRefused e.format k (PatchRefused mid new p n) error → k ≡ tree_length e es → p + n ≤ mid.size → old.faults ≤ mid.faults →
     TreeRefused (HasRisen old new) old.is_plain table e es error
 length_refused old mid new e es table k p n NoMemory small r at within faults = tt
-length_refused old mid new e es table k p n WriteFault small r at within faults = omega (arith, r.1)
+length_refused old mid new e es table k p n WriteFault small r at within faults = HasRisen-from old mid new faults r.1
 length_refused old mid new e es table k p n OffsetOutOfBounds small r at within faults = absurd (omega (arith, r.1))
 length_refused old mid new e es table k p n LengthOutOfBounds small r at within faults = absurd (omega (arith, r.1.1))
 length_refused old mid new e es table k p n InitialLengthOverflow small r at within faults = too_long e.format k _ small at r
 length_refused old mid new e es table k p n _ small r at within faults = absurd r.1
 
+-- a rise of one count is one of all of them
+pub refused_within : (rise more : Type 0) (plain : Bool) (table : ℕ) (e : Encoding) (es : List EntryValue) → (rise → more) → (error : Error) →
+    TreeRefused rise plain table e es error → TreeRefused more plain table e es error
+refused_within rise more plain table e es f NoMemory r = r
+refused_within rise more plain table e es f WriteFault r = f r
+refused_within rise more plain table e es f ValueTooLarge r = r
+refused_within rise more plain table e es f InvalidAttributeValue r = r
+refused_within rise more plain table e es f InvalidReference r = r
+refused_within rise more plain table e es f InitialLengthOverflow r = r
+refused_within rise more plain table e es f _ r = absurd r
+
+-- why the abbreviations are refused
+pub bytes_refused : (old new : Meaning) (more : Type 0) (plain : Bool) (table : ℕ) (e : Encoding) (es : List EntryValue) → (HasRisen old new → more) → (error : Error) →
+    BytesRefused old new error → TreeRefused more plain table e es error
+bytes_refused old new more plain table e es f NoMemory r = r
+bytes_refused old new more plain table e es f WriteFault r = f r
+bytes_refused old new more plain table e es f _ r = absurd r
+
 -- why the entries are refused
 pub body_refused : (old mid new : Meaning) (e : Encoding) (es : List EntryValue) (table : ℕ) (error : Error) → BodyRefused mid new (are_spelled es (preorder es)) (are_references_inside es) error →
     old.faults ≤ mid.faults → TreeRefused (HasRisen old new) old.is_plain table e es error
 body_refused old mid new e es table NoMemory r faults = tt
-body_refused old mid new e es table WriteFault r faults = omega (arith, r)
+body_refused old mid new e es table WriteFault r faults = HasRisen-from old mid new faults r
 body_refused old mid new e es table InvalidAttributeValue r faults = r
 body_refused old mid new e es table InvalidReference r faults = r
 body_refused old mid new e es table _ r faults = absurd r
@@ -135,7 +154,7 @@ body_refused old mid new e es table _ r faults = absurd r
 pub fields_refused : (old mid new : Meaning) (e : Encoding) (es : List EntryValue) (table : ℕ) (error : Error) → FieldsRefused mid new e table error →
     mid.is_plain ≡ old.is_plain → old.faults ≤ mid.faults → TreeRefused (HasRisen old new) old.is_plain table e es error
 fields_refused old mid new e es table NoMemory r kind faults = tt
-fields_refused old mid new e es table WriteFault r kind faults = omega (arith, r)
+fields_refused old mid new e es table WriteFault r kind faults = HasRisen-from old mid new faults r
 fields_refused old mid new e es table ValueTooLarge r kind faults = ap (λ b. offset_fits b (word_of e.format) table) (sym kind) ∙ r
 fields_refused old mid new e es table _ r kind faults = absurd r
 

@@ -1,7 +1,7 @@
 -- What several calls that write come to, and why the last one refuses.
 use Rattle.std.specs.Prelude.{◌≡◌, ℕ, ◌+◌, ◌<◌, Bool, List, [], ◌∷◌, ◌++◌, length, map, take, get_or, IsTrue, IsFalse, All}
 use Rattle.std.specs.List.{flat_map, list_all}
-use Rattle.std.proofs.Common.{sym, ◌∙◌, ap, subst, arith}
+use Rattle.std.proofs.Common.{sym, ◌∙◌, ap, subst}
 use Rattle.std.proofs.lemmas.Bool.{and_from}
 use Rattle.std.proofs.lemmas.List.{map_more, flat_map_more}
 use Rattle.std.proofs.lemmas.List.Folds.{list_all_more, list_all_at}
@@ -10,6 +10,7 @@ use Rattle.dw_base.specs.declared.error.Error.{Error}
 use Rattle.dw_base.specs.declared.error.Error.TheVariants.{NoMemory, WriteFault, InvalidAttributeValue, InvalidReference}
 use Rattle.dw_writer.specs.Meaning.{Meaning, IsSameWriter, Adds}
 use Rattle.dw_writer.proofs.Steps.{Adds-then}
+use Rattle.dw_writer.proofs.FaultLaws.{HasRisen-from}
 use Rattle.dw_unit.specs.Causes.{BodyRefused}
 
 -- bytes in the writer's order after others
@@ -41,7 +42,7 @@ module _ {X : Type 0} (test : X → Bool) (xs : List X) (i : ℕ) (x : X) (below
 -- why values are refused after calls that wrote
 pub refused_after : (a b c : Meaning) (s t p q : Bool) (e : Error) → IsSameWriter a b → (IsFalse s → IsFalse t) → (IsFalse p → IsFalse q) → BodyRefused b c s p e → BodyRefused a c t q e
 refused_after a b c s t p q NoMemory same f g h = tt
-refused_after a b c s t p q WriteFault same f g h = omega (arith, same.faults)
+refused_after a b c s t p q WriteFault same f g h = HasRisen-from a b c same.faults h
 refused_after a b c s t p q InvalidAttributeValue same f g h = f h
 refused_after a b c s t p q InvalidReference same f g h = g h
 refused_after a b c s t p q e same f g h = absurd h

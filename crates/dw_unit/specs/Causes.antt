@@ -1,5 +1,5 @@
 -- Why units are refused.
-use Rattle.std.specs.Prelude.{◌≡◌, ◌<◌, ℕ, Bool, false, List, Any, IsFalse}
+use Rattle.std.specs.Prelude.{◌≡◌, ℕ, Bool, false, List, Any, IsFalse}
 use Rattle.dw_base.specs.Numbers.{is_width, word_of, length_fits}
 use Rattle.dw_base.specs.declared.common.Encoding.{Encoding}
 use Rattle.dw_base.specs.declared.common.Format.TheVariants.{Dwarf32}
@@ -7,7 +7,7 @@ use Rattle.dw_base.specs.declared.error.Error.{Error}
 use Rattle.dw_base.specs.declared.error.Error.TheVariants.{NoMemory, WriteFault, ValueTooLarge, UnsupportedWordSize, UnsupportedVersion, InvalidAttributeValue, InvalidReference, InitialLengthOverflow}
 use Rattle.dw_writer.specs.Meaning.{Meaning}
 use Rattle.dw_writer.specs.Causes.{HasRisen, offset_fits}
-use Rattle.dw_writer.specs.Sections.{fault_sum}
+use Rattle.dw_writer.specs.Sections.{SomeHasRisen}
 use Rattle.dw_writer.specs.declared.sections.Sections.{Sections}
 use Rattle.dw_unit.specs.Entries.{EntryValue}
 use Rattle.dw_unit.specs.Tree.{preorder}
@@ -62,7 +62,7 @@ abbrev pub UnitRefused : {W : Type 0} → (W → Meaning) → Sections W → Sec
 UnitRefused meaning old new u (UnsupportedVersion v) = UnitUnspelled u (UnsupportedVersion v)
 UnitRefused meaning old new u (UnsupportedWordSize n) = UnitUnspelled u (UnsupportedWordSize n)
 UnitRefused meaning old new u error =
-    TreeRefused (fault_sum meaning old < fault_sum meaning new) (meaning old.debug_info.0).is_plain (meaning old.debug_abbrev.0).size u.encoding (settled u).entries error
+    TreeRefused (SomeHasRisen meaning old new) (meaning old.debug_info.0).is_plain (meaning old.debug_abbrev.0).size u.encoding (settled u).entries error
 
 -- some unit that wasn't written before is refused
 abbrev pub UnitsRefused : {W : Type 0} → (W → Meaning) → Sections W → Sections W → List UnitValue → Error → Type 0

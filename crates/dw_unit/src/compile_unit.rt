@@ -5,7 +5,7 @@ ghost use Rattle.dw_base.specs.Numbers.{word_of, length_fits};
 ghost use Rattle.dw_base.specs.Spelling.{header_size};
 ghost use Rattle.dw_writer.specs.Meaning.{IsSameWriter, Appends};
 ghost use Rattle.dw_writer.specs.Causes.{HasRisen, offset_fits};
-ghost use Rattle.dw_writer.specs.Sections.{fault_sum};
+ghost use Rattle.dw_writer.specs.Sections.{SomeHasRisen, fault_sum};
 ghost use Rattle.dw_unit.specs.Entries.{tag_of};
 ghost use Rattle.dw_unit.specs.Arena.{AreLinked};
 ghost use Rattle.dw_unit.specs.Valid.{is_encodable, are_references_inside, tree_length, IsWritableTree};
@@ -81,7 +81,7 @@ pub(crate) fn write_tree<W: Writer>(
     ensures unit { OnOk result (AppendsTree W.meaning sections.old sections.new encoding entries.now) }
     ensures writable { OnOk result (IsWritableTree encoding entries.now) }
     ensures err { IfErr result
-        (TreeRefused (fault_sum W.meaning sections.old < fault_sum W.meaning sections.new) (W.meaning sections.old.debug_info.0).is_plain (W.meaning sections.old.debug_abbrev.0).size encoding entries.now) }
+        (TreeRefused (SomeHasRisen W.meaning sections.old sections.new) (W.meaning sections.old.debug_info.0).is_plain (W.meaning sections.old.debug_abbrev.0).size encoding entries.now) }
     ensures others { sections.new ≡ record sections.old { debug_abbrev = sections.new.debug_abbrev; debug_info = sections.new.debug_info } }
     ensures faults { fault_sum W.meaning sections.old ≤ fault_sum W.meaning sections.new }
 {

@@ -1,6 +1,6 @@
 -- Laws of drafts: their order of composition, and what filling their references in makes of them.
 use Rattle.std.specs.Prelude.{◌≡◌, ℕ, suc, zero, ◌+◌, ◌≤◌, Bool, List, [], ◌∷◌, ◌++◌, map, length, take, get_or, ◌<◌, Option, Some, None, refl}
-use Rattle.std.proofs.Common.{sym, ◌∙◌, ap, subst, arith, append_assoc, append-nil, inl, inr, add_assoc, zero-add, add-zero}
+use Rattle.std.proofs.Common.{sym, ◌∙◌, ap, subst, arith, append_assoc, append-nil, add_assoc, zero-add, add-zero}
 use Rattle.std.proofs.Math.Path.{fun_ext}
 use Rattle.std.proofs.lemmas.List.{map-append, map_more}
 use Rattle.dw_base.specs.Numbers.{◌>>=◌}
@@ -8,7 +8,7 @@ use Rattle.dw_writer.specs.Texts.{Text, num_text, followed, overwrite, patched}
 use Rattle.dw_writer.specs.Meaning.{Layout, Model}
 use Rattle.dw_writer.specs.declared.fixup.DebugInfoFixup.{DebugInfoFixup}
 use Rattle.dw_writer.proofs.Places.{overwrite-append}
-use Rattle.dw_writer.proofs.Laws.{IsWide, length-num_text, followed_assoc, followed-none, patched-none}
+use Rattle.dw_writer.proofs.Laws.{IsWide, length-num_text, followed_assoc}
 use Rattle.dw_writer.proofs.Parts.{followed-nothing}
 use Rattle.dw_writer.proofs.Steps.{patched-wide, followed_texts-wide}
 use Rattle.dw_writer.specs.Drafts.{Info, Draft, left_open, moved, shifted, no_draft, whole, then_draft, all_drafts, open_text, hole_text, filled, AreBetween, HaveWidths, IsDraft}

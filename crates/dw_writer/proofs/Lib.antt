@@ -10,3 +10,4 @@ pub mod NewLemmas
 pub mod VisitSteps
 pub mod DraftLaws
 pub mod WriteLaws
+pub mod FaultLaws

@@ -1,12 +1,15 @@
 -- What a call that failed may have added or replaced.
-use Rattle.std.specs.Prelude.{◌≡◌, ℕ, ◌+◌, Bool, true, false, ◌&&◌, List, [], length, take, Some, None, refl, Result, Ok, Err, OnOk, OnErr, IsTrue, if◌then◌else◌}
-use Rattle.std.proofs.Common.{sym, ◌∙◌, ap, subst, arith}
+use Rattle.std.specs.Prelude.{◌≡◌, ℕ, ◌+◌, Bool, true, false, ◌&&◌, List, [], length, take, Some, None, refl, Result, Ok, Err, OnOk, OnErr, IfErr, IsTrue, if◌then◌else◌}
+use Rattle.std.proofs.Common.{sym, ◌∙◌, ap, subst, inl, inr, arith}
 use Rattle.std.proofs.Math.Seq.{take-length}
 use Rattle.std.proofs.lemmas.List.{append-nil}
 use Rattle.dw_base.specs.Numbers.{num, is_width, fits}
 use Rattle.dw_base.specs.declared.error.Error.{Error}
 use Rattle.dw_writer.specs.Texts.{Text, followed, patched}
-use Rattle.dw_writer.specs.Meaning.{Meaning, Adds, AddsSome, ReplacesSome, spelled_num}
+use Rattle.dw_base.specs.declared.error.Error.TheVariants.{OffsetOutOfBounds, LengthOutOfBounds}
+use Rattle.dw_writer.specs.Causes.{KeptOutside}
+use Rattle.dw_writer.specs.Meaning.{Meaning, Adds, AddsWith, AddsSome, AddsSomeWith, Replaces, ReplacesWith, ReplacesSome, ReplacesSomeWith, spelled_num}
+use Rattle.dw_writer.specs.declared.relocate.Relocation.{Relocation}
 use Rattle.dw_writer.proofs.Places.{overwrite-none}
 use Rattle.dw_writer.proofs.Outcomes.{OnErr-always}
 
@@ -26,10 +29,26 @@ Adds-none m = record { same = record { order = refl; kind = refl; faults = omega
 
 -- a call that did nothing
 pub AddsSome-none : (m : Meaning) (bytes : List ℕ) → AddsSome m m bytes
-AddsSome-none m bytes = record { count = 0; size = omega arith; told = sym (followed-nothing m.bytes) }
+AddsSome-none m bytes = record { count = 0; size = omega arith; told = sym (followed-nothing m.bytes); records = refl }
 
 pub ReplacesSome-none : (m : Meaning) (p : ℕ) (bytes : List ℕ) → ReplacesSome m m p bytes
-ReplacesSome-none m p bytes = record { count = 0; size = refl; told = sym (patched-nothing p m.bytes) }
+ReplacesSome-none m p bytes = record { count = 0; size = refl; told = sym (patched-nothing p m.bytes); records = refl }
+
+pub AddsSomeWith-none : (m : Meaning) (bytes : List ℕ) (more : List Relocation) → AddsSomeWith m m bytes more
+AddsSomeWith-none m bytes more = record { count = 0; size = omega arith; told = sym (followed-nothing m.bytes); records = inr refl }
+
+pub ReplacesSomeWith-none : (m : Meaning) (p : ℕ) (bytes : List ℕ) (more : List Relocation) → ReplacesSomeWith m m p bytes more
+ReplacesSomeWith-none m p bytes more = record { count = 0; size = refl; told = sym (patched-nothing p m.bytes); records = inr refl }
+
+-- a call that was refused for its place changed nothing
+pub KeptOutside-same : (old new : Meaning) (e : Error) → new ≡ old → KeptOutside old new e
+KeptOutside-same old new OffsetOutOfBounds h = h
+KeptOutside-same old new LengthOutOfBounds h = h
+KeptOutside-same old new _ h = tt
+
+pub IfErr-kept : {T : Type 0} (r : Result T Error) (old new : Meaning) → OnErr r (new ≡ old) → IfErr r (KeptOutside old new)
+IfErr-kept (Ok x) old new h = tt
+IfErr-kept (Err e) old new h = KeptOutside-same old new e h
 
 pub OnErr-none : {T : Type 0} (r : Result T Error) (m : Meaning) (bytes : List ℕ) → OnErr r (AddsSome m m bytes)
 OnErr-none r m bytes = OnErr-always r (AddsSome-none m bytes)
@@ -41,7 +60,28 @@ OnErr-nothing_replaced r m p bytes = OnErr-always r (ReplacesSome-none m p bytes
 Adds-some : {a b : Meaning} {xs : List ℕ} → Adds a b xs → AddsSome a b xs
 Adds-some {a} {b} {xs} p =
     let whole : take (length xs) xs ≡ xs = take-length xs in
-    record { count = length xs; size = p.size ∙ ap (λ l. a.size + length l) (sym whole); told = p.told ∙ ap (λ l. followed a.bytes (Some l)) (sym whole) }
+    record { count = length xs; size = p.size ∙ ap (λ l. a.size + length l) (sym whole); told = p.told ∙ ap (λ l. followed a.bytes (Some l)) (sym whole); records = p.records }
+
+-- calls that added bytes and no record
+pub Adds-with : {T : Type 0} (r : Result T Error) (a b : Meaning) (xs ys : List ℕ) → OnOk r (Adds a b xs) → xs ≡ ys → OnOk r (AddsWith a b ys [])
+Adds-with (Ok x) a b xs ys p e =
+    subst (λ l. AddsWith a b l []) e (record { same = p.same; size = p.size; told = p.told; records = p.records ∙ sym (append-nil a.records) })
+Adds-with (Err x) a b xs ys p e = tt
+
+pub Replaces-with : {T : Type 0} (r : Result T Error) (a b : Meaning) (p : ℕ) (xs ys : List ℕ) → OnOk r (Replaces a b p xs) → xs ≡ ys → OnOk r (ReplacesWith a b p ys [])
+Replaces-with (Ok x) a b p xs ys q e =
+    subst (λ l. ReplacesWith a b p l []) e
+    (record { same = q.same; within = q.within; size = q.size; told = q.told; records = q.records ∙ sym (append-nil a.records) })
+Replaces-with (Err x) a b p xs ys q e = tt
+
+pub AddsSome-with : {a b : Meaning} {xs : List ℕ} → AddsSome a b xs → AddsSomeWith a b xs []
+AddsSome-with {a} {b} {xs} p = record { count = p.count; size = p.size; told = p.told; records = inl (p.records ∙ sym (append-nil a.records)) }
+
+pub ReplacesSome-with : {T : Type 0} (r : Result T Error) (a b : Meaning) (p : ℕ) (xs ys : List ℕ) → OnErr r (ReplacesSome a b p xs) → xs ≡ ys → OnErr r (ReplacesSomeWith a b p ys [])
+ReplacesSome-with (Ok x) a b p xs ys q e = tt
+ReplacesSome-with (Err x) a b p xs ys q e =
+    subst (λ l. ReplacesSomeWith a b p l []) e
+    (record { count = q.count; size = q.size; told = q.told; records = inl (q.records ∙ sym (append-nil a.records)) })
 
 -- what a call has added after either result, as another names its bytes
 pub AddsSome-either : {T : Type 0} (r : Result T Error) (a b : Meaning) (xs ys : List ℕ) → OnOk r (Adds a b xs) → OnErr r (AddsSome a b xs) → xs ≡ ys → AddsSome a b ys
@@ -56,3 +96,6 @@ both false b xs h k = cc
 -- a number that has a spelling
 pub num-spelled : (big : Bool) (w n : ℕ) → IsTrue (is_width w) → IsTrue (fits w n) → num big w n ≡ spelled_num big w n
 num-spelled big w n h k = both (is_width w) (fits w n) (num big w n) h k
+
+pub AddsSomeWith-either : {T : Type 0} (r : Result T Error) (a b : Meaning) (xs ys : List ℕ) → OnOk r (Adds a b xs) → OnErr r (AddsSome a b xs) → xs ≡ ys → AddsSomeWith a b ys []
+AddsSomeWith-either r a b xs ys p q e = AddsSome-with (AddsSome-either r a b xs ys p q e)

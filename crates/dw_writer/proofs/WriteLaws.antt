@@ -1,20 +1,18 @@
 -- What calls that add drafts come to.
-use Rattle.std.specs.Prelude.{◌≡◌, ℕ, suc, zero, ◌+◌, ◌≤◌, ◌<◌, Bool, true, false, ◌&&◌, List, [], ◌∷◌, ◌++◌, map, length, take, get_or, Option, Some, None, refl, IsTrue, if◌then◌else◌}
+use Rattle.std.specs.Prelude.{◌≡◌, ℕ, ◌+◌, ◌≤◌, ◌<◌, Bool, true, false, ◌&&◌, List, [], ◌∷◌, ◌++◌, map, length, take, get_or, Option, Some, None, refl, IsTrue, if◌then◌else◌}
 use Rattle.std.proofs.Common.{sym, ◌∙◌, ap, subst, arith, append_assoc, append-nil, add-zero, inr, length-append}
 use Rattle.std.proofs.lemmas.Bool.Decides.{nat_tests}
 use Rattle.dw_base.specs.Numbers.{◌>>=◌, num, is_width, fits}
 use Rattle.dw_base.specs.declared.ids.UnitId.{UnitId}
 use Rattle.dw_base.specs.declared.ids.UnitEntryId.{UnitEntryId}
-use Rattle.dw_writer.specs.Texts.{Text, num_text, followed, overwrite, patched}
-use Rattle.dw_writer.specs.Meaning.{Meaning, Layout, Model, AllApart, IsTidy, IsClear, Adds, Appends, Patches}
-use Rattle.dw_writer.specs.SectionTexts.{number_text, bytes_text}
+use Rattle.dw_writer.specs.Texts.{num_text, followed, overwrite, patched}
+use Rattle.dw_writer.specs.Meaning.{Meaning, Layout, Model, AllApart, IsClear, Adds, Appends, Patches}
 use Rattle.dw_writer.specs.declared.fixup.DebugInfoFixup.{DebugInfoFixup}
-use Rattle.dw_writer.proofs.Places.{overwrite-middle}
-use Rattle.dw_writer.proofs.Laws.{IsWide, length-num, length-num_text, patched-none, IsClear-end, followed_assoc}
+use Rattle.dw_writer.proofs.Laws.{length-num, length-num_text, patched-none, IsClear-end, followed_assoc}
 use Rattle.dw_writer.proofs.Plain.{num-shown}
 use Rattle.dw_writer.proofs.Steps.{Adds-appends, Appends-then, Appends-by, Appends-as, Adds-filled, followed_texts-wide}
 use Rattle.dw_writer.proofs.Parts.{Adds-none}
-use Rattle.dw_writer.specs.Drafts.{Info, Draft, moved, shifted, no_draft, whole, then_draft, all_drafts, open_text, AreBetween, AreClear, IsDraft, Drafts, reference}
+use Rattle.dw_writer.specs.Drafts.{Draft, moved, shifted, no_draft, whole, then_draft, all_drafts, open_text, AreBetween, AreClear, IsDraft, Drafts, reference}
 use Rattle.dw_writer.proofs.DraftLaws.{shifted-twice, bound-wide, between-le, whole-draft, no-draft, then-draft, all-more}
 
 -- nothing was added

@@ -1,5 +1,6 @@
 -- Why writers' calls refuse.
 use Rattle.std.specs.Prelude.{◌≡◌, ℕ, ◌+◌, ◌^◌, ◌≤◌, ◌<◌, Bool, true, false, ◌&&◌, nat_lt, IsTrue, IsFalse, if◌then◌else◌}
+use Rattle.dw_base.specs.Faults as counts
 use Rattle.dw_base.specs.Numbers.{is_width, fits, length_fits}
 use Rattle.dw_base.specs.declared.error.Error.{Error}
 use Rattle.dw_base.specs.declared.error.Error.TheVariants.{NoMemory, WriteFault, OffsetOutOfBounds, LengthOutOfBounds, ValueTooLarge, UnsupportedWordSize, InitialLengthOverflow, InvalidAddress}
@@ -10,7 +11,7 @@ use Rattle.dw_writer.specs.Contents.{Meaning}
 
 -- the writer failed and counted that
 abbrev pub HasRisen : Meaning → Meaning → Type 0
-HasRisen old new = old.faults < new.faults
+HasRisen old new = counts.HasRisen old.faults new.faults
 
 -- never
 abbrev pub NotAtAll : Error → Type 0
@@ -37,6 +38,12 @@ PatchCause size rise p n _ = ⊥
 
 abbrev pub PatchRefused : Meaning → Meaning → ℕ → ℕ → Error → Type 0
 PatchRefused old new p n e = PatchCause old.size (HasRisen old new) p n e
+
+-- bytes that are refused for their place alone change nothing
+abbrev pub KeptOutside : Meaning → Meaning → Error → Type 0
+KeptOutside old new OffsetOutOfBounds = new ≡ old
+KeptOutside old new LengthOutOfBounds = new ≡ old
+KeptOutside old new _ = Unit {0}
 
 -- n bytes at place p of so many are refused only where they begin or end past the end
 abbrev pub PlaceRefused : ℕ → ℕ → ℕ → Error → Type 0

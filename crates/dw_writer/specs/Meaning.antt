@@ -1,13 +1,15 @@
 -- What writers' calls do to what the writer holds.
-use Rattle.std.specs.Prelude.{◌≡◌, ◌⊎◌, ℕ, ◌+◌, ◌≤◌, Bool, true, false, ◌&&◌, List, [], ◌∷◌, ◌++◌, length, take, Some, ℤ, IsTrue, if◌then◌else◌}
+use Rattle.std.specs.Prelude.{◌≡◌, ◌⊎◌, ℕ, ◌+◌, ◌≤◌, Bool, true, false, ◌&&◌, List, [], ◌∷◌, ◌++◌, length, take, Some, None, ℤ, pos, IsTrue, if◌then◌else◌}
 use Rattle.dw_base.specs.Numbers.{num, is_width, fits, word_of, length_fits}
 use Rattle.dw_base.specs.declared.address.Address.{Address}
 use Rattle.dw_base.specs.declared.address.Address.TheVariants.{Constant, Symbol}
 use Rattle.dw_base.specs.declared.common.Format.{Format}
+use Rattle.dw_base.specs.declared.section_id.SectionId.{SectionId}
 use Rattle.dw_writer.specs.Texts.{Text, zeros, followed, patched}
 use Rattle.dw_writer.specs.SignedNumbers.{signed_fits, signed_num}
 use Rattle.dw_writer.specs.Causes.{offset_fits}
 use Rattle.dw_writer.specs.declared.relocate.Relocation.{Relocation}
+use Rattle.dw_writer.specs.declared.relocate.RelocationTarget.TheVariants as to
 pub use Rattle.dw_writer.specs.Layout.{Layout, section_number, start_of, target_value, is_zero, is_at_zero}
 pub use Rattle.dw_writer.specs.Contents.{Meaning}
 pub use Rattle.dw_writer.specs.Resolved.{is_inside, resolved}
@@ -55,11 +57,26 @@ pub record Adds (old new : Meaning) (bytes : List ℕ) : Type 0 where
   pub told : new.bytes ≡ followed old.bytes (Some bytes)
   pub records : new.records ≡ old.records
 
+-- these bytes are added, as they are, and these records
+pub record AddsWith (old new : Meaning) (bytes : List ℕ) (more : List Relocation) : Type 0 where
+  pub same : IsSameWriter old new
+  pub size : new.size ≡ old.size + length bytes
+  pub told : new.bytes ≡ followed old.bytes (Some bytes)
+  pub records : new.records ≡ old.records ++ more
+
 -- the first of these bytes are added: none, some or all
 pub record AddsSome (old new : Meaning) (bytes : List ℕ) : Type 0 where
   pub count : ℕ
   pub size : new.size ≡ old.size + length (take count bytes)
   pub told : new.bytes ≡ followed old.bytes (Some (take count bytes))
+  pub records : new.records ≡ old.records
+
+-- the same behind these records, without which nothing is added
+pub record AddsSomeWith (old new : Meaning) (bytes : List ℕ) (more : List Relocation) : Type 0 where
+  pub count : ℕ
+  pub size : new.size ≡ old.size + length (take count bytes)
+  pub told : new.bytes ≡ followed old.bytes (Some (take count bytes))
+  pub records : (new.records ≡ old.records ++ more) ⊎ (new ≡ old)
 
 -- these bytes are written over those from p on, as they are
 pub record Replaces (old new : Meaning) (p : ℕ) (bytes : List ℕ) : Type 0 where
@@ -69,11 +86,27 @@ pub record Replaces (old new : Meaning) (p : ℕ) (bytes : List ℕ) : Type 0 wh
   pub told : new.bytes ≡ patched p (Some bytes) old.bytes
   pub records : new.records ≡ old.records
 
+-- the same beside these records
+pub record ReplacesWith (old new : Meaning) (p : ℕ) (bytes : List ℕ) (more : List Relocation) : Type 0 where
+  pub same : IsSameWriter old new
+  pub within : p + length bytes ≤ old.size
+  pub size : new.size ≡ old.size
+  pub told : new.bytes ≡ patched p (Some bytes) old.bytes
+  pub records : new.records ≡ old.records ++ more
+
 -- the first of these bytes are written over those from p on: none, some or all
 pub record ReplacesSome (old new : Meaning) (p : ℕ) (bytes : List ℕ) : Type 0 where
   pub count : ℕ
   pub size : new.size ≡ old.size
   pub told : new.bytes ≡ patched p (Some (take count bytes)) old.bytes
+  pub records : new.records ≡ old.records
+
+-- the same behind these records, without which nothing is written
+pub record ReplacesSomeWith (old new : Meaning) (p : ℕ) (bytes : List ℕ) (more : List Relocation) : Type 0 where
+  pub count : ℕ
+  pub size : new.size ≡ old.size
+  pub told : new.bytes ≡ patched p (Some (take count bytes)) old.bytes
+  pub records : (new.records ≡ old.records ++ more) ⊎ (new ≡ old)
 
 -- the bytes of a number in w bytes; one that has no spelling has none
 abbrev pub spelled_num : Bool → ℕ → ℕ → List ℕ
@@ -97,6 +130,17 @@ abbrev pub address_bytes : Bool → Bool → ℕ → Address → List ℕ
 address_bytes is_plain big w (Constant n) = spelled_num big w n
 address_bytes true big w (Symbol s a) = []
 address_bytes false big w (Symbol s a) = if is_width w then zeros w else []
+
+-- what an offset at a place leaves to a linker in a writer that records, and in a plain one
+abbrev pub offset_records : Bool → ℕ → ℕ → SectionId → ℕ → List Relocation
+offset_records true place w section n = []
+offset_records false place w section n = record { offset = place; size = w; target = to.Section section; addend = pos n; eh_pe = None } ∷ []
+
+-- what an address does: a constant nothing
+abbrev pub address_records : Bool → ℕ → ℕ → Address → List Relocation
+address_records is_plain place w (Constant n) = []
+address_records true place w (Symbol s a) = []
+address_records false place w (Symbol s a) = record { offset = place; size = w; target = to.Symbol s; addend = a; eh_pe = None } ∷ []
 
 -- a text that hangs on the byte order and on a layout
 abbrev pub Model : Type 0

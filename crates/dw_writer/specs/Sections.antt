@@ -4,6 +4,7 @@ use Rattle.std.specs.Borrow.{LendsIf, MutBor, Fml, RattleType}
 use Rattle.dw_base.specs.declared.section_id.SectionId.{SectionId}
 use Rattle.dw_base.specs.declared.section_id.SectionId.TheVariants.{DebugAbbrev, DebugStr, DebugLineStr, DebugLine, DebugRanges, DebugRngLists, DebugLoc, DebugLocLists, DebugInfo, DebugFrame, EhFrame, DebugAddr, DebugStrOffsets, DebugMacinfo, DebugMacro, DebugAranges}
 use Rattle.dw_writer.specs.Meaning.{Meaning}
+use Rattle.dw_writer.specs.Causes.{HasRisen}
 use Rattle.dw_writer.specs.declared.sections.Sections.{Sections}
 use Rattle.dw_writer.specs.contracts.sections.Sections.{the_row}
 
@@ -80,3 +81,12 @@ fault_sum meaning s =
     + (meaning s.debug_line.0).faults + (meaning s.debug_ranges.0).faults + (meaning s.debug_rnglists.0).faults
     + (meaning s.debug_loc.0).faults + (meaning s.debug_loclists.0).faults + (meaning s.debug_info.0).faults
     + (meaning s.debug_frame.0).faults + (meaning s.eh_frame.0).faults
+
+-- the writer of some section failed and counted that
+pub record SomeHasRisen {W : Type 0} (meaning : W → Meaning) (old new : Sections W) : Type 0 where
+  pub id : SectionId
+  pub before : W
+  pub after : W
+  pub was : section_of old id ≡ Some before
+  pub is : section_of new id ≡ Some after
+  pub risen : HasRisen (meaning before) (meaning after)

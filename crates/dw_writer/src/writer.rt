@@ -1,12 +1,13 @@
 //! What every writer of a section does.
 
-ghost use Rattle.std.specs.Prelude.{◌≡◌, Bool, true, false, [], ℕ, ◌+◌, ◌<◌, ◌≤◌, ◌++◌, length, IsTrue, OnOk, IfOk, IfErr, OnErr};
+ghost use Rattle.std.specs.Prelude.{◌≡◌, Bool, true, false, [], ℕ, ◌+◌, ◌<◌, ◌≤◌, ◌++◌, length, IsTrue, Err, OnOk, IfOk, IfErr, OnErr};
 ghost use Rattle.dw_base.specs.Numbers.{num, is_width, fits, word_of, escape_of, length_fits};
 ghost use Rattle.dw_base.specs.Leb128.{uleb, sleb};
+ghost use Rattle.dw_base.specs.declared.error.Error.TheVariants.{InvalidReference};
 ghost use Rattle.dw_writer.specs.Texts.{zeros};
 ghost use Rattle.dw_writer.specs.SignedNumbers.{signed_fits, signed_num};
-ghost use Rattle.dw_writer.specs.Meaning.{Meaning, IsSameWriter, Adds, AddsSome, Replaces, ReplacesSome, Appends, Patches, spelled_num, spelled_signed, spelled_length, offset_bytes, address_bytes};
-ghost use Rattle.dw_writer.specs.Causes.{IsNotMemory, BytesRefused, PatchRefused, NumberRefused, AddressRefused, LengthRefused, offset_fits, address_fits};
+ghost use Rattle.dw_writer.specs.Meaning.{Meaning, IsSameWriter, Adds, AddsWith, AddsSome, AddsSomeWith, Replaces, ReplacesWith, ReplacesSome, ReplacesSomeWith, Appends, Patches, spelled_num, spelled_signed, spelled_length, offset_bytes, address_bytes, offset_records, address_records};
+ghost use Rattle.dw_writer.specs.Causes.{IsNotMemory, KeptOutside, BytesRefused, PatchRefused, NumberRefused, AddressRefused, LengthRefused, offset_fits, address_fits};
 ghost use Rattle.dw_writer.specs.SectionTexts.{offset_text, address_text};
 
 use crate::leb128::{sleb128_bytes, uleb128_bytes};
@@ -52,6 +53,7 @@ pub trait Writer {
         ensures ok { OnOk result (Replaces (meaning self.old) (meaning self.new) offset bytes.now) }
         ensures err { IfErr result
             (PatchRefused (meaning self.old) (meaning self.new) offset (length bytes.now)) }
+        ensures outside { IfErr result (KeptOutside (meaning self.old) (meaning self.new)) }
         ensures memory { IsTrue patches_in_place → IfErr result IsNotMemory }
         ensures partly { OnErr result
             (ReplacesSome (meaning self.old) (meaning self.new) offset bytes.now) }
@@ -69,8 +71,12 @@ pub trait Writer {
         ensures err { IfErr result
             (NumberRefused size (offset_fits (meaning self.old).is_plain size val)
             (BytesRefused (meaning self.old) (meaning self.new))) }
-        ensures partly { AddsSome (meaning self.old) (meaning self.new)
-            (offset_bytes (meaning self.old).is_plain (meaning self.old).is_big size val) }
+        ensures raw { OnOk result (AddsWith (meaning self.old) (meaning self.new)
+            (offset_bytes (meaning self.old).is_plain (meaning self.old).is_big size val)
+            (offset_records (meaning self.old).is_plain (meaning self.old).size size section val)) }
+        ensures partly { AddsSomeWith (meaning self.old) (meaning self.new)
+            (offset_bytes (meaning self.old).is_plain (meaning self.old).is_big size val)
+            (offset_records (meaning self.old).is_plain (meaning self.old).size size section val) }
         ensures same { IsSameWriter (meaning self.old) (meaning self.new) };
 
     /// Writes such an offset over the bytes from `offset` on.
@@ -88,10 +94,14 @@ pub trait Writer {
         ensures err { IfErr result
             (NumberRefused size (offset_fits (meaning self.old).is_plain size val)
             (PatchRefused (meaning self.old) (meaning self.new) offset size)) }
+        ensures outside { IfErr result (KeptOutside (meaning self.old) (meaning self.new)) }
         ensures memory { IsTrue patches_in_place → IfErr result IsNotMemory }
-        ensures partly { OnErr result
-            (ReplacesSome (meaning self.old) (meaning self.new) offset
-            (offset_bytes (meaning self.old).is_plain (meaning self.old).is_big size val)) }
+        ensures raw { OnOk result (ReplacesWith (meaning self.old) (meaning self.new) offset
+            (offset_bytes (meaning self.old).is_plain (meaning self.old).is_big size val)
+            (offset_records (meaning self.old).is_plain offset size section val)) }
+        ensures partly { OnErr result (ReplacesSomeWith (meaning self.old) (meaning self.new) offset
+            (offset_bytes (meaning self.old).is_plain (meaning self.old).is_big size val)
+            (offset_records (meaning self.old).is_plain offset size section val)) }
         ensures same { IsSameWriter (meaning self.old) (meaning self.new) };
 
     /// Adds an address of the target, in `size` bytes, with the same refusals as a number's. A
@@ -104,8 +114,12 @@ pub trait Writer {
         ensures err { IfErr result
             (AddressRefused (meaning self.old).is_plain size address
             (BytesRefused (meaning self.old) (meaning self.new))) }
-        ensures partly { AddsSome (meaning self.old) (meaning self.new)
-            (address_bytes (meaning self.old).is_plain (meaning self.old).is_big size address) }
+        ensures raw { OnOk result (AddsWith (meaning self.old) (meaning self.new)
+            (address_bytes (meaning self.old).is_plain (meaning self.old).is_big size address)
+            (address_records (meaning self.old).is_plain (meaning self.old).size size address)) }
+        ensures partly { AddsSomeWith (meaning self.old) (meaning self.new)
+            (address_bytes (meaning self.old).is_plain (meaning self.old).is_big size address)
+            (address_records (meaning self.old).is_plain (meaning self.old).size size address) }
         ensures same { IsSameWriter (meaning self.old) (meaning self.new) };
 
     /// Adds one byte.
@@ -179,6 +193,7 @@ pub trait Writer {
             (Replaces (meaning self.old) (meaning self.new) offset
             (num (meaning self.old).is_big 1 val)) }
         ensures err { IfErr result (PatchRefused (meaning self.old) (meaning self.new) offset 1) }
+        ensures outside { IfErr result (KeptOutside (meaning self.old) (meaning self.new)) }
         ensures memory { IsTrue patches_in_place → IfErr result IsNotMemory }
         ensures partly { OnErr result
             (ReplacesSome (meaning self.old) (meaning self.new) offset
@@ -194,6 +209,7 @@ pub trait Writer {
             (Replaces (meaning self.old) (meaning self.new) offset
             (num (meaning self.old).is_big 2 val)) }
         ensures err { IfErr result (PatchRefused (meaning self.old) (meaning self.new) offset 2) }
+        ensures outside { IfErr result (KeptOutside (meaning self.old) (meaning self.new)) }
         ensures memory { IsTrue patches_in_place → IfErr result IsNotMemory }
         ensures partly { OnErr result
             (ReplacesSome (meaning self.old) (meaning self.new) offset
@@ -210,6 +226,7 @@ pub trait Writer {
             (Replaces (meaning self.old) (meaning self.new) offset
             (num (meaning self.old).is_big 4 val)) }
         ensures err { IfErr result (PatchRefused (meaning self.old) (meaning self.new) offset 4) }
+        ensures outside { IfErr result (KeptOutside (meaning self.old) (meaning self.new)) }
         ensures memory { IsTrue patches_in_place → IfErr result IsNotMemory }
         ensures partly { OnErr result
             (ReplacesSome (meaning self.old) (meaning self.new) offset
@@ -226,6 +243,7 @@ pub trait Writer {
             (Replaces (meaning self.old) (meaning self.new) offset
             (num (meaning self.old).is_big 8 val)) }
         ensures err { IfErr result (PatchRefused (meaning self.old) (meaning self.new) offset 8) }
+        ensures outside { IfErr result (KeptOutside (meaning self.old) (meaning self.new)) }
         ensures memory { IsTrue patches_in_place → IfErr result IsNotMemory }
         ensures partly { OnErr result
             (ReplacesSome (meaning self.old) (meaning self.new) offset
@@ -283,6 +301,7 @@ pub trait Writer {
         ensures err { IfErr result
             (NumberRefused size (fits size val)
             (PatchRefused (meaning self.old) (meaning self.new) offset size)) }
+        ensures outside { IfErr result (KeptOutside (meaning self.old) (meaning self.new)) }
         ensures memory { IsTrue patches_in_place → IfErr result IsNotMemory }
         ensures partly { OnErr result
             (ReplacesSome (meaning self.old) (meaning self.new) offset
@@ -348,6 +367,7 @@ pub trait Writer {
         ensures err { IfErr result
             (LengthRefused format length
             (PatchRefused (meaning self.old) (meaning self.new) offset (word_of format))) }
+        ensures outside { IfErr result (KeptOutside (meaning self.old) (meaning self.new)) }
         ensures memory { IsTrue patches_in_place → IfErr result IsNotMemory }
         ensures partly { OnErr result
             (ReplacesSome (meaning self.old) (meaning self.new) offset
@@ -363,6 +383,14 @@ pub trait Writer {
             }
             Format::Dwarf64 => self.write_u64_at(offset, length),
         }
+    }
+
+    /// Refuses a reference to a symbol, in `size` bytes, as `InvalidReference`.
+    final fn write_reference(&mut self, _symbol: usize, _size: u8) -> Result<()>
+        ensures refused { result ≡ Err InvalidReference }
+        ensures kept { self.new ≡ self.old }
+    {
+        Err(Error::InvalidReference)
     }
 
     // A writer that puts offsets as they are records nothing.

@@ -7,7 +7,7 @@ use Rattle.dw_base.specs.declared.error.Error.{Error}
 use Rattle.dw_base.specs.declared.error.Error.TheVariants.{NoMemory, WriteFault, ValueTooLarge, UnsupportedWordSize, UnsupportedVersion, InvalidAttributeValue, InvalidReference, InitialLengthOverflow}
 use Rattle.dw_writer.specs.Contents.{Meaning}
 use Rattle.dw_writer.specs.New.{IsNewPlain}
-use Rattle.dw_writer.specs.Sections.{fault_sum}
+use Rattle.dw_writer.specs.Sections.{SomeHasRisen}
 use Rattle.dw_writer.specs.declared.sections.Sections.{Sections}
 use Rattle.dw_unit.specs.UnitValue.{UnitValue}
 use Rattle.dw_unit.specs.Whole.{settled}
@@ -23,10 +23,10 @@ use Rattle.dwarf_build.specs.declared.script.Script.{Script}
 use Rattle.dwarf_build.specs.declared.status.Status.{Status}
 use Rattle.dwarf_build.specs.declared.status.Status.TheVariants.{WriteRefused}
 
-module _ {W : Type 0} (meaning : W → Meaning) (big : Bool) (old new : Sections W) (empty : IsNewPlain meaning big old) (calm : fault_sum meaning new ≤ fault_sum meaning old) where
+module _ {W : Type 0} (meaning : W → Meaning) (big : Bool) (old new : Sections W) (empty : IsNewPlain meaning big old) (calm : SomeHasRisen meaning old new → ⊥) where
   unit_unspelled : (u : UnitValue) (e : Error) → (e ≡ NoMemory → ⊥) → UnitRefused meaning old new u e → UnitUnspelled u e
   unit_unspelled u NoMemory some r = absurd (some refl)
-  unit_unspelled u WriteFault some r = absurd (omega (arith, r, calm))
+  unit_unspelled u WriteFault some r = absurd (calm r)
   unit_unspelled u ValueTooLarge some r =
       absurd (not_both _ (place_fits _ u.encoding.format _ empty.writers.debug_info.plain empty.writers.debug_abbrev.size) r)
   unit_unspelled u InvalidAttributeValue some r = r
@@ -38,7 +38,7 @@ module _ {W : Type 0} (meaning : W → Meaning) (big : Bool) (old new : Sections
 
 -- The clause of the writing call is named for the meaning and the sections that it mentions.
 pub units_unspelled : {W : Type 0} {meaning : W → Meaning} {old : Sections W} {Clause : Bool → Type 0} → ((big : Bool) → IsNewPlain meaning big old → Clause big) → (big : Bool) (new : Sections W) → IsNewPlain meaning big old → (us : List UnitValue) (e : Error) → (e ≡ NoMemory → ⊥) → UnitsRefused meaning old new us e →
-    fault_sum meaning new ≤ fault_sum meaning old → HasNoSpelling us e
+    (SomeHasRisen meaning old new → ⊥) → HasNoSpelling us e
 units_unspelled {W} {meaning} {old} clause big new empty us e some r calm =
     (r.0, r.1, r.2, r.3, unit_unspelled meaning big old new empty calm r.1 e some r.4.1)
 

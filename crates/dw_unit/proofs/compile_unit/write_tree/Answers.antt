@@ -1,12 +1,15 @@
-use Rattle.std.proofs.Common.{◌∙◌, sym, ap, subst, ◌<◌, length}
+use Rattle.std.proofs.Common.{◌∙◌, sym, ap, subst, length}
 use Rattle.std.proofs.lemmas.List.{length-map}
 use Rattle.std.proofs.lemmas.Result.{err_from_is_err_and}
-use Rattle.dw_writer.specs.Sections.{fault_sum}
+use Rattle.dw_writer.specs.Causes.{HasRisen}
+use Rattle.dw_writer.specs.Sections.{SomeHasRisen}
+use Rattle.dw_writer.proofs.FaultLaws.{SomeHasRisen-abbrev, SomeHasRisen-info}
+use Rattle.dw_writer.proofs.Outcomes.{IfErr-map}
 use Rattle.dw_unit.specs.Tree.{marks, mark_of}
 use Rattle.dw_unit.specs.Coded.{AreTagged}
 use Rattle.dw_unit.specs.Places.{placement_of}
 use Rattle.dw_unit.proofs.Tagged.{preorder_tagged}
-use Rattle.dw_unit.proofs.UnitSteps.{OnOk-four, table_added, place_plain, tree_is_unit}
+use Rattle.dw_unit.proofs.UnitSteps.{OnOk-four, bytes_refused, refused_within, table_added, place_plain, tree_is_unit}
 use Rattle.dw_unit.proofs.PlaceSteps.{tree_distinct, tree_closes, tree_codes, tree_placed, tree_inside, places_fit, length_refused_early}
 use Rattle.dw_unit.proofs.compile_unit.write_tree.Goals as goal
 
@@ -45,7 +48,27 @@ returns-in_err-check_length-clause-err g c =
     let tree = ap marks c.as_slice-items.ensures.value ∙ c.in_ok-tree.ensures.items in
     let failed = err_from_is_err_and c.from_residual-in_err-check_length.result c.from_residual-in_err-check_length.ensures.1 in
     rw (failed.1, failed.2)
-    (length_refused_early (fault_sum g.W.Writer.meaning c.args.sections.now < fault_sum g.W.Writer.meaning c.args.sections.now) (g.W.Writer.meaning c.args.sections.now.debug_info.0).is_plain (g.W.Writer.meaning c.args.sections.now.debug_abbrev.0).size c.args.encoding c.args.entries.now (marks c.as_slice-items.result.now) c.in_ok-places.places.end c.in_err-check_length.field-0.0 tree c.in_ok-places.ensures.end c.in_err-check_length.ensures.err)
+    (length_refused_early (SomeHasRisen g.W.Writer.meaning c.args.sections.now c.args.sections.now) (g.W.Writer.meaning c.args.sections.now.debug_info.0).is_plain (g.W.Writer.meaning c.args.sections.now.debug_abbrev.0).size c.args.encoding c.args.entries.now (marks c.as_slice-items.result.now) c.in_ok-places.places.end c.in_err-check_length.field-0.0 tree c.in_ok-places.ensures.end c.in_err-check_length.ensures.err)
+
+pub returns-in_err-write-clause-err : goal.returns-in_err-write-clause-err
+returns-in_err-write-clause-err g c =
+    let failed = err_from_is_err_and c.from_residual-in_err-write.result c.from_residual-in_err-write.ensures.1 in
+    let meaning = g.W.Writer.meaning in
+    let old = c.args.sections.now in
+    let new = record old { debug_abbrev = c.write.new.w } in
+    rw (failed.1, failed.2)
+    (bytes_refused (meaning old.debug_abbrev.0) (meaning new.debug_abbrev.0) (SomeHasRisen meaning old new) (meaning old.debug_info.0).is_plain (meaning old.debug_abbrev.0).size
+    c.args.encoding c.args.entries.now (SomeHasRisen-abbrev meaning old new) c.in_err-write.field-0.0 c.in_err-write.ensures.err)
+
+pub returns-clause-err : goal.returns-clause-err
+returns-clause-err g c =
+    let err = rw c.len-place.ensures at c.write_compile_unit.ensures.err in
+    let meaning = g.W.Writer.meaning in
+    let old = c.args.sections.now in
+    let new = record old { debug_abbrev = c.write.new.w; debug_info = record { 0 = c.write_compile_unit.new.w } } in
+    IfErr-map c.write_compile_unit.result err
+    (refused_within (HasRisen (meaning old.debug_info.0) (meaning new.debug_info.0)) (SomeHasRisen meaning old new) (meaning old.debug_info.0).is_plain
+    (meaning old.debug_abbrev.0).size c.args.encoding c.args.entries.now (SomeHasRisen-info meaning old new))
 
 pub returns-clause-unit : goal.returns-clause-unit
 returns-clause-unit g c =

@@ -1,3 +1,4 @@
+use Rattle.dw_writer.proofs.FaultLaws.{SomeHasRisen-never}
 use Rattle.dwarf_build.proofs.Unspelled.{units_unspelled, says_refused}
 use Rattle.std.proofs.Common.{refl, subst, arith}
 use Rattle.dwarf_build.proofs.Outcomes.{IfOk-two}
@@ -29,4 +30,4 @@ returns c =
     let new = IsNewPlain-from_all_mean _ (is_big_of s.endian) _ _ empty c.in-Ok.ensures.fixups
     (record { bytes = refl; size = refl; records = refl; order = refl; plain = refl }) in
     IfOk-two c.answer_write_refusal.result c.answer_write_refusal.ensures.says c.answer_write_refusal.ensures.other
-    (λ a h some. says_refused s a.status a.text.items error h.0 h.1 (units_unspelled c.in-Err-write.ensures.complete (is_big_of s.endian) c.write.new.sections new s.dwarf.units error some c.in-Err-write.ensures.err (omega arith)))
+    (λ a h some. says_refused s a.status a.text.items error h.0 h.1 (units_unspelled c.in-Err-write.ensures.complete (is_big_of s.endian) c.write.new.sections new s.dwarf.units error some c.in-Err-write.ensures.err (SomeHasRisen-never _ _ _ (λ w. refl))))

@@ -17,7 +17,7 @@ added big a b xs ys zs e h = record { same = record { order = refl; kind = refl;
 
 -- the same bytes
 kept : (big : Bool) (a b : ℕ) (xs ys zs : List ℕ) → ys ≡ xs → b ≡ a → AddsSome (plain big a xs) (plain big b ys) zs
-kept big a b xs ys zs e h = record { count = 0; size = omega arith; told = ap Some e ∙ sym (followed-nothing (Some xs)) }
+kept big a b xs ys zs e h = record { count = 0; size = omega arith; told = ap Some e ∙ sym (followed-nothing (Some xs)); records = refl }
 
 pub returns-clause-ok : goal.returns-clause-ok
 returns-clause-ok g c = let e = c.in_ok-extend_from_slice.ensures in added _ _ _ _ _ _ e.items e.len

@@ -4,7 +4,7 @@ use Rattle.dw_base.specs.declared.error.Error.{Error}
 use Rattle.dw_writer.specs.Texts.{overwrite, patched}
 use Rattle.dw_writer.specs.Meaning.{Replaces, ReplacesSome, Meaning}
 use Rattle.dw_writer.proofs.Outcomes.{OnErr-map}
-use Rattle.dw_writer.proofs.Parts.{patched-nothing}
+use Rattle.dw_writer.proofs.Parts.{patched-nothing, IfErr-kept}
 use Rattle.dw_writer.proofs.endian_vec.EndianVecWriter.write_at.Goals as goal
 
 -- a plain writer with these bytes
@@ -21,7 +21,16 @@ replaced big a b d p xs ys zs (Err u) e h k l = tt
 
 -- the same bytes
 kept : (big : Bool) (a b p : ℕ) (xs ys zs : List ℕ) → ys ≡ xs → b ≡ a → ReplacesSome (plain big a xs) (plain big b ys) p zs
-kept big a b p xs ys zs e h = record { count = 0; size = h; told = ap Some e ∙ sym (patched-nothing p (Some xs)) }
+kept big a b p xs ys zs e h = record { count = 0; size = h; told = ap Some e ∙ sym (patched-nothing p (Some xs)); records = refl }
+
+-- a writer of the same bytes is the same
+unchanged : (big : Bool) (a b : ℕ) (xs ys : List ℕ) → ys ≡ xs → b ≡ a → plain big b ys ≡ plain big a xs
+unchanged big a b xs ys e h = ap (λ l. plain big b l) e ∙ ap (λ n. plain big n xs) h
+
+pub returns-clause-outside : goal.returns-clause-outside
+returns-clause-outside g c =
+    let e = c.overwrite_vec.ensures in
+    IfErr-kept c.overwrite_vec.result _ _ (OnErr-map c.overwrite_vec.result e.kept (λ k. unchanged _ _ _ _ _ k e.len))
 
 pub returns-clause-ok : goal.returns-clause-ok
 returns-clause-ok g c =

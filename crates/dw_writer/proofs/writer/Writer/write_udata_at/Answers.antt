@@ -1,6 +1,7 @@
-use Rattle.std.proofs.Common.{◌∙◌}
+use Rattle.std.proofs.Common.{◌∙◌, refl}
 use Rattle.dw_writer.proofs.Plain.{Patch_refused}
-use Rattle.dw_writer.proofs.Parts.{OnErr-nothing_replaced}
+use Rattle.dw_writer.proofs.Outcomes.{OnErr-always}
+use Rattle.dw_writer.proofs.Parts.{OnErr-nothing_replaced, IfErr-kept}
 use Rattle.dw_writer.proofs.writer.Writer.write_udata_at.Goals as goal
 
 pub returns-clause-err : goal.returns-clause-err
@@ -10,3 +11,6 @@ returns-clause-err g c =
 
 pub returns-in_err-number-clause-partly : goal.returns-in_err-number-clause-partly
 returns-in_err-number-clause-partly g c = OnErr-nothing_replaced c.from_residual.result (g.Self.Writer.meaning c.args.self.now) c.args.offset _
+
+pub returns-in_err-number-clause-outside : goal.returns-in_err-number-clause-outside
+returns-in_err-number-clause-outside g c = IfErr-kept c.from_residual.result _ _ (OnErr-always c.from_residual.result refl)
