@@ -7,6 +7,7 @@ use Rattle.dw_base.specs.Forms.{Absent, Number, Signed, kinds, form_at, kind_of,
 use Rattle.dw_base.specs.Abbreviations.{table_at, declarations_at, shape_at, specifications_at, shape_of_code}
 use Rattle.dw_base.specs.Headers.{header_at, is_unit_type, has_identity, has_type_offset}
 use Rattle.dw_base.specs.Entries.{Open, Close, Row, rows_at, mark_at, attributes_at, closes, is_one_tree, past_row}
+use Rattle.dw_base.specs.Pointers.{format_of, application_of, pointer_width, is_signed, distance}
 use Rattle.dw_base.specs.Info.{units_at, read_info, section_places}
 use Rattle.dw_base.specs.declared.common.Format.TheVariants.{Dwarf32, Dwarf64}
 
@@ -302,3 +303,21 @@ type_offsets = refl
 
 unit_types : map is_unit_type (0 ∷ 1 ∷ 6 ∷ 7 ∷ []) ≡ false ∷ true ∷ true ∷ false ∷ []
 unit_types = refl
+
+-- Encodings of pointers: the formats with their bytes where an address has 8, those of them that are signed, and 0x9b, as
+-- compilers write it, which is indirect, counts from its place and has 4 signed bytes.
+pointer_widths : map (pointer_width 8) (0x00 ∷ 0x01 ∷ 0x02 ∷ 0x03 ∷ 0x04 ∷ 0x09 ∷ 0x0a ∷ 0x0b ∷ 0x0c ∷ []) ≡ Some 8 ∷ None ∷ Some 2 ∷ Some 4 ∷ Some 8 ∷ None ∷ Some 2 ∷ Some 4 ∷ Some 8 ∷ []
+pointer_widths = refl
+
+signed_formats : map is_signed (0x00 ∷ 0x01 ∷ 0x02 ∷ 0x03 ∷ 0x04 ∷ 0x09 ∷ 0x0a ∷ 0x0b ∷ 0x0c ∷ []) ≡ false ∷ false ∷ false ∷ false ∷ false ∷ true ∷ true ∷ true ∷ true ∷ []
+signed_formats = refl
+
+usual_format : format_of 0x9b ≡ 0x0b
+usual_format = refl
+
+usual_application : application_of 0x9b ≡ 0x10
+usual_application = refl
+
+-- From place 0x1000, an address 0x20 behind it and one 0x10 before it.
+distances : map (distance 0x1000) (0x1020 ∷ 0xff0 ∷ []) ≡ 0x20 ∷ 0xffff_ffff_ffff_fff0 ∷ []
+distances = refl
