@@ -12,20 +12,20 @@ use Rattle.dw_base.specs.declared.common.Encoding.{Encoding}
 use Rattle.dw_base.specs.declared.ids.UnitEntryId.{UnitEntryId}
 use Rattle.dw_abbrev.specs.Codes.{code_in, declarations}
 use Rattle.dw_abbrev.proofs.CodeLaws.{code_in-same}
-use Rattle.dw_unit.specs.declared.attribute.Attribute.{Attribute}
-use Rattle.dw_unit.specs.declared.attribute.AttributeValue.TheVariants as values
+use Rattle.dw_entries.specs.declared.attribute.Attribute.{Attribute}
+use Rattle.dw_entries.specs.declared.value.AttributeValue.TheVariants as values
 use Rattle.dw_unit.specs.UnitValue.{UnitValue}
-use Rattle.dw_unit.specs.Attributes.{named}
-use Rattle.dw_unit.specs.Entries.{EntryValue, attributes_of}
-use Rattle.dw_unit.specs.Values.{reference_form}
-use Rattle.dw_unit.specs.Shapes.{Placement, has_sibling, shape_of_entry, read_attribute, read_sibling}
-use Rattle.dw_unit.specs.Coded.{entry_at, coded_mark}
+use Rattle.dw_entries.specs.Attributes.{named}
+use Rattle.dw_entries.specs.Entries.{EntryValue, entry_at, has_sibling}
+use Rattle.dw_entries.specs.Values.{reference_form}
+use Rattle.dw_unit.specs.Shapes.{Placement, shape_of_entry, read_attribute, read_sibling}
+use Rattle.dw_unit.specs.Coded.{coded_mark}
 use Rattle.dw_unit.specs.DistinctShapes.{entry_shapes, distinct_shapes}
-use Rattle.dw_unit.specs.Arena.{AreLinked}
-use Rattle.dw_unit.specs.Tree.{preorder, has_entry, are_entries_distinct}
+use Rattle.dw_entries.specs.Arena.{AreLinked}
+use Rattle.dw_entries.specs.Tree.{preorder, has_entry, are_entries_distinct}
 use Rattle.dw_unit.specs.Built.{place_read, past_read, placement_read, IsBuilt}
 use Rattle.dw_unit.specs.Whole.{tree_shapes}
-use Rattle.dw_unit.proofs.Distinct.{preorder_distinct}
+use Rattle.dw_entries.proofs.Distinct.{preorder_distinct}
 use Rattle.dw_unit.proofs.DistinctShapes.{has_shape-distinct, has_shape-entry, has_shape-at, distinct_shapes-differ, Contains-shape, code_in-place, numbered-declares, entry_of_shape}
 
 -- An entry is read in a row: the row has the number that the entry has in preorder.
@@ -112,12 +112,6 @@ Contains-entry : (e : Encoding) (es : List EntryValue) (i : ℕ) → has_entry (
 Contains-entry e es i h =
     let s = shape_of_entry e (entry_at es i) in Contains-shape (tree_shapes e es) s (has_shape-distinct (entry_shapes e es (preorder es)) s ∙ has_shape-entry e es (preorder es) i h)
 
--- an entry's attributes, as the arena's other words read them
-attributes-entry_at : (es : List EntryValue) (i : ℕ) → (entry_at es i).attributes ≡ attributes_of es i
-attributes-entry_at [] i = refl
-attributes-entry_at (x ∷ es) zero = refl
-attributes-entry_at (x ∷ es) (suc i) = attributes-entry_at es i
-
 -- what stands behind an element that may stand first
 behind_first : {A : Type 0} (b : Bool) (first : A) (xs : List A) (a : ℕ) → slice_get ((if b then first ∷ [] else []) ++ xs) (if b then suc a else a) ≡ slice_get xs a
 behind_first true first xs a = refl
@@ -147,7 +141,7 @@ module _ (u : UnitValue) (r : ReadUnit) (built : IsBuilt u r) where
       same_Some row.mark (mark_as_read u r (Open i)) (sym (ap (option_map (λ x. x.mark)) at.row_is) ∙ numbered at.number i at.entry_is)
 
   -- Each attribute of an entry is read in the entry's row, in the order of the entry.
-  pub attribute_read : (i a : ℕ) (x : Attribute) (row : Row) → slice_get (attributes_of u.entries i) a ≡ Some x → IsReadIn u r i row →
+  pub attribute_read : (i a : ℕ) (x : Attribute) (row : Row) → slice_get (entry_at u.entries i).attributes a ≡ Some x → IsReadIn u r i row →
       attribute_at row (position_read (entry_at u.entries i) a) ≡ Some (read_attribute u.encoding (places_read u r) x)
   attribute_read i a x row is at =
       let given = entry_at u.entries i in
@@ -155,11 +149,10 @@ module _ (u : UnitValue) (r : ReadUnit) (built : IsBuilt u r) where
       ap (λ m. attribute_at (record row { mark = m }) (position_read given a)) (mark_read i row at)
       ∙ behind_first (has_sibling given) (read_sibling u.encoding ((places_read u r).past i)) (map read given.attributes) a
       ∙ slice_get-map read given.attributes a
-      ∙ ap (λ xs. option_map read (slice_get xs a)) (attributes-entry_at u.entries i)
       ∙ ap (option_map read) is
 
   -- A reference to an entry of the unit, in DW_FORM_ref4 or DW_FORM_ref8, is read as the place where that entry's row begins.
-  pub reference_read : AreLinked u.entries → (i a n : ℕ) (j : UnitEntryId) (row target : Row) → slice_get (attributes_of u.entries i) a ≡ Some (named n (values.UnitRef j)) → IsReadIn u r i row → IsReadIn u r j.0 target →
+  pub reference_read : AreLinked u.entries → (i a n : ℕ) (j : UnitEntryId) (row target : Row) → slice_get (entry_at u.entries i).attributes a ≡ Some (named n (values.UnitRef j)) → IsReadIn u r i row → IsReadIn u r j.0 target →
       attribute_at row (position_read (entry_at u.entries i) a) ≡ Some (record { name = n; form = reference_form u.encoding.format; constant = None; operand = Number target.from })
   reference_read links i a n j row target is at to =
       attribute_read i a (named n (values.UnitRef j)) row is at

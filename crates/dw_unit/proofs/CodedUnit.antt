@@ -10,9 +10,9 @@ use Rattle.dw_base.specs.Spellable.{IsMark, AreDeclarations, IsUnit}
 use Rattle.dw_base.specs.declared.common.Encoding.{Encoding}
 use Rattle.dw_abbrev.specs.Codes.{with_shape, declarations, code_in}
 use Rattle.dw_abbrev.proofs.CodeLaws.{code_in-positive}
-use Rattle.dw_unit.specs.Entries.{EntryValue}
+use Rattle.dw_entries.specs.Entries.{EntryValue, entry_at}
 use Rattle.dw_unit.specs.Shapes.{Placement, shape_of_entry}
-use Rattle.dw_unit.specs.Coded.{entry_at, shapes_of, coded_mark, coded, HasOperands, HaveOperands}
+use Rattle.dw_unit.specs.Coded.{shapes_of, coded_mark, coded, HasOperands, HaveOperands}
 use Rattle.dw_unit.proofs.Shared.{shape-read_entry, code_in-shapes, code_in-added, shapes-declared, with_shape-room}
 
 -- there are no more shapes than marks

@@ -16,11 +16,11 @@ use Rattle.dw_abbrev.specs.Equal.{shape_eq}
 use Rattle.dw_abbrev.specs.EqualLaws.{shape_Decides}
 use Rattle.dw_abbrev.specs.Codes.{code_in, with_shape, numbered, AllDiffer}
 use Rattle.dw_abbrev.proofs.CodeLaws.{insert_key-with}
-use Rattle.dw_unit.specs.Entries.{EntryValue}
+use Rattle.dw_entries.specs.Entries.{EntryValue, entry_at}
 use Rattle.dw_unit.specs.Shapes.{shape_of_entry}
-use Rattle.dw_unit.specs.Coded.{entry_at, shapes_of}
+use Rattle.dw_unit.specs.Coded.{shapes_of}
 use Rattle.dw_unit.specs.DistinctShapes.{entry_shapes, other_shapes, distinct_shapes}
-use Rattle.dw_unit.specs.Tree.{preorder, has_entry}
+use Rattle.dw_entries.specs.Tree.{preorder, has_entry}
 use Rattle.dw_unit.specs.Whole.{tree_shapes}
 
 -- a shape stands in a list

@@ -10,9 +10,9 @@ use Rattle.dw_base.specs.declared.common.Encoding.{Encoding}
 use Rattle.dw_base.specs.declared.common.Format.{Format}
 use Rattle.dw_base.specs.declared.common.Format.TheVariants.{Dwarf32, Dwarf64}
 use Rattle.dw_base.specs.declared.ids.UnitEntryId.{UnitEntryId}
-use Rattle.dw_unit.specs.declared.attribute.AttributeValue.{AttributeValue}
-use Rattle.dw_unit.specs.declared.attribute.AttributeValue.TheVariants as values
-use Rattle.dw_unit.specs.Values.{form_of, operand_of, reference_form}
+use Rattle.dw_entries.specs.declared.value.AttributeValue.{AttributeValue}
+use Rattle.dw_entries.specs.declared.value.AttributeValue.TheVariants as values
+use Rattle.dw_entries.specs.Values.{form_of, operand_of, reference_form}
 
 -- the bytes of a value, where each entry has its place
 abbrev pub value_bytes : (ℕ → ℕ) → Bool → Encoding → AttributeValue → List ℕ

@@ -9,14 +9,14 @@ use Rattle.std.proofs.lemmas.List.Elements.{All-nil, All-cons, All-head, All-tai
 use Rattle.dw_base.specs.Abbreviations.{Shape}
 use Rattle.dw_base.specs.Entries.{Mark, Open, Close, closes}
 use Rattle.dw_base.specs.declared.common.Encoding.{Encoding}
-use Rattle.dw_unit.specs.Entries.{EntryValue}
-use Rattle.dw_unit.specs.Tree.{IsIn, has_any, children_in, has_entry, are_entries_distinct}
+use Rattle.dw_entries.specs.Entries.{EntryValue, is_parent}
+use Rattle.dw_entries.specs.Tree.{IsIn, children_in, has_entry, are_entries_distinct}
 use Rattle.dw_unit.specs.Coded.{code_at}
-use Rattle.dw_unit.specs.Laid.{is_parent, size_of, sizes_of, laid_from}
-use Rattle.dw_unit.specs.Places.{capped, IsSamePlacement}
+use Rattle.dw_unit.specs.Laid.{size_of, sizes_of, laid_from}
+use Rattle.dw_unit.specs.Places.{IsSamePlacement}
 use Rattle.dw_unit.specs.Laying.{LayoutValue, unlaid, placement_in, entered, closed_in, stepped, IsPlaced, IsLaid}
-use Rattle.dw_unit.proofs.Seen.{children-entry_at}
 use Rattle.dw_unit.proofs.Placed.{read_set, read_zeros, left_once, placed_start, placed_open, placed_close}
+use Rattle.dw_entries.specs.Values.{capped}
 
 -- the lists that are open behind an entry without children
 closes_leaf : (d : ℕ) (ms : List (Mark Bool)) → closes (suc d) (Open false ∷ ms) ≡ true → closes (suc d) ms ≡ true
@@ -98,7 +98,7 @@ module _ (e : Encoding) (es : List EntryValue) (shapes : List Shape) (start : �
 
     open_closed : (b : Bool) → is_parent es j ≡ b → closes (suc (length v.parents)) (Open b ∷ closing rest) ≡ true
     open_closed b is =
-        subst (λ b. closes (suc (length v.parents)) (Open b ∷ closing rest) ≡ true) (ap has_any (sym (children-entry_at es j)) ∙ is) h.closed
+        subst (λ b. closes (suc (length v.parents)) (Open b ∷ closing rest) ≡ true) is h.closed
 
     open_inside : (i : ℕ) → has_entry all i ≡ (has_entry rest i || not (slice_index (slice_set v.places j v.end) i == 0))
     open_inside i =

@@ -1,12 +1,11 @@
 -- What is true of all items or attributes at one of them.
 use Rattle.std.proofs.Common.{◌≡◌, ◌∙◌, sym, ap, ℕ, zero, suc, ◌+◌, ◌<◌, ◌≤◌, List, [], ◌∷◌, length, drop, get_or, arith}
-use Rattle.std.proofs.lemmas.List.{drop_more, drop_all, get_or-map, get_or_default, length-map}
-use Rattle.dw_unit.specs.declared.tree.Item.{Item}
-use Rattle.dw_unit.specs.declared.attribute.Attribute.{Attribute}
-use Rattle.dw_unit.specs.Attributes.{AreNamed}
-use Rattle.dw_unit.specs.Entries.{EntryValue, blank_entry}
-use Rattle.dw_unit.specs.Tree.{IsIn, AreIn, mark_of, marks}
-use Rattle.dw_unit.specs.Coded.{entry_at, IsTagged, AreTagged}
+use Rattle.std.proofs.lemmas.List.{drop_more, drop_all, get_or-map, length-map}
+use Rattle.dw_entries.specs.declared.tree.Item.{Item}
+use Rattle.dw_entries.specs.declared.attribute.Attribute.{Attribute}
+use Rattle.dw_entries.specs.Attributes.{AreNamed}
+use Rattle.dw_entries.specs.Entries.{EntryValue}
+use Rattle.dw_entries.specs.Tree.{IsIn, AreIn, mark_of, marks, IsTagged, AreTagged}
 
 pub within_at : (n : ℕ) (items : List Item) (k : ℕ) (d : Item) → AreIn n (marks items) → k < length items → IsIn n (mark_of (get_or items k d))
 within_at n [] k d h below = absurd (omega arith)
@@ -36,7 +35,3 @@ marks-below items k below = omega (arith, length-map items mark_of)
 
 pub mark_at : (items : List Item) (k : ℕ) (d : Item) → k < length items → mark_of (get_or items k d) ≡ get_or (marks items) k (mark_of (get_or items k d))
 mark_at items k d below = sym (get_or-map mark_of items k d (mark_of (get_or items k d)) below)
-
--- the entry that was indexed
-pub indexed : (es : List EntryValue) (i : ℕ) (x : EntryValue) → i < length es → x ≡ get_or es i x → x ≡ entry_at es i
-indexed es i x below is = is ∙ get_or_default es i x (blank_entry 0) below

@@ -10,19 +10,20 @@ use Rattle.dw_base.specs.declared.common.Format.{Format}
 use Rattle.dw_base.specs.declared.common.Format.TheVariants.{Dwarf32}
 use Rattle.dw_base.specs.declared.error.Error.{Error}
 use Rattle.dw_base.specs.declared.error.Error.TheVariants.{InitialLengthOverflow}
-use Rattle.dw_unit.specs.Entries.{EntryValue}
-use Rattle.dw_unit.specs.Arena.{AreLinked}
+use Rattle.dw_entries.specs.Entries.{EntryValue}
+use Rattle.dw_entries.specs.Arena.{AreLinked}
 use Rattle.dw_unit.specs.Shapes.{Placement}
-use Rattle.dw_unit.specs.Tree.{children_in, preorder, has_entry, are_entries_distinct}
+use Rattle.dw_entries.specs.Tree.{children_in, preorder, has_entry, are_entries_distinct}
 use Rattle.dw_unit.specs.Coded.{shapes_of, code_at}
 use Rattle.dw_unit.specs.Laid.{sizes_of, laid_from}
-use Rattle.dw_unit.specs.Places.{capped, has_place, FitsWords, IsSamePlacement}
+use Rattle.dw_unit.specs.Places.{has_place, FitsWords, IsSamePlacement}
 use Rattle.dw_unit.specs.Causes.{TreeRefused}
 use Rattle.dw_unit.specs.Valid.{tree_length}
 use Rattle.dw_unit.specs.Whole.{tree_shapes, tree_size, tree_placement}
-use Rattle.dw_unit.proofs.Distinct.{preorder_distinct}
+use Rattle.dw_entries.proofs.Distinct.{preorder_distinct}
 use Rattle.dw_unit.proofs.DistinctShapes.{tree_shapes-found}
-use Rattle.dw_unit.proofs.TreeLaws.{preorder_closes}
+use Rattle.dw_entries.proofs.TreeLaws.{preorder_closes}
+use Rattle.dw_entries.specs.Values.{capped}
 
 pub tree_distinct : (es : List EntryValue) (ms : List (Mark ℕ)) → ms ≡ preorder es → AreLinked es → are_entries_distinct ms ≡ true
 tree_distinct es ms tree links = ap are_entries_distinct tree ∙ preorder_distinct es links

@@ -7,9 +7,9 @@ use Rattle.std.proofs.lemmas.List.{get_or-replicate, get_or_past, length-replica
 use Rattle.dw_base.specs.Abbreviations.{Shape}
 use Rattle.dw_base.specs.Entries.{Mark, Open, Close}
 use Rattle.dw_base.specs.declared.common.Encoding.{Encoding}
-use Rattle.dw_unit.specs.Entries.{EntryValue}
-use Rattle.dw_unit.specs.Tree.{has_entry}
-use Rattle.dw_unit.specs.Laid.{is_parent, size_of, place_from, past_from, behind_from}
+use Rattle.dw_entries.specs.Entries.{EntryValue, is_parent}
+use Rattle.dw_entries.specs.Tree.{has_entry}
+use Rattle.dw_unit.specs.Laid.{size_of, place_from, past_from, behind_from}
 use Rattle.dw_unit.specs.Laying.{LayoutValue, unlaid, entered, closed_in, AreBehind, IsPlaced}
 
 -- what is read after a number was put under an index

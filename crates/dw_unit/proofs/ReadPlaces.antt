@@ -6,11 +6,11 @@ use Rattle.dw_base.specs.Abbreviations.{Shape}
 use Rattle.dw_base.specs.Entries.{behind_read, ReadEntry, Mark, Open, Close, Row, next_depth}
 use Rattle.dw_base.specs.Spelling.{header_size, mark_bytes, rows_of}
 use Rattle.dw_base.specs.declared.common.Encoding.{Encoding}
-use Rattle.dw_unit.specs.Entries.{EntryValue}
+use Rattle.dw_entries.specs.Entries.{EntryValue, is_parent}
 use Rattle.dw_unit.specs.Shapes.{Placement}
 use Rattle.dw_unit.specs.Coded.{coded_mark, coded}
-use Rattle.dw_unit.specs.Tree.{preorder}
-use Rattle.dw_unit.specs.Laid.{is_parent, size_of, place_from, behind_from, past_from}
+use Rattle.dw_entries.specs.Tree.{preorder}
+use Rattle.dw_unit.specs.Laid.{size_of, place_from, behind_from, past_from}
 use Rattle.dw_unit.specs.Places.{IsSamePlacement}
 use Rattle.dw_unit.specs.Built.{place_read, past_read, placement_read}
 use Rattle.dw_unit.specs.Whole.{tree_shapes, tree_placement, tree_read}

@@ -6,7 +6,7 @@ use Rattle.dw_base.specs.declared.error.Error.TheVariants.{NoMemory, WriteFault,
 use Rattle.dw_writer.specs.Contents.{Meaning}
 use Rattle.dw_writer.specs.Sections.{SomeHasRisen}
 use Rattle.dw_writer.specs.declared.sections.Sections.{Sections}
-use Rattle.dw_unit.specs.Entries.{EntryValue}
+use Rattle.dw_entries.specs.Entries.{EntryValue}
 use Rattle.dw_unit.specs.UnitValue.{UnitValue}
 use Rattle.dw_unit.specs.Whole.{settled}
 use Rattle.dw_unit.specs.Valid.{IsWritableTree, IsWritable}

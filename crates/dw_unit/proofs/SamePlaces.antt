@@ -3,7 +3,7 @@ use Rattle.std.proofs.Common.{◌≡◌, ◌∙◌, ap, subst, ℕ, Bool, List}
 use Rattle.std.proofs.Math.Path.{fun_ext}
 use Rattle.dw_base.specs.Entries.{Mark}
 use Rattle.dw_base.specs.declared.common.Encoding.{Encoding}
-use Rattle.dw_unit.specs.Entries.{EntryValue}
+use Rattle.dw_entries.specs.Entries.{EntryValue}
 use Rattle.dw_unit.specs.Shapes.{Placement}
 use Rattle.dw_unit.specs.Coded.{are_placed, HaveOperands}
 use Rattle.dw_unit.specs.Places.{IsSamePlacement}

@@ -10,12 +10,12 @@ use Rattle.dw_abbrev.specs.Equal.{shape_eq}
 use Rattle.dw_abbrev.specs.EqualLaws.{shape_Decides}
 use Rattle.dw_abbrev.specs.Codes.{code_in, with_shape, declarations, KeepsCodes}
 use Rattle.dw_abbrev.proofs.CodeLaws.{declared, with_shape-keeps}
-use Rattle.dw_unit.specs.Entries.{EntryValue}
-use Rattle.dw_unit.specs.Shapes.{Placement, has_sibling, specification, sibling_specification, shape_of_entry, read_attribute, read_sibling, read_entry}
-use Rattle.dw_unit.specs.declared.attribute.Attribute.{Attribute}
-use Rattle.dw_unit.specs.declared.tree.Item.{Item}
-use Rattle.dw_unit.specs.Tree.{has_any, mark_of, marks}
-use Rattle.dw_unit.specs.Coded.{entry_at, shapes_of, code_at}
+use Rattle.dw_entries.specs.Entries.{EntryValue, has_sibling, has_any, entry_at}
+use Rattle.dw_unit.specs.Shapes.{Placement, specification, sibling_specification, shape_of_entry, read_attribute, read_sibling, read_entry}
+use Rattle.dw_entries.specs.declared.attribute.Attribute.{Attribute}
+use Rattle.dw_entries.specs.declared.tree.Item.{Item}
+use Rattle.dw_entries.specs.Tree.{mark_of, marks}
+use Rattle.dw_unit.specs.Coded.{shapes_of, code_at}
 use Rattle.dw_unit.proofs.Marks.{marks-below, mark_at}
 
 code_step : (b : Bool) (n m k : ℕ) → (n ≤ k → m ≡ n) → (if b then 1 else suc n) ≤ suc k → (if b then 1 else suc m) ≡ (if b then 1 else suc n)

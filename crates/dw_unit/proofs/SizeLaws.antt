@@ -13,13 +13,13 @@ use Rattle.dw_base.specs.declared.common.Encoding.{Encoding}
 use Rattle.dw_base.specs.declared.common.Format.{Format}
 use Rattle.dw_base.specs.declared.common.Format.TheVariants.{Dwarf32, Dwarf64}
 use Rattle.dw_base.proofs.NumberLaws.{length-num}
-use Rattle.dw_unit.specs.declared.attribute.Attribute.{Attribute}
-use Rattle.dw_unit.specs.declared.attribute.AttributeValue.{AttributeValue}
-use Rattle.dw_unit.specs.declared.attribute.AttributeValue.TheVariants as values
-use Rattle.dw_unit.specs.Entries.{EntryValue}
-use Rattle.dw_unit.specs.Values.{reference_form, form_of, operand_of, operand_size}
-use Rattle.dw_unit.specs.Shapes.{Placement, has_sibling, before_attributes, read_attribute, read_sibling}
-use Rattle.dw_unit.specs.Coded.{entry_at, code_at, coded_mark, coded}
+use Rattle.dw_entries.specs.declared.attribute.Attribute.{Attribute}
+use Rattle.dw_entries.specs.declared.value.AttributeValue.{AttributeValue}
+use Rattle.dw_entries.specs.declared.value.AttributeValue.TheVariants as values
+use Rattle.dw_entries.specs.Entries.{EntryValue, has_sibling, entry_at}
+use Rattle.dw_entries.specs.Values.{reference_form, form_of, operand_of, operand_size}
+use Rattle.dw_unit.specs.Shapes.{Placement, before_attributes, read_attribute, read_sibling}
+use Rattle.dw_unit.specs.Coded.{code_at, coded_mark, coded}
 use Rattle.dw_unit.specs.Laid.{sibling_size, values_size, size_of, sizes_of}
 
 -- a place in the unit is a word

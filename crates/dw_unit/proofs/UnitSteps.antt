@@ -26,26 +26,26 @@ use Rattle.dw_writer.proofs.Places.{length-zeros}
 use Rattle.dw_writer.proofs.Steps.{Adds-appends, Appends-then, Appends-as, Adds-filled, Patches-by}
 use Rattle.dw_writer.proofs.Plain.{Adds-number, Replaces-number}
 use Rattle.dw_abbrev.specs.Codes.{declarations}
-use Rattle.dw_unit.specs.Entries.{EntryValue, tag_of}
-use Rattle.dw_unit.specs.Arena.{AreLinked}
+use Rattle.dw_entries.specs.Entries.{EntryValue, entry_at}
+use Rattle.dw_entries.specs.Arena.{AreLinked}
 use Rattle.dw_unit.specs.Valid.{is_version, is_encodable, are_references_inside, tree_length}
 use Rattle.dw_unit.specs.Shapes.{Placement}
 use Rattle.dw_unit.specs.Laid.{sizes_of}
 use Rattle.dw_unit.specs.Places.{has_place, IsSamePlacement}
-use Rattle.dw_unit.specs.Tree.{preorder, has_entry}
+use Rattle.dw_entries.specs.Tree.{preorder, has_entry}
 use Rattle.dw_unit.specs.Coded.{are_spelled, are_placed, shapes_of, coded, HaveOperands}
 use Rattle.dw_unit.specs.UnitText.{fields_text, unit_length, unit_text}
 use Rattle.dw_unit.specs.Causes.{FieldsRefused, BodyRefused, TreeRefused}
 use Rattle.dw_unit.specs.Whole.{tree_bytes, tree_table, tree_shapes, tree_size, tree_placement, tree_read, tree_declared}
 use Rattle.dw_unit.proofs.Conditions.{and_left, and_right, nat_le-holds}
-use Rattle.dw_unit.proofs.TreeLaws.{preorder_one_tree}
+use Rattle.dw_entries.proofs.TreeLaws.{preorder_one_tree}
 use Rattle.dw_unit.proofs.DistinctShapes.{tree_shapes-found}
 use Rattle.dw_unit.proofs.PlaceSteps.{tree_size-found}
 use Rattle.dw_unit.proofs.ReadPlaces.{coded-same}
 use Rattle.dw_unit.proofs.SamePlaces.{are_placed-same}
 use Rattle.dw_unit.proofs.SizeLaws.{length-body_bytes}
-use Rattle.dw_unit.proofs.Tagged.{root_within}
-use Rattle.dw_unit.proofs.Seen.{children-coded}
+use Rattle.dw_entries.proofs.Tagged.{root_within}
+use Rattle.dw_unit.proofs.TreeRead.{children-coded}
 use Rattle.dw_unit.proofs.CodedUnit.{IsUnit-written}
 
 -- the fields of a header of version 5
@@ -193,7 +193,7 @@ place_plain true w place e h = h
 place_plain false w place e h = cc
 
 -- the unit that stands can be read again
-pub tree_is_unit : (big : Bool) (e : Encoding) (place : ℕ) (es : List EntryValue) (ms : List (Mark ℕ)) (shapes : List Shape) (items : ℕ) → AreLinked es → tag_of es 0 ≢ 0 →
+pub tree_is_unit : (big : Bool) (e : Encoding) (place : ℕ) (es : List EntryValue) (ms : List (Mark ℕ)) (shapes : List Shape) (items : ℕ) → AreLinked es → (entry_at es 0).tag ≢ 0 →
     ms ≡ preorder es → shapes ≡ shapes_of e es [] ms → items ≡ length ms → items < 2 ^ 64 → IsTrue (is_encodable e) → IsTrue (fits (word_of e.format) place) →
     IsTrue (length_fits e.format (tree_length e es)) → AreDeclarations (declarations shapes) → HaveOperands e es (tree_placement e es) (preorder es) →
     IsUnit big e place (tree_declared e es) (tree_read e es)

@@ -6,7 +6,7 @@ use Rattle.dw_base.specs.Spelling.{header_size, unit_type_of}
 use Rattle.dw_unit.specs.UnitValue.{UnitValue}
 use Rattle.dw_unit.specs.Coded.{coded}
 use Rattle.dw_unit.specs.Shapes.{Placement}
-use Rattle.dw_unit.specs.Tree.{preorder}
+use Rattle.dw_entries.specs.Tree.{preorder}
 use Rattle.dw_unit.specs.Whole.{tree_shapes, tree_declared, tree_size, tree_table}
 
 -- where the row is read that has the same number in preorder as an entry

@@ -9,8 +9,8 @@ use Rattle.dw_writer.specs.Meaning.{Meaning}
 use Rattle.dw_writer.specs.Causes.{HasRisen, offset_fits}
 use Rattle.dw_writer.specs.Sections.{SomeHasRisen}
 use Rattle.dw_writer.specs.declared.sections.Sections.{Sections}
-use Rattle.dw_unit.specs.Entries.{EntryValue}
-use Rattle.dw_unit.specs.Tree.{preorder}
+use Rattle.dw_entries.specs.Entries.{EntryValue}
+use Rattle.dw_entries.specs.Tree.{preorder}
 use Rattle.dw_unit.specs.Coded.{are_spelled}
 use Rattle.dw_unit.specs.UnitValue.{UnitValue}
 use Rattle.dw_unit.specs.Valid.{is_version, are_references_inside, tree_length}

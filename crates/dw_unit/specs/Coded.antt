@@ -1,19 +1,15 @@
 -- The codes of entries, which those of one shape share.
-use Rattle.std.specs.Prelude.{◌≢◌, ℕ, List, [], ◌∷◌, map, Bool, true, All, get_or}
+use Rattle.std.specs.Prelude.{ℕ, List, [], ◌∷◌, map, Bool, true, All}
 use Rattle.std.specs.List.{list_all}
 use Rattle.dw_base.specs.Abbreviations.{Shape}
 use Rattle.dw_base.specs.Entries.{ReadEntry, Mark, Open, Close}
 use Rattle.dw_base.specs.Spellable.{IsAttribute}
 use Rattle.dw_base.specs.declared.common.Encoding.{Encoding}
 use Rattle.dw_abbrev.specs.Codes.{code_in, with_shape}
-use Rattle.dw_unit.specs.declared.attribute.Attribute.{Attribute}
-use Rattle.dw_unit.specs.Entries.{EntryValue, blank_entry}
-use Rattle.dw_unit.specs.Values.{is_spelled, names_entry}
+use Rattle.dw_entries.specs.declared.attribute.Attribute.{Attribute}
+use Rattle.dw_entries.specs.Entries.{EntryValue, entry_at}
+use Rattle.dw_entries.specs.Values.{is_spelled, names_entry}
 use Rattle.dw_unit.specs.Shapes.{Placement, read_attribute, read_attributes, read_entry, shape_of_entry}
-
--- the entry at an index, and a blank one past the end
-abbrev pub entry_at : List EntryValue → ℕ → EntryValue
-entry_at es i = get_or es i (blank_entry 0)
 
 -- the shapes with that of a mark's entry, if it isn't there
 abbrev pub with_mark : Encoding → List EntryValue → List Shape → Mark ℕ → List Shape
@@ -41,16 +37,6 @@ coded_mark e es p shapes m = read_mark e es p (code_at e es shapes m) m
 -- the marks with what is read of each, where the shapes give the codes
 abbrev pub coded : Encoding → List EntryValue → Placement → List Shape → List (Mark ℕ) → List (Mark ReadEntry)
 coded e es p shapes ms = map (coded_mark e es p shapes) ms
-
--- the mark's entry has a tag
-abbrev pub IsTagged : List EntryValue → Mark ℕ → Type 0
-IsTagged es (Open i) = (entry_at es i).tag ≢ 0
-IsTagged es Close = Unit {0}
-
--- each entry has a tag
-abbrev pub AreTagged : List EntryValue → List (Mark ℕ) → Type 0
-AreTagged es [] = Unit {0}
-AreTagged es (m ∷ ms) = IsTagged es m × AreTagged es ms
 
 -- the values of attributes have a spelling
 abbrev pub are_values_spelled : List Attribute → Bool

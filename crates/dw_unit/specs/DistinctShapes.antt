@@ -4,9 +4,8 @@ use Rattle.dw_base.specs.Abbreviations.{Shape}
 use Rattle.dw_base.specs.Entries.{Mark, Open, Close}
 use Rattle.dw_base.specs.declared.common.Encoding.{Encoding}
 use Rattle.dw_abbrev.specs.Equal.{shape_eq}
-use Rattle.dw_unit.specs.Entries.{EntryValue}
+use Rattle.dw_entries.specs.Entries.{EntryValue, entry_at}
 use Rattle.dw_unit.specs.Shapes.{shape_of_entry}
-use Rattle.dw_unit.specs.Coded.{entry_at}
 
 -- the shapes of the marks' entries, in order, also where a shape comes again
 abbrev pub entry_shapes : Encoding → List EntryValue → List (Mark ℕ) → List Shape

@@ -1,16 +1,15 @@
 -- Where the entries of a unit stand: sizes and places in preorder (DWARF 5, 7.5.2 and 7.5.3).
-use Rattle.std.specs.Prelude.{ℕ, zero, suc, ◌+◌, Bool, List, [], ◌∷◌, length, ◌==◌, if◌then◌else◌}
+use Rattle.std.specs.Prelude.{ℕ, zero, suc, ◌+◌, List, [], ◌∷◌, length, ◌==◌, if◌then◌else◌}
 use Rattle.dw_base.specs.Numbers.{word_of}
 use Rattle.dw_base.specs.Leb128.{uleb}
 use Rattle.dw_base.specs.Abbreviations.{Shape}
 use Rattle.dw_base.specs.Entries.{Mark, Open, Close}
 use Rattle.dw_base.specs.declared.common.Encoding.{Encoding}
-use Rattle.dw_unit.specs.declared.attribute.Attribute.{Attribute}
-use Rattle.dw_unit.specs.Entries.{EntryValue}
-use Rattle.dw_unit.specs.Tree.{has_any}
-use Rattle.dw_unit.specs.Values.{operand_size}
-use Rattle.dw_unit.specs.Shapes.{Placement, has_sibling}
-use Rattle.dw_unit.specs.Coded.{entry_at, code_at}
+use Rattle.dw_entries.specs.declared.attribute.Attribute.{Attribute}
+use Rattle.dw_entries.specs.Entries.{EntryValue, has_sibling, entry_at, is_parent}
+use Rattle.dw_entries.specs.Values.{operand_size}
+use Rattle.dw_unit.specs.Shapes.{Placement}
+use Rattle.dw_unit.specs.Coded.{code_at}
 
 -- the bytes of the place past an entry, where it names that
 abbrev pub sibling_size : Encoding → EntryValue → ℕ
@@ -29,10 +28,6 @@ entry_size e code x = length (uleb code) + (sibling_size e x + values_size e x.a
 abbrev pub mark_size : Encoding → List EntryValue → ℕ → Mark ℕ → ℕ
 mark_size e es code (Open i) = entry_size e code (entry_at es i)
 mark_size e es code Close = 1
-
--- the entry at an index has children
-abbrev pub is_parent : List EntryValue → ℕ → Bool
-is_parent es i = has_any (entry_at es i).children
 
 module _ (e : Encoding) (es : List EntryValue) (shapes : List Shape) where
   abbrev pub size_of : Mark ℕ → ℕ

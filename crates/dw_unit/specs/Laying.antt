@@ -5,12 +5,12 @@ use Rattle.dw_base.specs.Abbreviations.{Shape}
 use Rattle.dw_base.specs.Entries.{Mark, Open, Close, closes}
 use Rattle.dw_base.specs.declared.common.Encoding.{Encoding}
 use Rattle.dw_unit.specs.declared.layout.Layout.{Layout}
-use Rattle.dw_unit.specs.Entries.{EntryValue}
-use Rattle.dw_unit.specs.Tree.{children_in, has_entry, are_entries_distinct}
+use Rattle.dw_entries.specs.Entries.{EntryValue, entry_at, is_parent}
+use Rattle.dw_entries.specs.Tree.{children_in, has_entry, are_entries_distinct}
 use Rattle.dw_unit.specs.Shapes.{Placement}
-use Rattle.dw_unit.specs.Coded.{entry_at}
-use Rattle.dw_unit.specs.Laid.{entry_size, is_parent, sizes_of, place_from, past_from, behind_from}
-use Rattle.dw_unit.specs.Places.{capped, has_place}
+use Rattle.dw_entries.specs.Values.{capped}
+use Rattle.dw_unit.specs.Laid.{entry_size, sizes_of, place_from, past_from, behind_from}
+use Rattle.dw_unit.specs.Places.{has_place}
 
 -- A layout, without its capacities: the places of entries, the places past them, the place past all that was laid out,
 -- and the entries whose children are not closed yet, the innermost first.

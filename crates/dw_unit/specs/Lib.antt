@@ -1,12 +1,5 @@
 pub mod UnitValue
-pub mod Attributes
-pub mod Entries
-pub mod Arena
 pub mod Lends
-pub mod Tree
-pub mod Walk
-pub mod Settled
-pub mod Values
 pub mod Shapes
 pub mod Coded
 pub mod DistinctShapes

@@ -1,13 +1,9 @@
 -- The places that the code keeps, each under its entry's index.
-use Rattle.std.specs.Prelude.{◌≡◌, ℕ, ◌-◌, ◌^◌, Bool, not, ◌==◌, min, IsTrue, slice_index}
+use Rattle.std.specs.Prelude.{◌≡◌, ℕ, Bool, not, ◌==◌, IsTrue, slice_index}
 use Rattle.dw_base.specs.Numbers.{word_of, fits}
 use Rattle.dw_base.specs.declared.common.Format.{Format}
 use Rattle.dw_unit.specs.declared.places.Places.{Places}
 use Rattle.dw_unit.specs.Shapes.{Placement}
-
--- a number, or the largest of 64 bits where it is larger
-abbrev pub capped : ℕ → ℕ
-capped n = min n (2 ^ 64 - 1)
 
 -- what is kept, where an entry that isn't kept stands at 0
 abbrev pub placement_of : Places → Placement

@@ -1,23 +1,18 @@
 -- What is read of an entry that was written.
-use Rattle.std.specs.Prelude.{ℕ, Bool, ◌&&◌, List, [], ◌∷◌, ◌++◌, map, None, if◌then◌else◌}
+use Rattle.std.specs.Prelude.{ℕ, List, [], ◌∷◌, ◌++◌, map, None, if◌then◌else◌}
 use Rattle.dw_base.specs.Abbreviations.{Specification, Shape}
 use Rattle.dw_base.specs.Forms.{Number}
 use Rattle.dw_base.specs.Entries.{ReadAttribute, ReadEntry}
 use Rattle.dw_base.specs.declared.common.Encoding.{Encoding}
-use Rattle.dw_unit.specs.declared.attribute.Attribute.{Attribute}
-use Rattle.dw_unit.specs.Entries.{EntryValue}
-use Rattle.dw_unit.specs.Tree.{has_any}
-use Rattle.dw_unit.specs.Values.{form_of, constant_of, operand_of, reference_form}
+use Rattle.dw_entries.specs.declared.attribute.Attribute.{Attribute}
+use Rattle.dw_entries.specs.Entries.{EntryValue, has_any, has_sibling}
+use Rattle.dw_entries.specs.Values.{form_of, constant_of, operand_of, reference_form}
 
 -- Where each entry stands in its unit, and the place past it: behind the zero that closes its children, or behind itself
 -- where it has none.
 pub record Placement : Type 0 where
   pub place : ℕ → ℕ
   pub past : ℕ → ℕ
-
--- the entry names the place past it
-abbrev pub has_sibling : EntryValue → Bool
-has_sibling x = x.sibling && has_any x.children
 
 -- what a declaration says of an attribute
 abbrev pub specification : Encoding → Attribute → Specification

@@ -1,9 +1,9 @@
 -- A unit, as contracts see it.
-use Rattle.std.specs.Prelude.{ℕ, List, [], ◌∷◌, Bool, false, ◌&&◌, nat_lt, ◌==◌, IsTrue}
+use Rattle.std.specs.Prelude.{◌≡◌, ℕ, ◌<◌, List, [], ◌∷◌, length, Bool, true, false, IsTrue}
 use Rattle.dw_base.specs.declared.common.Encoding.{Encoding}
 use Rattle.dw_unit.specs.declared.line_program.LineProgram.{LineProgram}
-use Rattle.dw_unit.specs.Entries.{EntryValue, new_root, tag_of}
-use Rattle.dw_unit.specs.Arena.{IsArena}
+use Rattle.dw_entries.specs.Entries.{EntryValue, new_root}
+use Rattle.dw_entries.specs.Arena.{EntriesValue, IsArena, is_reserved as is_reserved_in}
 
 -- the ids below `reserved` were handed out
 pub record UnitValue : Type 0 where
@@ -19,16 +19,26 @@ abbrev pub new_unit : Encoding → LineProgram → UnitValue
 new_unit encoding line_program =
     record { encoding = encoding; line_program = line_program; entries = new_root ∷ []; reserved = 1; is_written = false; is_freed = false }
 
+-- the entries, and how many ids were handed out
+abbrev pub entries_of : UnitValue → EntriesValue
+entries_of u = record { entries = u.entries; reserved = u.reserved }
+
 -- an id was handed out, is not the root's and was not added yet
 abbrev pub is_reserved : UnitValue → ℕ → Bool
-is_reserved u i = nat_lt 0 i && nat_lt i u.reserved && (tag_of u.entries i == 0)
+is_reserved u i = is_reserved_in (entries_of u) i
 
 abbrev pub IsReserved : UnitValue → ℕ → Type 0
 IsReserved u i = IsTrue (is_reserved u i)
 
+-- The entries are there until the unit is freed, and only a unit that was written is freed.
+pub record IsKept (es : List EntryValue) (is_written is_freed : Bool) : Type 0 where
+  pub rooted : is_freed ≡ false → 0 < length es
+  pub written : is_freed ≡ true → is_written ≡ true
+
 -- what is true of each unit
-abbrev pub IsSound : UnitValue → Type 0
-IsSound u = IsArena u.entries u.reserved u.is_written u.is_freed
+pub record IsSound (u : UnitValue) : Type 0 where
+  pub arena : IsArena u.entries u.reserved
+  pub kept : IsKept u.entries u.is_written u.is_freed
 
 -- the line program that there is where there is none
 abbrev pub no_line_program : LineProgram

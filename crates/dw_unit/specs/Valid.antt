@@ -2,8 +2,8 @@
 use Rattle.std.specs.Prelude.{ℕ, List, Bool, ◌&&◌, nat_le, IsTrue}
 use Rattle.dw_base.specs.Numbers.{is_width, length_fits}
 use Rattle.dw_base.specs.declared.common.Encoding.{Encoding}
-use Rattle.dw_unit.specs.Entries.{EntryValue}
-use Rattle.dw_unit.specs.Tree.{preorder, has_entry}
+use Rattle.dw_entries.specs.Entries.{EntryValue}
+use Rattle.dw_entries.specs.Tree.{preorder, has_entry}
 use Rattle.dw_unit.specs.Coded.{are_spelled, are_placed}
 use Rattle.dw_unit.specs.UnitText.{unit_length}
 use Rattle.dw_unit.specs.Whole.{tree_size, settled}

@@ -5,13 +5,13 @@ use Rattle.dw_base.specs.Entries.{ReadEntry, Mark}
 use Rattle.dw_base.specs.Spelling.{body_bytes, header_size, table_bytes}
 use Rattle.dw_base.specs.declared.common.Encoding.{Encoding}
 use Rattle.dw_abbrev.specs.Codes.{declarations}
-use Rattle.dw_unit.specs.Entries.{EntryValue}
-use Rattle.dw_unit.specs.Tree.{preorder}
+use Rattle.dw_entries.specs.Entries.{EntryValue}
+use Rattle.dw_entries.specs.Tree.{preorder}
 use Rattle.dw_unit.specs.Coded.{coded}
 use Rattle.dw_unit.specs.DistinctShapes.{entry_shapes, distinct_shapes}
 use Rattle.dw_unit.specs.Laid.{sizes_of, laid_from}
 use Rattle.dw_unit.specs.Shapes.{Placement}
-use Rattle.dw_unit.specs.Settled.{settled_entries}
+use Rattle.dw_entries.specs.Settled.{settled_entries}
 use Rattle.dw_unit.specs.UnitValue.{UnitValue}
 
 -- the different shapes of the tree's entries, in the order in which each first comes

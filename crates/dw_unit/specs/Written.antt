@@ -5,7 +5,7 @@ use Rattle.dw_base.specs.Spellable.{IsUnit}
 use Rattle.dw_base.specs.declared.common.Encoding.{Encoding}
 use Rattle.dw_writer.specs.Meaning.{Meaning, Adds, Appends}
 use Rattle.dw_writer.specs.declared.sections.Sections.{Sections}
-use Rattle.dw_unit.specs.Entries.{EntryValue}
+use Rattle.dw_entries.specs.Entries.{EntryValue}
 use Rattle.dw_unit.specs.UnitValue.{UnitValue}
 use Rattle.dw_unit.specs.UnitText.{unit_text}
 use Rattle.dw_unit.specs.Whole.{tree_bytes, tree_table, tree_declared, tree_read, settled}

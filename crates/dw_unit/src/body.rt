@@ -8,16 +8,15 @@ ghost use Rattle.dw_base.specs.Spelling.{attribute_bytes, mark_bytes, body_bytes
 ghost use Rattle.dw_base.specs.Spellable.{IsAttribute};
 ghost use Rattle.dw_writer.specs.Meaning.{IsSameWriter, Adds};
 ghost use Rattle.dw_unit.specs.Shapes.{read_attribute, read_attributes, read_sibling, before_attributes, read_entry};
-ghost use Rattle.dw_unit.specs.Tree.{IsIn, AreIn, mark_of, marks};
+ghost use Rattle.dw_entries.specs.Tree.{IsIn, AreIn, mark_of, marks};
 ghost use Rattle.dw_unit.specs.Coded.{shapes_of, code_at, read_mark, coded, are_values_spelled, is_mark_spelled, are_spelled, name_entries, is_mark_placed, are_placed, AreOperands, HasOperands, HaveOperands};
 ghost use Rattle.dw_unit.specs.Places.{placement_of, has_place, FitsWords};
 ghost use Rattle.dw_unit.specs.Causes.{BodyRefused};
 
-use crate::attribute::Attribute;
-use crate::entry::DebuggingInformationEntry;
 use crate::places::Places;
-use crate::tree::Item;
+use crate::value::write_value;
 use dw_base::{Encoding, Result};
+use dw_entries::{Attribute, DebuggingInformationEntry, Item};
 use dw_writer::Writer;
 
 /// Writes the values of attributes.
@@ -39,7 +38,7 @@ fn write_attributes<W: Writer>(
     ensures same { IsSameWriter (W.meaning w.old) (W.meaning w.new) }
 {
     for attribute in attributes {
-        attribute.get().write(encoding, places, w)?;
+        write_value(encoding, places, attribute.get(), w)?;
     }
     Ok(())
 }

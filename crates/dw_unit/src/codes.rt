@@ -2,14 +2,13 @@
 
 ghost use Rattle.std.specs.Prelude.{◌≡◌, [], length, map, IfOk, OnOk, IfErr};
 ghost use Rattle.dw_base.specs.declared.error.Error.TheVariants.{NoMemory};
-ghost use Rattle.dw_unit.specs.Tree.{IsIn, AreIn, mark_of, marks};
-ghost use Rattle.dw_unit.specs.Coded.{with_mark, shapes_of, code_at, IsTagged, AreTagged};
+ghost use Rattle.dw_entries.specs.Tree.{IsIn, AreIn, mark_of, marks, IsTagged, AreTagged};
+ghost use Rattle.dw_unit.specs.Coded.{with_mark, shapes_of, code_at};
 
-use crate::entry::DebuggingInformationEntry;
 use crate::shape::abbreviation_of;
-use crate::tree::Item;
 use dw_abbrev::AbbreviationTable;
 use dw_base::{Encoding, Result};
+use dw_entries::{DebuggingInformationEntry, Item};
 use std::alloc::Global;
 
 /// The abbreviations of a unit's entries, and the code of each item.

@@ -6,12 +6,12 @@ ghost use Rattle.dw_base.specs.Spelling.{header_size};
 ghost use Rattle.dw_writer.specs.Meaning.{IsSameWriter, Appends};
 ghost use Rattle.dw_writer.specs.Causes.{HasRisen, offset_fits};
 ghost use Rattle.dw_writer.specs.Sections.{SomeHasRisen, fault_sum};
-ghost use Rattle.dw_unit.specs.Entries.{tag_of};
-ghost use Rattle.dw_unit.specs.Arena.{AreLinked};
+ghost use Rattle.dw_entries.specs.Entries.{entry_at};
+ghost use Rattle.dw_entries.specs.Arena.{AreLinked};
 ghost use Rattle.dw_unit.specs.Valid.{is_encodable, are_references_inside, tree_length, IsWritableTree};
 ghost use Rattle.dw_unit.specs.UnitText.{unit_text};
 ghost use Rattle.dw_unit.specs.Causes.{TreeRefused};
-ghost use Rattle.dw_unit.specs.Tree.{AreIn, marks, preorder, has_entry};
+ghost use Rattle.dw_entries.specs.Tree.{AreIn, marks, preorder, has_entry};
 ghost use Rattle.dw_unit.specs.Coded.{code_at, are_spelled, HaveOperands};
 ghost use Rattle.dw_unit.specs.Whole.{tree_shapes, tree_size, tree_placement, tree_bytes};
 ghost use Rattle.dw_unit.specs.Places.{placement_of, has_place, FitsWords, IsSamePlacement};
@@ -19,12 +19,11 @@ ghost use Rattle.dw_unit.specs.Written.{AppendsTree};
 
 use crate::body::write_items;
 use crate::codes::assign_codes;
-use crate::entry::DebuggingInformationEntry;
 use crate::header::write_fields;
 use crate::layout::lay_out;
 use crate::places::Places;
-use crate::tree::{Item, flatten};
 use dw_base::{Encoding, Result};
+use dw_entries::{DebuggingInformationEntry, Item, flatten};
 use dw_writer::{Sections, Writer};
 use std::alloc::Global;
 
@@ -77,7 +76,7 @@ pub(crate) fn write_tree<W: Writer>(
 ) -> Result<()>
     requires encodable { IsTrue (is_encodable encoding) }
     requires linked { AreLinked entries.now }
-    requires rooted { tag_of entries.now 0 ≢ 0 }
+    requires rooted { (entry_at entries.now 0).tag ≢ 0 }
     ensures unit { OnOk result (AppendsTree W.meaning sections.old sections.new encoding entries.now) }
     ensures writable { OnOk result (IsWritableTree encoding entries.now) }
     ensures err { IfErr result

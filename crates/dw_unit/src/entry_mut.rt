@@ -2,14 +2,12 @@
 
 ghost use Rattle.std.specs.Prelude.{◌≡◌, ◌≢◌, ◌<◌, ℕ, length, Some, None, slice_get, OnOk, OnErr, IfErr};
 ghost use Rattle.dw_base.specs.declared.error.Error.TheVariants.{NoMemory};
-ghost use Rattle.dw_unit.specs.Entries.{with_changed, with_sibling, with_attribute, without_attribute, without_child, value_of};
+ghost use Rattle.dw_entries.specs.Entries.{with_changed, with_sibling, with_attribute, without_attribute, without_child, value_of};
 
-use crate::attribute::AttributeValue;
-use crate::attribute_walk::AttrsMut;
-use crate::entry::DebuggingInformationEntry;
 use crate::unit::Unit;
 use dw_base::constants::DW_AT_sibling;
 use dw_base::{DwAt, Result, UnitEntryId};
+use dw_entries::{AttributeValue, AttrsMut, DebuggingInformationEntry};
 
 /// An entry of a unit, to be changed.
 #[derive(Drop)]
@@ -31,7 +29,8 @@ impl<'a> EntryMut<'a> {
 
     /// The entry as it is now.
     pub fn entry(&self) -> &DebuggingInformationEntry
-        ensures { slice_get self.now.unit.now.entries self.now.index ≡ Some result.now }
+        ensures entry { slice_get self.now.unit.now.entries self.now.index ≡ Some result.now }
+        ensures id { result.now.id ≡ self.now.index }
     {
         self.unit.get(UnitEntryId::new(self.index))
     }
@@ -44,7 +43,9 @@ impl<'a> EntryMut<'a> {
         ensures unit { self.new.unit.now ≡ record self.old.unit.now { entries = with_changed self.old.index (with_sibling sibling) self.old.unit.now.entries } }
         ensures count { length self.new.unit.now.entries ≡ length self.old.unit.now.entries }
     {
-        self.unit.set_sibling(self.index, sibling);
+        let index = self.index;
+        let unit = &mut *self.unit;
+        unit.entries.set_sibling(index, sibling);
     }
 
     /// Replaces the value under a name in its position, which takes no memory, or appends an
@@ -64,7 +65,9 @@ impl<'a> EntryMut<'a> {
         ensures kept { OnErr result (self.new.unit.now ≡ self.old.unit.now) }
         ensures in_place { OnErr result (value_of self.old.unit.now.entries self.old.index name.0 ≡ None) }
     {
-        self.unit.set_attribute(self.index, name, value)
+        let index = self.index;
+        let unit = &mut *self.unit;
+        unit.entries.set(index, name, value)
     }
 
     /// Leaves the attribute of a name out, if there is one.
@@ -76,7 +79,9 @@ impl<'a> EntryMut<'a> {
         ensures gone { value_of self.new.unit.now.entries self.old.index name.0 ≡ None }
         ensures others { (n : ℕ) → n ≢ name.0 → value_of self.new.unit.now.entries self.old.index n ≡ value_of self.old.unit.now.entries self.old.index n }
     {
-        self.unit.delete_attribute(self.index, name);
+        let index = self.index;
+        let unit = &mut *self.unit;
+        unit.entries.delete(index, name);
     }
 
     /// Takes a child out of the entry's children, if it is there. The entry that was the child stays
@@ -87,7 +92,9 @@ impl<'a> EntryMut<'a> {
         ensures unit { self.new.unit.now ≡ record self.old.unit.now { entries = with_changed self.old.index (without_child id.0) self.old.unit.now.entries } }
         ensures count { length self.new.unit.now.entries ≡ length self.old.unit.now.entries }
     {
-        self.unit.delete_child(self.index, id);
+        let index = self.index;
+        let unit = &mut *self.unit;
+        unit.entries.delete_child(index, id);
     }
 
     /// Makes room for more attributes.
@@ -97,14 +104,16 @@ impl<'a> EntryMut<'a> {
         ensures unit { self.new.unit.now ≡ self.old.unit.now }
         ensures err { IfErr result (λ e. e ≡ NoMemory) }
     {
-        self.unit.reserve_attributes(self.index, additional)
+        let index = self.index;
+        let unit = &mut *self.unit;
+        unit.entries.reserve_attributes(index, additional)
     }
 }
 
 impl EntryMut<'_> {
     ghost use Rattle.std.specs.Option.{option_copied_mut};
     ghost use Rattle.std.specs.Borrow.{sem};
-    ghost use Rattle.dw_unit.specs.Entries.{attributes_of};
+    ghost use Rattle.dw_entries.specs.Entries.{entry_at};
     ghost use Rattle.dw_unit.specs.Lends.{LendsOut, LendsWalkOut};
 
     /// The value under a name, to be changed.
@@ -113,16 +122,18 @@ impl EntryMut<'_> {
         ensures value { option_copied_mut result ≡ value_of self.old.unit.now.entries self.old.index name.0 }
     {
         let index = self.index;
-        self.unit.value_mut(index, name)
+        let unit = &mut *self.unit;
+        unit.entries.value_mut(index, name)
     }
 
     /// A walk over the attributes, to change their values.
     pub fn attrs_mut(&mut self) -> AttrsMut<'_>
         ensures* writes_back { sem 𝓛 (LendsWalkOut self.entry result) }
-        ensures attributes { result.now.attributes ≡ attributes_of self.old.unit.now.entries self.old.index }
+        ensures attributes { result.now.attributes ≡ (entry_at self.old.unit.now.entries self.old.index).attributes }
         ensures next { result.now.next ≡ 0 }
     {
         let index = self.index;
-        self.unit.walk_mut(index)
+        let unit = &mut *self.unit;
+        unit.entries.walk_mut(index)
     }
 }

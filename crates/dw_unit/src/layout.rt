@@ -3,16 +3,15 @@
 ghost use Rattle.std.specs.Prelude.{◌≡◌, ◌+◌, ◌<◌, ◌≤◌, ◌^◌, ◌++◌, ◌∷◌, [], ℕ, true, length, map, All, IfOk, OnOk};
 ghost use Rattle.dw_base.specs.Entries.{Close, closes};
 ghost use Rattle.dw_base.specs.Spelling.{header_size as size_of_header};
-ghost use Rattle.dw_unit.specs.Tree.{AreIn, IsIn, mark_of, marks, children_in, has_entry, are_entries_distinct};
+ghost use Rattle.dw_entries.specs.Tree.{AreIn, IsIn, mark_of, marks, children_in, has_entry, are_entries_distinct};
 ghost use Rattle.dw_unit.specs.Coded.{shapes_of, code_at};
 ghost use Rattle.dw_unit.specs.Laid.{values_size as size_of_values, entry_size as size_of_entry, sizes_of, laid_from};
-ghost use Rattle.dw_unit.specs.Places.{capped, placement_of, has_place, IsSamePlacement};
+ghost use Rattle.dw_unit.specs.Places.{placement_of, has_place, IsSamePlacement};
+ghost use Rattle.dw_entries.specs.Values.{capped};
 
-use crate::attribute::Attribute;
-use crate::entry::DebuggingInformationEntry;
 use crate::places::Places;
-use crate::tree::Item;
 use dw_base::{Encoding, uleb128_size};
+use dw_entries::{Attribute, DebuggingInformationEntry, Item};
 use std::alloc::{AllocError, Global};
 
 /// The bytes of a header: the length, with its escape in the 64-bit format, the version, the place of

@@ -2,15 +2,13 @@
 
 ghost use Rattle.std.specs.Prelude.{◌≡◌, ◌≢◌, ◌<◌, ◌++◌, map, IfOk, OnOk, IfErr};
 ghost use Rattle.dw_base.specs.declared.error.Error.TheVariants.{NoMemory};
-ghost use Rattle.dw_unit.specs.Attributes.{AreNamed};
+ghost use Rattle.dw_entries.specs.Attributes.{AreNamed};
 ghost use Rattle.dw_unit.specs.Shapes.{specification as specification_of, sibling_specification, before_attributes, shape_of_entry};
 
-use crate::attribute::Attribute;
-use crate::entry::DebuggingInformationEntry;
-use crate::value::reference_form;
 use dw_abbrev::{Abbreviation, AttributeSpecification};
 use dw_base::constants::DW_AT_sibling;
 use dw_base::{Encoding, Result};
+use dw_entries::{Attribute, DebuggingInformationEntry, reference_form};
 use std::alloc::Global;
 
 /// What a declaration says of one attribute.

@@ -1,13 +1,12 @@
 //! Units built by calls.
 
-use crate::attribute::AttributeValue;
 use crate::line_program::LineProgram;
-use crate::tree::{Item, flatten};
 use crate::unit::Unit;
 use dw_base::constants::{
     DW_AT_byte_size, DW_AT_name, DW_AT_type, DW_TAG_base_type, DW_TAG_compile_unit, DW_TAG_variable,
 };
 use dw_base::{Encoding, Format, UnitEntryId};
+use dw_entries::AttributeValue;
 use dw_writer::Bytes;
 use std::test::Fail;
 
@@ -94,74 +93,5 @@ fn room_is_made_for_attributes(rt: HostRuntime) -> Result<(), Fail> {
     assert_eq!(rt; root.reserve(2), Ok(()));
     assert_eq!(rt; root.set(DW_AT_byte_size, AttributeValue::Data1(4)), Ok(()));
     assert_eq!(rt; root.entry().attrs().count(), 1);
-    Ok(())
-}
-
-#[test]
-fn copies_equal_what_they_are_made_from(rt: HostRuntime) -> Result<(), Fail> {
-    let text = Bytes::new(rt.alloc(), b"int")?;
-    let copy = text.try_clone()?;
-    assert_eq!(rt; copy, text);
-    let values = [
-        AttributeValue::Data1(4),
-        AttributeValue::Udata(300),
-        AttributeValue::String(text),
-        AttributeValue::UnitRef(UnitEntryId::new(1)),
-    ];
-    for value in &values {
-        assert_eq!(rt; value.try_clone()?, *value);
-    }
-    let mut unit = Unit::new(rt.alloc(), ENCODING, LineProgram::none())?;
-    let mut root = unit.get_mut(UnitEntryId::new(0));
-    root.set(DW_AT_name, AttributeValue::String(copy))?;
-    for attribute in root.entry().attrs() {
-        assert_eq!(rt; attribute.try_clone()?, *attribute);
-    }
-    Ok(())
-}
-
-#[test]
-fn the_tree_is_flattened_in_preorder(rt: HostRuntime) -> Result<(), Fail> {
-    let mut unit = Unit::new(rt.alloc(), ENCODING, LineProgram::none())?;
-    let root = unit.root();
-    let first = unit.add(root, DW_TAG_variable)?;
-    unit.add(root, DW_TAG_base_type)?;
-    unit.add(first, DW_TAG_base_type)?;
-    let items = flatten(rt.alloc(), unit.entries())?;
-    let in_calls_order = [
-        Item::Open(0),
-        Item::Open(1),
-        Item::Open(3),
-        Item::Close,
-        Item::Open(2),
-        Item::Close,
-    ];
-    assert_eq!(rt; items.as_slice(), in_calls_order.as_slice());
-    unit.settle()?;
-    let items = flatten(rt.alloc(), unit.entries())?;
-    let bases_first = [
-        Item::Open(0),
-        Item::Open(2),
-        Item::Open(1),
-        Item::Open(3),
-        Item::Close,
-        Item::Close,
-    ];
-    assert_eq!(rt; items.as_slice(), bases_first.as_slice());
-    Ok(())
-}
-
-#[test]
-fn a_long_chain_is_flattened(rt: HostRuntime) -> Result<(), Fail> {
-    let mut unit = Unit::new(rt.alloc(), ENCODING, LineProgram::none())?;
-    let mut last = unit.root();
-    for _ in 1..100_000 {
-        assert!(rt; last.index() < unit.reserved() && unit.reserved() < usize::MAX);
-        assert!(rt; !unit.is_freed());
-        last = unit.add(last, DW_TAG_variable)?;
-    }
-    unit.settle()?;
-    let items = flatten(rt.alloc(), unit.entries())?;
-    assert_eq!(rt; items.len(), 199_999);
     Ok(())
 }

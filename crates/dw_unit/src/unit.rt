@@ -1,22 +1,16 @@
 //! One unit.
 
-ghost use Rattle.std.specs.Prelude.{◌≡◌, ◌≢◌, ◌+◌, ◌<◌, false, length, None, Some, slice_get, OnOk, OnErr, IfOk, IfErr};
+ghost use Rattle.std.specs.Prelude.{◌≡◌, ◌≢◌, ◌+◌, ◌<◌, false, length, Some, slice_get, OnOk, OnErr, IfOk, IfErr};
 ghost use Rattle.dw_base.specs.declared.error.Error.TheVariants.{NoMemory};
-ghost use Rattle.dw_unit.specs.Entries.{with_changed, filled_up, with_new_child, with_sibling, with_attribute, without_attribute, without_child, value_of};
+ghost use Rattle.dw_entries.specs.Entries.{filled_up, with_new_child};
 ghost use Rattle.dw_unit.specs.UnitValue.{new_unit, is_reserved, IsReserved, IsSound};
 
-use crate::arena::{add_entry, is_unadded};
-use crate::attribute::AttributeValue;
-use crate::attribute_walk::AttributeWalk;
-use crate::attributes::Attributes;
 use crate::compile_unit::write_tree;
-use crate::entry::DebuggingInformationEntry;
 use crate::entry_mut::EntryMut;
 use crate::header::check_encoding;
 use crate::line_program::LineProgram;
-use crate::settle::settle;
-use dw_base::constants::DW_TAG_compile_unit;
-use dw_base::{DwAt, DwTag, Encoding, Format, Result, UnitEntryId};
+use dw_base::{DwTag, Encoding, Format, Result, UnitEntryId};
+use dw_entries::{DebuggingInformationEntry, Entries};
 use dw_writer::{Sections, Writer};
 use std::alloc::Global;
 use std::marker::Model;
@@ -27,21 +21,19 @@ pub struct Unit {
     /// The unit's line program.
     pub line_program: LineProgram,
     encoding: Encoding,
-    entries: Vec<DebuggingInformationEntry>,
-    reserved: usize,
+    pub(crate) entries: Entries,
     is_written: bool,
     is_freed: bool,
 }
 
 impl Model for Unit {
-    ghost use Rattle.dw_unit.specs.UnitValue.{UnitValue};
-    ghost use Rattle.dw_unit.specs.Arena.{IsArena};
+    ghost use Rattle.dw_unit.specs.UnitValue.{UnitValue, IsKept};
 
     ghost Value = { UnitValue };
 
-    ghost view = { λ u. record { encoding = u.encoding; line_program = u.line_program; entries = u.entries.items; reserved = u.reserved; is_written = u.is_written; is_freed = u.is_freed } };
+    ghost view = { λ u. record { encoding = u.encoding; line_program = u.line_program; entries = u.entries.entries; reserved = u.entries.reserved; is_written = u.is_written; is_freed = u.is_freed } };
 
-    ghost invariant = { λ u. IsArena u.entries.items u.reserved u.is_written u.is_freed };
+    ghost invariant = { λ u. IsKept u.entries.entries u.is_written u.is_freed };
 }
 
 impl Unit {
@@ -50,15 +42,10 @@ impl Unit {
         ensures ok { IfOk result (λ u. u ≡ new_unit encoding line_program) }
         ensures err { IfErr result (λ e. e ≡ NoMemory) }
     {
-        let mut root = DebuggingInformationEntry::blank(alloc, UnitEntryId::new(0));
-        root.set_tag(DW_TAG_compile_unit);
-        let mut entries = Vec::new(alloc);
-        entries.push(root)?;
         Ok(Unit {
             line_program,
             encoding,
-            entries,
-            reserved: 1,
+            entries: Entries::new(alloc)?,
             is_written: false,
             is_freed: false,
         })
@@ -105,22 +92,21 @@ impl Unit {
         ensures value { result ≡ length self.now.entries }
         ensures sound { IsSound self.now }
     {
-        self.entries.len()
+        self.entries.count()
     }
 
     /// How many ids were handed out, the root's among them.
     pub fn reserved(&self) -> usize
         ensures { result ≡ self.now.reserved }
     {
-        self.reserved
+        self.entries.reserved()
     }
 
     /// Tells that an id was handed out for an entry that isn't added yet.
     pub fn is_reserved(&self, id: UnitEntryId) -> bool
         ensures { result ≡ is_reserved self.now id.0 }
     {
-        let index = id.index();
-        index != 0 && index < self.reserved && is_unadded(&self.entries, index)
+        self.entries.is_reserved(id)
     }
 
     /// The id of the unit's root.
@@ -153,9 +139,7 @@ impl Unit {
         ensures id { result.0 ≡ self.old.reserved }
         ensures unit { self.new ≡ record self.old { reserved = self.old.reserved + 1 } }
     {
-        let id = UnitEntryId::new(self.reserved);
-        self.reserved += 1;
-        id
+        self.entries.reserve()
     }
 
     /// Adds the entry of a reserved id behind its parent's other children. The parent's own id may be
@@ -175,7 +159,7 @@ impl Unit {
         ensures err { IfErr result (λ e. e ≡ NoMemory) }
         ensures kept { OnErr result (self.new ≡ self.old) }
     {
-        add_entry(&mut self.entries, self.reserved, child, parent, tag)
+        self.entries.add_reserved(child, parent, tag)
     }
 
     /// Adds an entry behind its parent's other children, and answers its id.
@@ -190,10 +174,7 @@ impl Unit {
         ensures err { IfErr result (λ e. e ≡ NoMemory) }
         ensures kept { OnErr result (self.new ≡ self.old) }
     {
-        let child = UnitEntryId::new(self.reserved);
-        add_entry(&mut self.entries, self.reserved + 1, child, parent, tag)?;
-        self.reserved += 1;
-        Ok(child)
+        self.entries.add(parent, tag)
     }
 
     /// An entry of the unit.
@@ -202,7 +183,7 @@ impl Unit {
         ensures entry { slice_get self.now.entries id.0 ≡ Some result.now }
         ensures id { result.now.id ≡ id.0 }
     {
-        &self.entries[id.index()]
+        self.entries.get(id)
     }
 
     /// An entry of the unit, to be changed.
@@ -217,105 +198,7 @@ impl Unit {
 }
 
 impl Unit {
-    pub(crate) fn set_attribute(
-        &mut self,
-        index: usize,
-        name: DwAt,
-        value: AttributeValue,
-    ) -> Result<()>
-        requires index_in { index < length self.old.entries }
-        requires named { 1 < name.0 }
-        ensures ok { OnOk result (self.new ≡ record self.old { entries = with_changed index (with_attribute name.0 value) self.old.entries }) }
-        ensures err { IfErr result (λ e. e ≡ NoMemory) }
-        ensures kept { OnErr result (self.new ≡ self.old) }
-        ensures in_place { OnErr result (value_of self.old.entries index name.0 ≡ None) }
-    {
-        let entry = &mut self.entries[index];
-        entry.set(name, value)
-    }
-
-    pub(crate) fn set_sibling(&mut self, index: usize, sibling: bool)
-        requires { index < length self.old.entries }
-        ensures { self.new ≡ record self.old { entries = with_changed index (with_sibling sibling) self.old.entries } }
-    {
-        let entry = &mut self.entries[index];
-        entry.set_sibling(sibling);
-    }
-
-    pub(crate) fn delete_attribute(&mut self, index: usize, name: DwAt)
-        requires { index < length self.old.entries }
-        ensures { self.new ≡ record self.old { entries = with_changed index (without_attribute name.0) self.old.entries } }
-    {
-        let entry = &mut self.entries[index];
-        entry.delete(name);
-    }
-
-    pub(crate) fn delete_child(&mut self, index: usize, id: UnitEntryId)
-        requires { index < length self.old.entries }
-        ensures { self.new ≡ record self.old { entries = with_changed index (without_child id.0) self.old.entries } }
-    {
-        let entry = &mut self.entries[index];
-        entry.delete_child(id);
-    }
-
-    pub(crate) fn reserve_attributes(&mut self, index: usize, additional: usize) -> Result<()>
-        requires { index < length self.old.entries }
-        ensures same { self.new ≡ self.old }
-        ensures err { IfErr result (λ e. e ≡ NoMemory) }
-    {
-        let entry = &mut self.entries[index];
-        entry.reserve(additional)
-    }
-}
-
-impl Unit {
-    ghost use Rattle.std.specs.Option.{option_copied_mut};
-    ghost use Rattle.std.specs.Borrow.{sem};
-    ghost use Rattle.dw_unit.specs.Entries.{attributes_of};
-    ghost use Rattle.dw_unit.specs.Lends.{LendsAttributesAt, LendsWalkAt, LendsNamedAt};
-
-    pub(crate) fn attributes_mut(&mut self, index: usize) -> &mut Attributes
-        requires { index < length self.old.entries }
-        ensures* writes_back { sem 𝓛 (LendsAttributesAt self.entry index result) }
-        ensures value { result.now ≡ attributes_of self.old.entries index }
-    {
-        let entry = &mut self.entries[index];
-        entry.attributes_mut()
-    }
-
-    pub(crate) fn walk_mut(&mut self, index: usize) -> &mut AttributeWalk
-        requires { index < length self.old.entries }
-        ensures* writes_back { sem 𝓛 (LendsWalkAt self.entry index result) }
-        ensures attributes { result.now.attributes ≡ attributes_of self.old.entries index }
-        ensures next { result.now.next ≡ 0 }
-    {
-        let entry = &mut self.entries[index];
-        entry.walk_mut()
-    }
-
-    pub(crate) fn value_mut(&mut self, index: usize, name: DwAt) -> Option<&mut AttributeValue>
-        requires { index < length self.old.entries }
-        ensures* writes_back { sem 𝓛 (LendsNamedAt self.entry index name.0 result) }
-        ensures value { option_copied_mut result ≡ value_of self.old.entries index name.0 }
-    {
-        let attributes = self.attributes_mut(index);
-        match attributes.value_mut(name) {
-            Some(value) => Some(value),
-            None => None,
-        }
-    }
-}
-
-impl Unit {
-    ghost use Rattle.dw_unit.specs.Settled.{settled_entries};
-
-    /// The entries, each at the index that its id names.
-    pub(crate) fn entries(&self) -> &[DebuggingInformationEntry]
-        ensures value { result.now ≡ self.now.entries }
-        ensures sound { IsSound self.now }
-    {
-        &self.entries
-    }
+    ghost use Rattle.dw_entries.specs.Settled.{settled_entries};
 
     /// Moves the root's base types before its other children.
     pub(crate) fn settle(&mut self) -> Result<()>
@@ -323,8 +206,7 @@ impl Unit {
         ensures err { IfErr result (λ e. e ≡ NoMemory) }
         ensures kept { OnErr result (self.new ≡ self.old) }
     {
-        settle(&mut self.entries)?;
-        Ok(())
+        self.entries.settle()
     }
 }
 
@@ -361,8 +243,8 @@ impl Unit {
     {
         check_encoding(self.encoding)?;
         self.settle()?;
-        let alloc = *self.entries.allocator();
-        write_tree(alloc, self.encoding, &self.entries, sections)?;
+        let alloc = self.entries.allocator();
+        write_tree(alloc, self.encoding, self.entries.as_slice(), sections)?;
         self.is_written = true;
         Ok(())
     }

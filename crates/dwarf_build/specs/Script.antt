@@ -11,10 +11,10 @@ use Rattle.dw_script.specs.declared.change.Change.TheVariants as change
 use Rattle.dw_script.specs.declared.reason.Reason.TheVariants.{NotBuilt, OrderNotFirst, NoSuchUnit, NoSuchEntry, NotReserved, BadTag, BadName}
 use Rattle.dw_script.specs.declared.value.Value.{Value}
 use Rattle.dw_script.specs.declared.value.Value.TheVariants as value
-use Rattle.dw_unit.specs.Entries.{EntryValue, with_changed, filled_up, with_new_child, with_sibling, with_attribute, without_attribute, without_child}
+use Rattle.dw_entries.specs.Entries.{EntryValue, with_changed, filled_up, with_new_child, with_sibling, with_attribute, without_attribute, without_child}
 use Rattle.dw_unit.specs.UnitValue.{UnitValue, new_unit, is_reserved, no_line_program}
-use Rattle.dw_unit.specs.declared.attribute.AttributeValue.{AttributeValue}
-use Rattle.dw_unit.specs.declared.attribute.AttributeValue.TheVariants as stored
+use Rattle.dw_entries.specs.declared.value.AttributeValue.{AttributeValue}
+use Rattle.dw_entries.specs.declared.value.AttributeValue.TheVariants as stored
 use Rattle.dwarf_build.specs.declared.script.Script.{Script}
 use Rattle.dwarf_build.specs.declared.script.Refusal.{Refusal}
 use Rattle.dwarf_build.specs.declared.script.CommandError.{CommandError}

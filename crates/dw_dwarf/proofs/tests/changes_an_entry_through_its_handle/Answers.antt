@@ -1,6 +1,6 @@
 use Rattle.std.proofs.Common.{◌∙◌, sym, ap, length, arith}
-use Rattle.dw_unit.specs.declared.attribute_walk.AttributeWalk.{AttributeWalk}
-use Rattle.dw_unit.proofs.Replaced.{length-with_value_at}
+use Rattle.dw_entries.specs.declared.attribute_walk.AttributeWalk.{AttributeWalk}
+use Rattle.dw_entries.proofs.Replaced.{length-with_value_at}
 use Rattle.dw_dwarf.proofs.tests.changes_an_entry_through_its_handle.Goals as goal
 
 pub attributes-smaller-then-eq : goal.attributes-smaller-then-eq

@@ -4,9 +4,9 @@ use Rattle.dw_writer.proofs.Outcomes.{OnOk-map}
 use Rattle.dw_writer.proofs.Plain.{num-byte}
 use Rattle.dw_unit.specs.Places.{placement_of}
 use Rattle.dw_unit.specs.Shapes.{read_attributes}
-use Rattle.dw_unit.specs.Tree.{IsIn, mark_of}
+use Rattle.dw_entries.specs.Tree.{IsIn, mark_of}
 use Rattle.dw_unit.specs.Coded.{HasOperands}
-use Rattle.dw_unit.proofs.Marks.{indexed}
+use Rattle.dw_entries.proofs.ChildReads.{indexed}
 use Rattle.dw_unit.proofs.body.write_item.Goals as goal
 
 pub returns-in-Open-clause-fits : goal.returns-in-Open-clause-fits

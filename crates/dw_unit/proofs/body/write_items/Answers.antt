@@ -3,9 +3,9 @@ use Rattle.std.proofs.lemmas.List.Elements.{All-more}
 use Rattle.std.proofs.lemmas.Result.{err_from_is_err_and}
 use Rattle.dw_base.specs.Spelling.{mark_bytes}
 use Rattle.dw_abbrev.proofs.Steps.{Adds-none}
-use Rattle.dw_unit.specs.declared.tree.Item.TheVariants as its
+use Rattle.dw_entries.specs.declared.tree.Item.TheVariants as its
 use Rattle.dw_unit.specs.Places.{placement_of, has_place}
-use Rattle.dw_unit.specs.Tree.{mark_of, marks}
+use Rattle.dw_entries.specs.Tree.{mark_of, marks}
 use Rattle.dw_unit.specs.Coded.{shapes_of, coded_mark, is_mark_spelled, are_spelled, is_mark_placed, are_placed, HasOperands}
 use Rattle.dw_unit.proofs.Marks.{within_at, marks-below, mark_at}
 use Rattle.dw_unit.proofs.Shared.{code_read}

@@ -3,7 +3,7 @@ use Rattle.std.specs.List.{flat_map}
 use Rattle.dw_base.specs.Spelling.{mark_bytes}
 use Rattle.dw_writer.specs.Meaning.{Adds}
 use Rattle.dw_unit.specs.Places.{placement_of, has_place}
-use Rattle.dw_unit.specs.Tree.{marks}
+use Rattle.dw_entries.specs.Tree.{marks}
 use Rattle.dw_unit.specs.Coded.{shapes_of, coded_mark, are_spelled, are_placed, HaveOperands}
 use Rattle.dw_unit.proofs.body.write_items.Given as goal
 

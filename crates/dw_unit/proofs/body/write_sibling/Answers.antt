@@ -8,8 +8,8 @@ use Rattle.dw_base.specs.Spellable.{IsAttribute}
 use Rattle.dw_base.specs.declared.common.Encoding.{Encoding}
 use Rattle.dw_writer.specs.Meaning.{Adds}
 use Rattle.dw_abbrev.proofs.Steps.{Adds-none}
-use Rattle.dw_unit.specs.Entries.{EntryValue}
-use Rattle.dw_unit.specs.Shapes.{has_sibling, before_attributes, read_sibling}
+use Rattle.dw_entries.specs.Entries.{EntryValue, has_sibling}
+use Rattle.dw_unit.specs.Shapes.{before_attributes, read_sibling}
 use Rattle.dw_unit.proofs.Forms.{reference-bytes, reference-fits}
 use Rattle.dw_unit.proofs.body.write_sibling.Goals as goal
 

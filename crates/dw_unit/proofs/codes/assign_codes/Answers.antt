@@ -1,6 +1,6 @@
 use Rattle.std.proofs.Common.{◌≡◌, ◌∙◌, sym, ap, ℕ, ◌+◌, List, ◌++◌, ◌∷◌, [], map, drop, get_or, append_assoc}
-use Rattle.dw_unit.specs.declared.tree.Item.TheVariants as its
-use Rattle.dw_unit.specs.Tree.{mark_of, marks}
+use Rattle.dw_entries.specs.declared.tree.Item.TheVariants as its
+use Rattle.dw_entries.specs.Tree.{mark_of, marks}
 use Rattle.dw_unit.specs.Coded.{shapes_of, code_at}
 use Rattle.dw_unit.proofs.Marks.{within_at, tagged_at, marks_more}
 use Rattle.dw_unit.proofs.Shared.{code_given}

@@ -1,5 +1,5 @@
 use Rattle.std.proofs.Common.{◌≡◌, ◌++◌, [], map, drop}
-use Rattle.dw_unit.specs.Tree.{marks}
+use Rattle.dw_entries.specs.Tree.{marks}
 use Rattle.dw_unit.specs.Coded.{shapes_of, code_at}
 use Rattle.dw_unit.proofs.codes.assign_codes.Given as goal
 

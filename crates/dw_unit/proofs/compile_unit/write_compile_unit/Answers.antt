@@ -1,7 +1,7 @@
 use Rattle.std.proofs.Common.{◌∙◌, sym, ap, subst, arith}
 use Rattle.std.proofs.lemmas.Result.{err_from_is_err_and}
 use Rattle.dw_writer.proofs.Outcomes.{OnOk-map, IfErr-map}
-use Rattle.dw_unit.specs.Tree.{marks}
+use Rattle.dw_entries.specs.Tree.{marks}
 use Rattle.dw_unit.specs.Coded.{are_spelled, HaveOperands}
 use Rattle.dw_unit.specs.Places.{placement_of}
 use Rattle.dw_unit.specs.Whole.{tree_placement}

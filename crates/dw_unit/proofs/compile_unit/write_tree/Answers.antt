@@ -5,10 +5,9 @@ use Rattle.dw_writer.specs.Causes.{HasRisen}
 use Rattle.dw_writer.specs.Sections.{SomeHasRisen}
 use Rattle.dw_writer.proofs.FaultLaws.{SomeHasRisen-abbrev, SomeHasRisen-info}
 use Rattle.dw_writer.proofs.Outcomes.{IfErr-map}
-use Rattle.dw_unit.specs.Tree.{marks, mark_of}
-use Rattle.dw_unit.specs.Coded.{AreTagged}
+use Rattle.dw_entries.specs.Tree.{marks, mark_of, AreTagged}
 use Rattle.dw_unit.specs.Places.{placement_of}
-use Rattle.dw_unit.proofs.Tagged.{preorder_tagged}
+use Rattle.dw_entries.proofs.Tagged.{preorder_tagged}
 use Rattle.dw_unit.proofs.UnitSteps.{OnOk-four, bytes_refused, refused_within, table_added, place_plain, tree_is_unit}
 use Rattle.dw_unit.proofs.PlaceSteps.{tree_distinct, tree_closes, tree_codes, tree_placed, tree_inside, places_fit, length_refused_early}
 use Rattle.dw_unit.proofs.compile_unit.write_tree.Goals as goal

@@ -2,8 +2,8 @@ use Rattle.std.proofs.Common.{◌≡◌, ◌∙◌, sym, ap, subst, ℕ, ◌+◌
 use Rattle.dw_base.specs.Entries.{Mark}
 use Rattle.dw_base.specs.Spelling.{header_size}
 use Rattle.dw_base.proofs.HeaderLaws.{header_size_pos}
-use Rattle.dw_unit.specs.declared.tree.Item.TheVariants as its
-use Rattle.dw_unit.specs.Tree.{mark_of, marks}
+use Rattle.dw_entries.specs.declared.tree.Item.TheVariants as its
+use Rattle.dw_entries.specs.Tree.{mark_of, marks}
 use Rattle.dw_unit.specs.Coded.{shapes_of}
 use Rattle.dw_unit.specs.Laying.{LayoutValue, value_of, unlaid, stepped, IsLaid}
 use Rattle.dw_unit.proofs.Marks.{within_at, marks_more, marks_done}

@@ -1,6 +1,6 @@
 use Rattle.std.proofs.Common.{[], drop}
 use Rattle.dw_base.specs.Spelling.{header_size}
-use Rattle.dw_unit.specs.Tree.{marks}
+use Rattle.dw_entries.specs.Tree.{marks}
 use Rattle.dw_unit.specs.Coded.{shapes_of}
 use Rattle.dw_unit.specs.Laying.{value_of, IsLaid}
 use Rattle.dw_unit.proofs.layout.lay_out.Given as goal

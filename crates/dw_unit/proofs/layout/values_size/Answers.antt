@@ -1,9 +1,8 @@
 use Rattle.std.proofs.Common.{◌≡◌, ap, arith}
 use Rattle.std.proofs.lemmas.List.{at_drop_more, at_drop_all}
-use Rattle.dw_unit.specs.declared.attribute.Attribute.{Attribute}
-use Rattle.dw_unit.specs.Values.{operand_size}
+use Rattle.dw_entries.specs.declared.attribute.Attribute.{Attribute}
+use Rattle.dw_entries.specs.Values.{operand_size, capped}
 use Rattle.dw_unit.specs.Laid.{values_size}
-use Rattle.dw_unit.specs.Places.{capped}
 use Rattle.dw_unit.proofs.layout.values_size.Goals as goal
 
 pub loop-attribute-preserved : goal.loop-attribute-preserved

@@ -1,6 +1,6 @@
 use Rattle.std.proofs.Common.{◌≡◌, ◌+◌, ◌<◌, ◌^◌, drop}
 use Rattle.dw_unit.specs.Laid.{values_size}
-use Rattle.dw_unit.specs.Places.{capped}
+use Rattle.dw_entries.specs.Values.{capped}
 use Rattle.dw_unit.proofs.layout.values_size.Given as goal
 
 abbrev pub invariant-loop-attribute : goal.invariant-loop-attribute

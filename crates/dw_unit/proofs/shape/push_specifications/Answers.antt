@@ -1,5 +1,5 @@
 use Rattle.std.proofs.Common.{◌<◌, sym, subst}
-use Rattle.dw_unit.specs.declared.attribute.Attribute.{Attribute}
+use Rattle.dw_entries.specs.declared.attribute.Attribute.{Attribute}
 use Rattle.dw_unit.proofs.Marks.{named_at}
 use Rattle.dw_unit.proofs.shape.push_specifications.Goals as goal
 

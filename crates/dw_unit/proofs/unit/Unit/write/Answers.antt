@@ -13,9 +13,9 @@ returns-in_err-write_tree-clause-err g c =
     let p = err_from_is_err_and c.from_residual-in_err-write_tree.result c.from_residual-in_err-write_tree.ensures.1 in
     let is = c.self-2.view_is ∙ c.in_ok-settle.ensures.ok in
     subst (λ r. IfErr r (UnitRefused g.W.Writer.meaning old new u)) (sym (p.1 ∙ ap Err p.2))
-    (tree_refused g.W.Writer.meaning old new u _ _ c.in_err-write_tree.field-0.0 (ap (λ w. w.encoding) is) (c.deref.ensures.value ∙ ap (λ w. w.entries) is) c.in_err-write_tree.ensures.err)
+    (tree_refused g.W.Writer.meaning old new u _ _ c.in_err-write_tree.field-0.0 (ap (λ w. w.encoding) is) (c.as_slice.ensures.value ∙ ap (λ w. w.entries) is) c.in_err-write_tree.ensures.err)
 
 pub returns-clause-writable : goal.returns-clause-writable
 returns-clause-writable g c =
     let is = c.self-2.view_is ∙ c.in_ok-settle.ensures.ok in
-    settled_writable c.args.self.now _ _ (ap (λ w. w.encoding) is) (c.deref.ensures.value ∙ ap (λ w. w.entries) is) c.in_ok-write_tree.ensures.writable
+    settled_writable c.args.self.now _ _ (ap (λ w. w.encoding) is) (c.as_slice.ensures.value ∙ ap (λ w. w.entries) is) c.in_ok-write_tree.ensures.writable

@@ -1,0 +1,16 @@
+pub mod Named
+pub mod Changed
+pub mod Filled
+pub mod Filtered
+pub mod Linked
+pub mod Children
+pub mod ChildReads
+pub mod Arenas
+pub mod ValueLaws
+pub mod Replaced
+pub mod Walk
+pub mod Inside
+pub mod TreeLaws
+pub mod SettledLaws
+pub mod Tagged
+pub mod Distinct

@@ -1,0 +1,22 @@
+//! The entries of a unit: attributes with their values, and the tree that entries are.
+#![tactic(auto)]
+
+mod arena;
+mod attribute;
+mod attribute_walk;
+mod attributes;
+mod entries;
+mod entry;
+mod settle;
+#[cfg(test)]
+mod tests;
+mod tree;
+mod value;
+
+pub use attribute::Attribute;
+pub use attribute_walk::{AttrMut, AttributeWalk, AttrsMut};
+pub use dw_writer::Bytes;
+pub use entries::Entries;
+pub use entry::DebuggingInformationEntry;
+pub use tree::{Item, flatten};
+pub use value::{AttributeValue, reference_form};

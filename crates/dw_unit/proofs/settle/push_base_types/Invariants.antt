@@ -1,8 +1,0 @@
-use Rattle.std.proofs.Common.{◌≡◌, ◌++◌, map, take}
-use Rattle.dw_unit.specs.Entries.{index_of}
-use Rattle.dw_unit.specs.Settled.{base_children}
-use Rattle.dw_unit.proofs.settle.push_base_types.Given as goal
-
-abbrev pub invariant-children : goal.invariant-children
-invariant-children l =
-    map index_of l.ordered.items ≡ map index_of l.fn.ordered.items ++ base_children l.entries (map index_of (take l.child-index l.children))
