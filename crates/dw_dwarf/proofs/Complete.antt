@@ -1,5 +1,5 @@
 -- A valid unit is refused over new plain sections only for want of memory, or by a fault.
-use Rattle.std.proofs.Common.{◌≡◌, ◌∙◌, sym, ap, subst, ℕ, ◌<◌, ◌≤◌, Bool, true, List, length, refl, arith, IsTrue}
+use Rattle.std.proofs.Common.{◌≡◌, ◌∙◌, sym, ap, subst, ℕ, ◌<◌, Bool, true, List, length, refl, IsTrue}
 use Rattle.std.specs.Prelude.{slice_index_or}
 use Rattle.dw_unit.proofs.Conditions.{and_left, and_right}
 use Rattle.dw_dwarf.proofs.Conditions.{not_both}

@@ -22,3 +22,14 @@ pub record HoldsUnits {W : Type 0} (meaning : W → Meaning) (big : Bool) (s : S
   pub location_lists : IsEmptyPlainWriter (meaning s.debug_loclists.0) big
   pub frames : IsEmptyPlainWriter (meaning s.debug_frame.0) big
   pub eh_frames : IsEmptyPlainWriter (meaning s.eh_frame.0) big
+
+-- all but the two sections of units and the lists of fixups is as before
+abbrev pub KeepsOthers : {W : Type 0} → Sections W → Sections W → Type 0
+KeepsOthers old new =
+    new ≡ record old {
+      debug_abbrev = new.debug_abbrev;
+      debug_info = new.debug_info;
+      debug_info_fixups = new.debug_info_fixups;
+      debug_loc_fixups = new.debug_loc_fixups;
+      debug_loclists_fixups = new.debug_loclists_fixups;
+    }

@@ -8,7 +8,7 @@ ghost use Rattle.dw_unit.specs.Whole.{settled, written};
 ghost use Rattle.dw_unit.specs.Written.{AppendsUnits};
 ghost use Rattle.dw_unit.specs.Causes.{UnitsRefused};
 ghost use Rattle.dw_dwarf.specs.Valid.{AreUnwritten, IsValid};
-ghost use Rattle.dw_dwarf.specs.Written.{HoldsUnits};
+ghost use Rattle.dw_dwarf.specs.Written.{HoldsUnits, KeepsOthers};
 
 use dw_base::Result;
 use dw_unit::UnitTable;
@@ -32,37 +32,55 @@ impl Dwarf {
         }
     }
 
-    /// Writes the units that aren't written yet, each with an abbreviation table of its own, and marks
-    /// them written. After Ok the three lists of fixups are empty.
+    /// Writes the units that aren't written yet, each with an abbreviation table of its own, and
+    /// marks them written. After Ok the three lists of fixups are empty.
     ///
-    /// Over new plain sections, as `Sections::new` gives them over an empty `EndianVec`, and where none
-    /// of the units was written before, `.debug_info` and `.debug_abbrev` then hold exactly these
-    /// units, to their last byte (DWARF 5, 7.5), and the other sections are empty. In each unit the
-    /// root's base types stand before its other children.
+    /// Over new plain sections, as `Sections::new` gives them over an empty `EndianVec`, and where
+    /// none of the units was written before, `.debug_info` and `.debug_abbrev` then hold exactly
+    /// these units, to their last byte (DWARF 5, 7.5), and the other sections are empty. In each
+    /// unit the root's base types stand before its other children.
     ///
-    /// The table has one unit at most so far. Refused as `UnsupportedVersion` or `UnsupportedWordSize`
-    /// where a unit's version isn't 2 to 5 or its address size isn't 1, 2, 4 or 8, as
-    /// `InvalidAttributeValue` where a string has a zero byte, as `InvalidReference` where a reference
-    /// names an entry outside its unit's tree, as `InitialLengthOverflow` where a 32-bit unit has
-    /// 0xffff_fff0 bytes or more after its length (DWARF 5, 7.4), as `ValueTooLarge` where the place of
-    /// its table has no room in a word, and as `WriteFault` or `NoMemory`. A refused unit stays as it
-    /// was, or has its base types moved, and the two sections may have got some of its bytes.
+    /// The table has one unit at most so far. Refused as `UnsupportedVersion` or
+    /// `UnsupportedWordSize` where a unit's version isn't 2 to 5 or its address size isn't 1, 2, 4
+    /// or 8, as `InvalidAttributeValue` where a string has a zero byte, as `InvalidReference` where
+    /// a reference names an entry outside its unit's tree, as `InitialLengthOverflow` where a
+    /// 32-bit unit has 0xffff_fff0 bytes or more after its length (DWARF 5, 7.4), as
+    /// `ValueTooLarge` where the place of its table has no room in a word, and as `WriteFault` or
+    /// `NoMemory`. A refused unit stays as it was, or has its base types moved, and the two
+    /// sections may have got some of its bytes.
+    ///
+    /// ```
+    /// let mut dwarf = Dwarf::new(alloc);
+    /// dwarf.units.add(Unit::new(alloc, encoding, LineProgram::none())?)?;
+    /// let mut sections = Sections::new(alloc, EndianVec::new(alloc, LittleEndian))?;
+    /// dwarf.write(&mut sections)?;
+    /// ```
     pub fn write<W: Writer>(&mut self, sections: &mut Sections<W>) -> Result<()>
         requires { length self.old.units ≤ 1 }
         // Whatever the byte order of new plain sections is, they are read back as the units.
-        ensures built { OnOk result ((big : Bool) → IsNewPlain W.meaning big sections.old → AreUnwritten self.old.units → HoldsUnits W.meaning big sections.new (map settled self.old.units)) }
-        // Over sections of any kind: a unit that wasn't written before is added, one that was adds nothing.
-        ensures adds { OnOk result (AppendsUnits W.meaning sections.old sections.new self.old.units) }
+        ensures built { OnOk result ((big : Bool) →
+            IsNewPlain W.meaning big sections.old → AreUnwritten self.old.units →
+            HoldsUnits W.meaning big sections.new (map settled self.old.units)) }
+        // Over sections of any kind: a unit that wasn't written before is added, one that was adds
+        // nothing.
+        ensures adds { OnOk result
+            (AppendsUnits W.meaning sections.old sections.new self.old.units) }
         ensures emptied { OnOk result (NoFixups sections.new) }
-        ensures marked { OnOk result (self.new ≡ record self.old { units = map written self.old.units }) }
+        ensures marked { OnOk result
+            (self.new ≡ record self.old { units = map written self.old.units }) }
         ensures valid { OnOk result (AreUnwritten self.old.units → IsValid self.old.units) }
 
         ensures err { IfErr result (UnitsRefused W.meaning sections.old sections.new self.old.units) }
-        ensures kept { OnErr result ((self.new ≡ self.old) ⊎ (self.new ≡ record self.old { units = map settled self.old.units })) }
-        // A valid unit is refused over new plain sections only for want of memory, or by a fault that was counted.
-        ensures complete { (big : Bool) → IsNewPlain W.meaning big sections.old → IsValid self.old.units → (SomeHasRisen W.meaning sections.old sections.new → ⊥) → IfErr result (λ e. e ≡ NoMemory) }
+        ensures kept { OnErr result ((self.new ≡ self.old)
+            ⊎ (self.new ≡ record self.old { units = map settled self.old.units })) }
+        // A valid unit is refused over new plain sections only for want of memory, or by a fault
+        // that was counted.
+        ensures complete { (big : Bool) →
+            IsNewPlain W.meaning big sections.old → IsValid self.old.units →
+            (SomeHasRisen W.meaning sections.old sections.new → ⊥) →
+            IfErr result (λ e. e ≡ NoMemory) }
 
-        ensures others { sections.new ≡ record sections.old { debug_abbrev = sections.new.debug_abbrev; debug_info = sections.new.debug_info; debug_info_fixups = sections.new.debug_info_fixups; debug_loc_fixups = sections.new.debug_loc_fixups; debug_loclists_fixups = sections.new.debug_loclists_fixups } }
+        ensures others { KeepsOthers sections.old sections.new }
         ensures faults { fault_sum W.meaning sections.old ≤ fault_sum W.meaning sections.new }
     {
         self.units.write(sections)

@@ -6,10 +6,9 @@ mod dwarf;
 #[cfg(test)]
 mod tests;
 
-pub use dw_base::constants;
 pub use dw_base::{
     BigEndian, DwAt, DwAte, DwForm, DwLang, DwTag, Encoding, Endianity, Error, Format,
-    LittleEndian, Result, RunTimeEndian, SectionId, UnitEntryId, UnitId,
+    LittleEndian, Result, RunTimeEndian, SectionId, UnitEntryId, UnitId, constants,
 };
 pub use dw_unit::{
     AttrMut, Attribute, AttributeValue, AttributeWalk, AttrsMut, DebuggingInformationEntry,

@@ -205,7 +205,8 @@ fn refuses_a_zero_byte_in_a_string(rt: HostRuntime) -> std::result::Result<(), F
     Ok(())
 }
 
-/// A unit whose root has one child, with a place past its own child, a name, and the root as its type.
+/// A unit whose root has one child, with a place past its own child, a name, and the root as its
+/// type.
 const CHANGED: [u8; 27] = [
     23, 0, 0, 0, 5, 0, 1, 8, 0, 0, 0, 0, 1, 2, 26, 0, 0, 0, b'b', 0, 12, 0, 0, 0, 3, 0, 0,
 ];
