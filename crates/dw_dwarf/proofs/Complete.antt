@@ -1,7 +1,7 @@
 -- A valid unit is refused over new plain sections only for want of memory, or by a fault.
 use Rattle.std.proofs.Common.{◌≡◌, ◌∙◌, sym, ap, subst, ℕ, ◌<◌, Bool, true, List, length, refl, IsTrue}
 use Rattle.std.specs.Prelude.{slice_index_or}
-use Rattle.dw_unit.proofs.Conditions.{and_left, and_right}
+use Rattle.std.proofs.lemmas.Bool.{and_parts}
 use Rattle.dw_dwarf.proofs.Conditions.{not_both}
 use Rattle.dw_base.specs.Numbers.{is_width, word_of, length_fits}
 use Rattle.dw_base.specs.declared.common.Format.{Format}
@@ -40,9 +40,9 @@ module _ {W : Type 0} where
       let format = ap (λ f. length_fits f (tree_length u.encoding (settled u).entries)) r.0 in
       absurd (not_both _ (sym format ∙ valid.fits) r.1)
   unit_complete meaning big old new u empty valid calm (UnsupportedVersion v) r =
-      absurd (not_both _ (and_left (is_version u.encoding.version) (is_width u.encoding.address_size) valid.encodable) (sym (ap is_version r.0) ∙ r.1))
+      absurd (not_both _ (and_parts (is_version u.encoding.version) (is_width u.encoding.address_size) valid.encodable).0 (sym (ap is_version r.0) ∙ r.1))
   unit_complete meaning big old new u empty valid calm (UnsupportedWordSize n) r =
-      absurd (not_both _ (and_right (is_version u.encoding.version) (is_width u.encoding.address_size) valid.encodable) (sym (ap is_width r.0) ∙ r.1))
+      absurd (not_both _ (and_parts (is_version u.encoding.version) (is_width u.encoding.address_size) valid.encodable).1 (sym (ap is_width r.0) ∙ r.1))
   unit_complete meaning big old new u empty valid calm _ r = absurd r
 
   pub write_complete : (meaning : W → Meaning) (big : Bool) (old new : Sections W) (us : List UnitValue) → IsNewPlain meaning big old → IsValid us →

@@ -1,6 +1,6 @@
 //! Attributes.
 
-ghost use Rattle.std.specs.Prelude.{◌≡◌, IfOk, IfErr};
+ghost use Rattle.std.specs.Prelude.{◌≡◌, ◌↔◌, IsTrue, IfOk, IfErr};
 ghost use Rattle.dw_base.specs.declared.error.Error.TheVariants.{NoMemory};
 
 use crate::value::AttributeValue;
@@ -36,6 +36,13 @@ impl Attribute {
         ensures { result.now ≡ self.now.value }
     {
         &self.value
+    }
+
+    /// Tells that another attribute has the same name and the same value.
+    pub fn is_same(&self, other: &Attribute) -> bool
+        ensures { IsTrue result ↔ (self.now ≡ other.now) }
+    {
+        self == other
     }
 
     /// Replaces the value under the same name.

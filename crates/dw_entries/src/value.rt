@@ -1,6 +1,6 @@
 //! The values of attributes.
 
-ghost use Rattle.std.specs.Prelude.{◌≡◌, Ok, IfOk, IfErr};
+ghost use Rattle.std.specs.Prelude.{◌≡◌, ◌↔◌, Ok, IsTrue, IfOk, IfErr};
 ghost use Rattle.dw_base.specs.declared.error.Error.TheVariants.{NoMemory};
 ghost use Rattle.dw_entries.specs.Values.{form_of, constant_of, operand_size, capped, reference_form as form_of_reference};
 
@@ -31,6 +31,13 @@ impl AttributeValue {
         ensures err { IfErr result (λ e. e ≡ NoMemory) }
     {
         Ok(self.clone()?)
+    }
+
+    /// Tells that another value is the same.
+    pub fn is_same(&self, other: &AttributeValue) -> bool
+        ensures { IsTrue result ↔ (self.now ≡ other.now) }
+    {
+        self == other
     }
 
     /// The form in which the value is written, and the constant that the declaration holds for it

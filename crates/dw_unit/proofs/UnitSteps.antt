@@ -4,7 +4,7 @@ use Rattle.std.specs.Prelude.{nat_le, Result, Ok, Err, OnOk, All, slice_index_or
 use Rattle.std.proofs.lemmas.List.Elements.{All-nil, All-cons}
 use Rattle.std.proofs.lemmas.Bool.Decides.{nat_tests}
 use Rattle.dw_unit.specs.UnitValue.{UnitValue}
-use Rattle.std.proofs.lemmas.Bool.{eq-eqb, ne_eqb}
+use Rattle.std.proofs.lemmas.Bool.{eq-eqb, ne_eqb, and_parts, leb-true}
 use Rattle.dw_base.specs.Numbers.{num, fits, is_width, word_of, escape_of, length_fits}
 use Rattle.dw_base.specs.Abbreviations.{Shape}
 use Rattle.dw_base.specs.Entries.{Mark, children_of, is_one_tree}
@@ -37,7 +37,6 @@ use Rattle.dw_unit.specs.Coded.{are_spelled, are_placed, shapes_of, coded, HaveO
 use Rattle.dw_unit.specs.UnitText.{fields_text, unit_length, unit_text}
 use Rattle.dw_unit.specs.Causes.{FieldsRefused, BodyRefused, TreeRefused}
 use Rattle.dw_unit.specs.Whole.{tree_bytes, tree_table, tree_shapes, tree_size, tree_placement, tree_read, tree_declared}
-use Rattle.dw_unit.proofs.Conditions.{and_left, and_right, nat_le-holds}
 use Rattle.dw_entries.proofs.TreeLaws.{preorder_one_tree}
 use Rattle.dw_unit.proofs.DistinctShapes.{tree_shapes-found}
 use Rattle.dw_unit.proofs.PlaceSteps.{tree_size-found}
@@ -198,10 +197,11 @@ pub tree_is_unit : (big : Bool) (e : Encoding) (place : ℕ) (es : List EntryVal
     IsTrue (length_fits e.format (tree_length e es)) → AreDeclarations (declarations shapes) → HaveOperands e es (tree_placement e es) (preorder es) →
     IsUnit big e place (tree_declared e es) (tree_read e es)
 tree_is_unit big e place es ms shapes items links tag tree found count few encodable place_fits long declared operands =
-    let version = and_left (is_version e.version) (is_width e.address_size) encodable in
-    let low = nat_le-holds 2 e.version (and_left (nat_le 2 e.version) (nat_le e.version 5) version) in
-    let high = nat_le-holds e.version 5 (and_right (nat_le 2 e.version) (nat_le e.version 5) version) in
-    let width = and_right (is_version e.version) (is_width e.address_size) encodable in
+    let parts = and_parts (is_version e.version) (is_width e.address_size) encodable in
+    let bounds = and_parts (nat_le 2 e.version) (nat_le e.version 5) parts.0 in
+    let low = leb-true 2 e.version bounds.0 in
+    let high = leb-true e.version 5 bounds.1 in
+    let width = parts.1 in
     let small : length (preorder es) < 2 ^ 64 = omega (arith, count, few, ap length tree) in
     let content : length (fields_bytes big e place ++ tree_bytes big e es) ≡ tree_length e es = length-content big e place (tree_bytes big e es) ∙ tree_length_is big e es in
     let some : 0 < length es = root_within es tag in

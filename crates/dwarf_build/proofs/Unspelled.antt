@@ -15,7 +15,7 @@ use Rattle.dw_unit.specs.Causes.{UnitUnspelled, UnitRefused, UnitsRefused}
 use Rattle.dw_unit.specs.Valid.{is_version, tree_length, IsWritable}
 use Rattle.dw_dwarf.specs.Valid.{IsValid}
 use Rattle.dw_dwarf.proofs.Complete.{place_fits, valid_at}
-use Rattle.dw_unit.proofs.Conditions.{and_left, and_right}
+use Rattle.std.proofs.lemmas.Bool.{and_parts}
 use Rattle.dw_dwarf.proofs.Conditions.{not_both}
 use Rattle.dwarf_build.specs.Answers.{HasNoSpelling, SaysOf}
 use Rattle.dwarf_build.specs.Texts.{refused_text}
@@ -54,9 +54,9 @@ unit_spelled u InvalidReference valid r = not_both _ valid.inside r
 unit_spelled u InitialLengthOverflow valid r =
     not_both _ (ap (λ f. length_fits f (tree_length u.encoding (settled u).entries)) (sym r.0) ∙ valid.fits) r.1
 unit_spelled u (UnsupportedVersion v) valid r =
-    not_both _ (and_left (is_version u.encoding.version) (is_width u.encoding.address_size) valid.encodable) (sym (ap is_version r.0) ∙ r.1)
+    not_both _ (and_parts (is_version u.encoding.version) (is_width u.encoding.address_size) valid.encodable).0 (sym (ap is_version r.0) ∙ r.1)
 unit_spelled u (UnsupportedWordSize n) valid r =
-    not_both _ (and_right (is_version u.encoding.version) (is_width u.encoding.address_size) valid.encodable) (sym (ap is_width r.0) ∙ r.1)
+    not_both _ (and_parts (is_version u.encoding.version) (is_width u.encoding.address_size) valid.encodable).1 (sym (ap is_width r.0) ∙ r.1)
 unit_spelled u _ valid r = absurd r
 
 pub valid_spelled : (us : List UnitValue) (e : Error) → IsValid us → HasNoSpelling us e → ⊥
