@@ -1,7 +1,7 @@
 -- What codes tell: a code stands for one shape, and keeps it as the table grows.
-use Rattle.std.specs.Prelude.{◌≡◌, ◌≢◌, ◌↔◌, ℕ, zero, suc, ◌+◌, ◌≤◌, ◌<◌, Bool, true, false, not, ◌||◌, ◌==◌, List, [], ◌∷◌, ◌++◌, length, slice_index_or, Option, None, Some, if◌then◌else◌, Contains, refl}
+use Rattle.std.specs.Prelude.{◌≡◌, ◌≢◌, ◌↔◌, ℕ, zero, suc, ◌+◌, ◌≤◌, ◌<◌, Bool, true, false, not, ◌||◌, ◌==◌, List, [], ◌∷◌, ◌++◌, length, slice_index_or, Option, None, Some, position, if◌then◌else◌, Contains, refl}
 use Rattle.std.specs.List.{list_any, position_or_len, IsDistinct}
-use Rattle.std.proofs.Common.{sym, ◌∙◌, ap, arith, true≢false, eq-eqb}
+use Rattle.std.proofs.Common.{sym, ◌∙◌, ap, arith, cond, true≢false, eq-eqb}
 use Rattle.std.proofs.lemmas.Bool.{ne_eqb}
 use Rattle.std.proofs.lemmas.List.Elements.{All-from_recursion, All-weaker}
 use Rattle.std.proofs.lemmas.List.Kept.{AllPairs-cons}
@@ -29,6 +29,22 @@ with_step false false x s xs ys e = ap (λ l. x ∷ l) e
 pub insert_key-with : (xs : List Shape) (s : Shape) → insert_key shape_eq xs s ≡ with_shape xs s
 insert_key-with [] s = refl
 insert_key-with (x ∷ xs) s = with_step (shape_eq s x) (list_any (shape_eq s) xs) x s xs (with_shape xs s) (insert_key-with xs s)
+
+-- a shape that is there is not added
+present : (xs : List Shape) (s : Shape) → position_or_len (shape_eq s) xs < length xs → with_shape xs s ≡ xs
+present [] s h = absurd (omega arith)
+present (x ∷ xs) s h = step (shape_eq s x) h (present xs s)
+  where
+    step : (b : Bool) → cond (not b) (1 + position_or_len (shape_eq s) xs) 0 < suc (length xs) → (position_or_len (shape_eq s) xs < length xs → with_shape xs s ≡ xs) → (if b then x ∷ xs else x ∷ with_shape xs s) ≡ x ∷ xs
+    step true h rest = refl
+    step false h rest = ap (λ l. x ∷ l) (rest (omega arith))
+
+-- a shape that was found has the code of its place, and is not added
+pub found_code : (xs : List Shape) (s : Shape) (i : ℕ) → Some i ≡ position (shape_eq s) xs → (i + 1 ≡ code_in xs s) × (with_shape xs s ≡ xs)
+found_code xs s i e =
+    let at : i ≡ position_or_len (shape_eq s) xs = grind arith in
+    let within : i < length xs = grind arith in
+    (ap (λ k. k + 1) at ∙ position-code xs s, present xs s (omega arith))
 
 -- keys of an ordered set differ
 pub distinct_differ : (xs : List Shape) → IsDistinct shape_eq xs → AllDiffer xs

@@ -85,6 +85,14 @@ impl Abbreviation {
         self.attributes.as_slice()
     }
 
+    /// The attributes, without a copy.
+    pub fn into_attributes(self) -> Vec<AttributeSpecification>
+        ensures { result.items ≡ self.attributes }
+    {
+        let Abbreviation { attributes, .. } = self;
+        attributes
+    }
+
     /// Writes what a declaration says after its code.
     pub(crate) fn write<W: Writer>(&self, w: &mut W) -> Result<()>
         ensures ok { OnOk result

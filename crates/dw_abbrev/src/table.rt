@@ -1,6 +1,6 @@
 //! The abbreviation table of a unit.
 
-ghost use Rattle.std.specs.Prelude.{◌≡◌, [], length, Some, OnOk, OnErr, IfOk, IfErr};
+ghost use Rattle.std.specs.Prelude.{◌≡◌, [], length, Some, IfSome, OnOk, OnErr, IfOk, IfErr};
 ghost use Rattle.std.specs.List.{flat_map};
 ghost use Rattle.dw_base.specs.declared.error.Error.TheVariants.{NoMemory};
 ghost use Rattle.dw_base.specs.Abbreviations.{shape_of_code};
@@ -63,6 +63,30 @@ impl AbbreviationTable {
         // A set's length is far below the largest number, so the code doesn't wrap.
         prove!(index < self.abbreviations.len());
         Ok(index as u64 + 1)
+    }
+
+    /// The code of an abbreviation that equals this one, if there is one.
+    fn code_of(&self, abbrev: &Abbreviation) -> Option<u64>
+        ensures code { IfSome result (λ code. code ≡ code_in self.now «abbrev».now) }
+        ensures there { IfSome result (λ code. with_shape self.now «abbrev».now ≡ self.now) }
+    {
+        let index = self.abbreviations.get_index_of(abbrev)?;
+        prove!(index < self.abbreviations.len());
+        Some(index as u64 + 1)
+    }
+
+    /// The code of an abbreviation, of which a copy is added if none equals it. So one abbreviation
+    /// serves for many look-ups.
+    pub fn add_copy(&mut self, abbrev: &Abbreviation) -> Result<u64>
+        ensures code { IfOk result (λ code. code ≡ code_in self.old «abbrev».now) }
+        ensures ok { OnOk result (self.new ≡ with_shape self.old «abbrev».now) }
+        ensures err { IfErr result (λ e. e ≡ NoMemory) }
+        ensures kept { OnErr result (self.new ≡ self.old) }
+    {
+        match self.code_of(abbrev) {
+            Some(code) => Ok(code),
+            None => self.add(abbrev.try_clone()?),
+        }
     }
 
     /// How many abbreviations there are. No two of them are equal.

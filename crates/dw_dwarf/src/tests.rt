@@ -59,6 +59,27 @@ fn writes_a_unit_once(rt: HostRuntime) -> std::result::Result<(), Fail> {
     Ok(())
 }
 
+/// The units of both versions, the second of which tells that its table stands behind the first.
+const BOTH_VERSIONS: [u8; 25] = [
+    9, 0, 0, 0, 5, 0, 1, 8, 0, 0, 0, 0, 1, 8, 0, 0, 0, 4, 0, 6, 0, 0, 0, 8, 1,
+];
+
+/// Their tables.
+const BOTH_TABLES: [u8; 12] = [1, 0x11, 0, 0, 0, 0, 1, 0x11, 0, 0, 0, 0];
+
+#[test]
+fn writes_behind_what_stands(rt: HostRuntime) -> std::result::Result<(), Fail> {
+    let mut sections = new_sections(rt.alloc())?;
+    for version in [5, 4] {
+        let mut dwarf = dwarf_of(rt.alloc(), encoding(version))?;
+        assert_eq!(rt; dwarf.units.count(), 1);
+        dwarf.write(&mut sections)?;
+    }
+    assert_eq!(rt; sections.debug_info.0.slice(), BOTH_VERSIONS.as_slice());
+    assert_eq!(rt; sections.debug_abbrev.0.slice(), BOTH_TABLES.as_slice());
+    Ok(())
+}
+
 /// No reference is left to be fixed up, also none that was there before.
 #[test]
 fn leaves_no_fixup(rt: HostRuntime) -> std::result::Result<(), Fail> {

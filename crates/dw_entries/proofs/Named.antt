@@ -8,7 +8,7 @@ use Rattle.std.proofs.lemmas.List.Quantifiers.{position-Some}
 use Rattle.dw_base.specs.declared.constants.DwAt.{DwAt}
 use Rattle.dw_entries.specs.declared.attribute.Attribute.{Attribute}
 use Rattle.dw_entries.specs.declared.value.AttributeValue.{AttributeValue}
-use Rattle.dw_entries.specs.Attributes.{is_named, named, get_named, set_named, without_name, AreNamed}
+use Rattle.dw_entries.specs.Attributes.{is_named, named, get_named, set_named, without_name, HaveDistinctNames}
 
 -- an attribute of one name doesn't have another
 not_named : (n m : ℕ) (a : Attribute) → m ≢ n → is_named n a ≡ true → is_named m a ≡ false
@@ -59,20 +59,20 @@ get_named-fewer n m xs h = go (m == n) refl
     go false e =
         get_named-without_other n m xs (λ same. false≢true (sym e ∙ eq-eqb m n same)) ∙ h
 
-pub AreNamed-set_named : (n : ℕ) (v : AttributeValue) (xs : List Attribute) → 1 < n → AreNamed xs → AreNamed (set_named n v xs)
-AreNamed-set_named n v [] some h = (some, refl, tt)
-AreNamed-set_named n v (a ∷ xs) some h = go (is_named n a) refl (AreNamed-set_named n v xs some h.2)
+pub HaveDistinctNames-set_named : (n : ℕ) (v : AttributeValue) (xs : List Attribute) → 1 < n → HaveDistinctNames xs → HaveDistinctNames (set_named n v xs)
+HaveDistinctNames-set_named n v [] some h = (some, refl, tt)
+HaveDistinctNames-set_named n v (a ∷ xs) some h = go (is_named n a) refl (HaveDistinctNames-set_named n v xs some h.2)
   where
-    go : (b : Bool) → is_named n a ≡ b → AreNamed (set_named n v xs) → AreNamed (if b then named n v ∷ xs else a ∷ set_named n v xs)
+    go : (b : Bool) → is_named n a ≡ b → HaveDistinctNames (set_named n v xs) → HaveDistinctNames (if b then named n v ∷ xs else a ∷ set_named n v xs)
     go true e r = (some, ap (λ k. get_named k xs) (sym (eqb-true _ n e)) ∙ h.1, h.2)
     go false e r =
         (h.0, get_named-set_other n _ v xs (λ same. false≢true (sym e ∙ eq-eqb _ n same)) ∙ h.1, r)
 
-pub AreNamed-without : (n : ℕ) (xs : List Attribute) → AreNamed xs → AreNamed (without_name n xs)
-AreNamed-without n [] h = tt
-AreNamed-without n (a ∷ xs) h = go (is_named n a) (AreNamed-without n xs h.2)
+pub HaveDistinctNames-without : (n : ℕ) (xs : List Attribute) → HaveDistinctNames xs → HaveDistinctNames (without_name n xs)
+HaveDistinctNames-without n [] h = tt
+HaveDistinctNames-without n (a ∷ xs) h = go (is_named n a) (HaveDistinctNames-without n xs h.2)
   where
-    go : (b : Bool) → AreNamed (without_name n xs) → AreNamed (if not b then a ∷ without_name n xs else without_name n xs)
+    go : (b : Bool) → HaveDistinctNames (without_name n xs) → HaveDistinctNames (if not b then a ∷ without_name n xs else without_name n xs)
     go true r = r
     go false r = (h.0, get_named-fewer n _ xs h.1, r)
 
@@ -130,9 +130,9 @@ pub set_named-missing : (n : ℕ) (v : AttributeValue) (xs : List Attribute) →
 set_named-missing n v xs e = push_named n v xs (past_all n xs (past_none n xs e))
 
 -- in both cases of an answer
-pub named_either : {E : Type 0} (r : Result (Unit {0}) E) (n : ℕ) (v : AttributeValue) (xs ys : List Attribute) → 1 < n → AreNamed xs → OnOk r (ys ≡ set_named n v xs) → OnErr r (ys ≡ xs) → AreNamed ys
-named_either (Ok x) n v xs ys some h ok kept = subst AreNamed (sym ok) (AreNamed-set_named n v xs some h)
-named_either (Err e) n v xs ys some h ok kept = subst AreNamed (sym kept) h
+pub named_either : {E : Type 0} (r : Result (Unit {0}) E) (n : ℕ) (v : AttributeValue) (xs ys : List Attribute) → 1 < n → HaveDistinctNames xs → OnOk r (ys ≡ set_named n v xs) → OnErr r (ys ≡ xs) → HaveDistinctNames ys
+named_either (Ok x) n v xs ys some h ok kept = subst HaveDistinctNames (sym ok) (HaveDistinctNames-set_named n v xs some h)
+named_either (Err e) n v xs ys some h ok kept = subst HaveDistinctNames (sym kept) h
 
 -- a name that is neither zero nor DW_AT_sibling
 pub past_sibling : (name : DwAt) → name.0 ≢ 0 → name ≢ record { 0 = 1 } → 1 < name.0

@@ -7,7 +7,7 @@ use Rattle.std.proofs.lemmas.List.Quantifiers.{position-Some}
 use Rattle.std.proofs.lemmas.Option.{slice_get_read}
 use Rattle.dw_entries.specs.declared.attribute.Attribute.{Attribute}
 use Rattle.dw_entries.specs.declared.value.AttributeValue.{AttributeValue}
-use Rattle.dw_entries.specs.Attributes.{is_named, named, get_named, set_named, with_value_at, value_at, value_or_none, AreNamed}
+use Rattle.dw_entries.specs.Attributes.{is_named, named, get_named, set_named, with_value_at, value_at, value_or_none, HaveDistinctNames}
 use Rattle.dw_entries.proofs.Named.{set_named-found}
 
 -- an attribute with another value
@@ -37,15 +37,15 @@ none-with_value_at m (suc i) w (a ∷ xs) h = go (is_named m a) (none-with_value
     go true rest h = let clash : Some a.value ≡ None = h in absurd cc
     go false rest h = rest h
 
-AreNamed-with_value_at : (i : ℕ) (w : AttributeValue) (xs : List Attribute) → AreNamed xs → AreNamed (with_value_at i w xs)
-AreNamed-with_value_at i w [] h = tt
-AreNamed-with_value_at zero w (a ∷ xs) h = h
-AreNamed-with_value_at (suc i) w (a ∷ xs) h =
-    (h.0, none-with_value_at _ i w xs h.1, AreNamed-with_value_at i w xs h.2)
+HaveDistinctNames-with_value_at : (i : ℕ) (w : AttributeValue) (xs : List Attribute) → HaveDistinctNames xs → HaveDistinctNames (with_value_at i w xs)
+HaveDistinctNames-with_value_at i w [] h = tt
+HaveDistinctNames-with_value_at zero w (a ∷ xs) h = h
+HaveDistinctNames-with_value_at (suc i) w (a ∷ xs) h =
+    (h.0, none-with_value_at _ i w xs h.1, HaveDistinctNames-with_value_at i w xs h.2)
 
-pub named_replaced : (i : ℕ) (a : Attribute) (w : AttributeValue) (xs : List Attribute) → i < length xs → a ≡ get_or xs i a → AreNamed xs → AreNamed (slice_set xs i (record { name = a.name; value = w }))
+pub named_replaced : (i : ℕ) (a : Attribute) (w : AttributeValue) (xs : List Attribute) → i < length xs → a ≡ get_or xs i a → HaveDistinctNames xs → HaveDistinctNames (slice_set xs i (record { name = a.name; value = w }))
 named_replaced i a w xs within read h =
-    subst AreNamed (sym (replaced_at i a w xs within read)) (AreNamed-with_value_at i w xs h)
+    subst HaveDistinctNames (sym (replaced_at i a w xs within read)) (HaveDistinctNames-with_value_at i w xs h)
 
 -- the first attribute of a name
 pub found_within : (n i : ℕ) (a : Attribute) (xs : List Attribute) → Some i ≡ position (is_named n) xs → i < length xs

@@ -8,7 +8,7 @@ use Rattle.std.proofs.lemmas.List.Elements.{filter-append}
 use Rattle.std.proofs.lemmas.List.Folds.{list_any-append}
 use Rattle.dw_entries.specs.Entries.{EntryValue, entry_at}
 use Rattle.dw_entries.specs.Arena.{AreLinked, HasChild, IsArena}
-use Rattle.dw_entries.specs.Settled.{with_children, is_base, base_children, other_children, bases_first, settled_entries}
+use Rattle.dw_entries.specs.Settled.{with_children, base_type_tag, is_base, base_children, other_children, bases_first, settled_entries}
 use Rattle.dw_entries.proofs.Changed.{length-with_changed, seen_kept, numbered_changed}
 use Rattle.dw_entries.proofs.Filtered.{kept, distinct_filter, distinct_append}
 
@@ -114,8 +114,8 @@ bases_first-again es cs =
 
 bases_first-same : (es new : List EntryValue) (cs : List ℕ) → ((i : ℕ) → (entry_at new i).tag ≡ (entry_at es i).tag) → bases_first new cs ≡ bases_first es cs
 bases_first-same es new cs h =
-    ap (λ t. t ++ filter (λ c. not (is_base new c)) cs) (filter_same (is_base new) (is_base es) cs (λ i. ap (λ t. t == 0x24) (h i)))
-    ∙ ap (λ t. base_children es cs ++ t) (filter_same (λ c. not (is_base new c)) (λ c. not (is_base es c)) cs (λ i. ap (λ t. not (t == 0x24)) (h i)))
+    ap (λ t. t ++ filter (λ c. not (is_base new c)) cs) (filter_same (is_base new) (is_base es) cs (λ i. ap (λ t. t == base_type_tag) (h i)))
+    ∙ ap (λ t. base_children es cs ++ t) (filter_same (λ c. not (is_base new c)) (λ c. not (is_base es c)) cs (λ i. ap (λ t. not (t == base_type_tag)) (h i)))
 
 -- settling twice is settling once
 pub settled-settled : (es : List EntryValue) → settled_entries (settled_entries es) ≡ settled_entries es

@@ -1,5 +1,6 @@
 -- The attributes of one entry, and what the calls on them make of it.
 use Rattle.std.specs.Prelude.{◌≡◌, ◌<◌, ℕ, zero, suc, List, [], ◌∷◌, Option, Some, None, Bool, not, ◌==◌, filter, slice_get, if◌then◌else◌}
+use Rattle.dw_base.specs.declared.constants.TheConstants.{DW_AT_sibling}
 use Rattle.dw_entries.specs.declared.attribute.Attribute.{Attribute}
 use Rattle.dw_entries.specs.declared.value.AttributeValue.{AttributeValue}
 
@@ -47,7 +48,11 @@ name_at xs i = name_or_none (slice_get xs i)
 abbrev pub value_at : List Attribute → ℕ → Option AttributeValue
 value_at xs i = value_or_none (slice_get xs i)
 
--- no name is zero or that of DW_AT_sibling, and none stands twice
-abbrev pub AreNamed : List Attribute → Type 0
-AreNamed [] = Unit {0}
-AreNamed (a ∷ xs) = (1 < a.name.0) × (get_named a.name.0 xs ≡ None) × AreNamed xs
+-- a name that an attribute can have: it is neither zero nor DW_AT_sibling
+abbrev pub IsOwnName : ℕ → Type 0
+IsOwnName n = DW_AT_sibling.0 < n
+
+-- each name is one that an attribute can have, and none stands twice
+abbrev pub HaveDistinctNames : List Attribute → Type 0
+HaveDistinctNames [] = Unit {0}
+HaveDistinctNames (a ∷ xs) = IsOwnName a.name.0 × (get_named a.name.0 xs ≡ None) × HaveDistinctNames xs

@@ -1,5 +1,6 @@
 -- The entries of a unit, each named by its index, and what the calls make of them.
 use Rattle.std.specs.Prelude.{ℕ, zero, suc, List, [], ◌∷◌, ◌++◌, Option, Some, None, Bool, true, false, not, ◌&&◌, ◌==◌, filter, get_or}
+use Rattle.dw_base.specs.declared.constants.TheConstants.{DW_TAG_compile_unit}
 use Rattle.dw_base.specs.declared.ids.UnitEntryId.{UnitEntryId}
 use Rattle.dw_entries.specs.declared.attribute.Attribute.{Attribute}
 use Rattle.dw_entries.specs.declared.value.AttributeValue.{AttributeValue}
@@ -30,7 +31,7 @@ blank_entry id = record { id = id; parent = None; tag = 0; sibling = false; attr
 
 -- the tag DW_TAG_compile_unit (DWARF 5, table 7.3)
 abbrev pub compile_unit_tag : ℕ
-compile_unit_tag = 0x11
+compile_unit_tag = DW_TAG_compile_unit.0
 
 -- the root as it is made: a compile unit's
 abbrev pub new_root : EntryValue
@@ -64,6 +65,10 @@ placed_under parent tag e = record e { parent = Some parent; tag = tag }
 abbrev pub with_new_child : ℕ → ℕ → ℕ → List EntryValue → List EntryValue
 with_new_child child parent tag es =
     with_changed child (placed_under parent tag) (with_changed parent (with_child child) es)
+
+-- the entries, up to a count, with a child added under its parent
+abbrev pub with_added : ℕ → ℕ → ℕ → ℕ → List EntryValue → List EntryValue
+with_added count child parent tag es = with_new_child child parent tag (filled_up count es)
 
 -- an entry with its sibling flag set or not
 abbrev pub with_sibling : Bool → EntryValue → EntryValue

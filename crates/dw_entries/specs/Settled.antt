@@ -1,5 +1,6 @@
 -- Base types first among the root's children.
 use Rattle.std.specs.Prelude.{ℕ, List, ◌++◌, Bool, not, ◌==◌, filter}
+use Rattle.dw_base.specs.declared.constants.TheConstants.{DW_TAG_base_type}
 use Rattle.dw_entries.specs.Entries.{EntryValue, with_changed, entry_at}
 
 -- an entry with other children
@@ -8,7 +9,7 @@ with_children cs e = record e { children = cs }
 
 -- the tag DW_TAG_base_type (DWARF 5, table 7.3)
 abbrev pub base_type_tag : ℕ
-base_type_tag = 0x24
+base_type_tag = DW_TAG_base_type.0
 
 -- the entry is a base type
 abbrev pub is_base : List EntryValue → ℕ → Bool

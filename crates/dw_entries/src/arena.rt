@@ -2,7 +2,7 @@
 
 ghost use Rattle.std.specs.Prelude.{◌≡◌, ◌<◌, ◌≤◌, vec_len, ◌==◌, OnOk, OnErr, IfErr};
 ghost use Rattle.dw_base.specs.declared.error.Error.TheVariants.{NoMemory};
-ghost use Rattle.dw_entries.specs.Entries.{filled_up, with_new_child, entry_at};
+ghost use Rattle.dw_entries.specs.Entries.{filled_up, with_new_child, with_added, entry_at};
 
 use crate::entry::DebuggingInformationEntry;
 use dw_base::{DwTag, Result, UnitEntryId};
@@ -19,7 +19,8 @@ pub(crate) fn add_entry(
     requires within { vec_len entries.old ≤ count }
     requires child_in { child.0 < count }
     requires parent_in { parent.0 < count }
-    ensures ok { OnOk result (entries.new.items ≡ with_new_child child.0 parent.0 tag.0 (filled_up count entries.old.items)) }
+    ensures ok { OnOk result
+        (entries.new.items ≡ with_added count child.0 parent.0 tag.0 entries.old.items) }
     ensures err { IfErr result (λ e. e ≡ NoMemory) }
     ensures kept { OnErr result (entries.new.items ≡ entries.old.items) }
 {
@@ -56,7 +57,8 @@ fn link(
 ) -> Result<()>
     requires child_in { child.0 < vec_len entries.old }
     requires parent_in { parent.0 < vec_len entries.old }
-    ensures ok { OnOk result (entries.new.items ≡ with_new_child child.0 parent.0 tag.0 entries.old.items) }
+    ensures ok { OnOk result
+        (entries.new.items ≡ with_new_child child.0 parent.0 tag.0 entries.old.items) }
     ensures err { IfErr result (λ e. e ≡ NoMemory) }
     ensures kept { OnErr result (entries.new.items ≡ entries.old.items) }
 {

@@ -70,7 +70,8 @@ impl AttrMut<'_> {
         ensures same_walk { self.new.walk.ghost_name ≡ self.old.walk.ghost_name }
         ensures at { self.new.at ≡ self.old.at }
         ensures next { self.new.walk.now.next ≡ self.old.walk.now.next }
-        ensures attributes { self.new.walk.now.attributes ≡ with_value_at self.old.at value self.old.walk.now.attributes }
+        ensures attributes { self.new.walk.now.attributes
+            ≡ with_value_at self.old.at value self.old.walk.now.attributes }
     {
         self.walk.attributes.set_value_at(self.at, value);
     }

@@ -3,7 +3,7 @@
 ghost use Rattle.std.specs.Prelude.{◌≡◌, ◌<◌, [], None, position, OnOk, OnErr, IfErr};
 ghost use Rattle.std.specs.Option.{option_copied};
 ghost use Rattle.dw_base.specs.declared.error.Error.TheVariants.{NoMemory};
-ghost use Rattle.dw_entries.specs.Attributes.{is_named, get_named, set_named, without_name};
+ghost use Rattle.dw_entries.specs.Attributes.{IsOwnName, is_named, get_named, set_named, without_name};
 
 use crate::attribute::Attribute;
 use crate::value::AttributeValue;
@@ -20,13 +20,13 @@ pub(crate) struct Attributes {
 impl Model for Attributes {
     ghost use Rattle.std.specs.Prelude.{List};
     ghost use Rattle.dw_entries.specs.declared.attribute.Attribute.{Attribute};
-    ghost use Rattle.dw_entries.specs.Attributes.{AreNamed};
+    ghost use Rattle.dw_entries.specs.Attributes.{HaveDistinctNames};
 
     ghost Value = { List Attribute };
 
     ghost view = { λ a. a.items.items };
 
-    ghost invariant = { λ a. AreNamed a.items.items };
+    ghost invariant = { λ a. HaveDistinctNames a.items.items };
 }
 
 fn position_of(attributes: &[Attribute], name: DwAt) -> Option<usize>
@@ -55,7 +55,7 @@ fn delete_in(attributes: &mut Vec<Attribute>, name: DwAt)
 }
 
 impl Attributes {
-    ghost use Rattle.dw_entries.specs.Attributes.{AreNamed};
+    ghost use Rattle.dw_entries.specs.Attributes.{HaveDistinctNames};
 
     /// No attributes.
     pub(crate) fn new(alloc: Global) -> Attributes
@@ -69,7 +69,7 @@ impl Attributes {
     /// The attributes in their order.
     pub(crate) fn as_slice(&self) -> &[Attribute]
         ensures value { result.now ≡ self.now }
-        ensures named { AreNamed self.now }
+        ensures named { HaveDistinctNames self.now }
     {
         self.items.as_slice()
     }
@@ -86,7 +86,7 @@ impl Attributes {
 
     /// Replaces the value under a name in its position, or appends an attribute.
     pub(crate) fn set(&mut self, name: DwAt, value: AttributeValue) -> Result<()>
-        requires { 1 < name.0 }
+        requires { IsOwnName name.0 }
         ensures ok { OnOk result (self.new ≡ set_named name.0 value self.old) }
         ensures err { IfErr result (λ e. e ≡ NoMemory) }
         ensures kept { OnErr result (self.new ≡ self.old) }

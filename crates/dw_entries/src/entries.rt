@@ -2,7 +2,8 @@
 
 ghost use Rattle.std.specs.Prelude.{◌≡◌, ◌≢◌, ◌+◌, ◌<◌, ◌∷◌, [], IsTrue, length, None, Some, slice_get, OnOk, OnErr, IfOk, IfErr};
 ghost use Rattle.dw_base.specs.declared.error.Error.TheVariants.{NoMemory};
-ghost use Rattle.dw_entries.specs.Entries.{new_root, filled_up, with_new_child, with_sibling, with_attribute, without_attribute, without_child, value_of};
+ghost use Rattle.dw_entries.specs.Entries.{new_root, with_added, with_sibling, with_attribute, without_attribute, without_child, value_of};
+ghost use Rattle.dw_entries.specs.Attributes.{IsOwnName};
 ghost use Rattle.dw_entries.specs.Arena.{IsSound, is_reserved, with_entry};
 ghost use Rattle.dw_entries.specs.Settled.{settled_entries};
 
@@ -63,8 +64,8 @@ impl Entries {
         &self.entries
     }
 
-    /// How many entries there are. An id that is only handed out has a blank entry once another entry
-    /// was added after it.
+    /// How many entries there are. An id that is only handed out has a blank entry once another
+    /// entry was added after it.
     pub fn count(&self) -> usize
         ensures value { result ≡ length self.now.entries }
         ensures sound { IsSound self.now }
@@ -109,8 +110,8 @@ impl Entries {
         id
     }
 
-    /// Adds the entry of a reserved id behind its parent's other children. The parent's own id may be
-    /// reserved alone.
+    /// Adds the entry of a reserved id behind its parent's other children. The parent's own id may
+    /// be reserved alone.
     pub fn add_reserved(
         &mut self,
         child: UnitEntryId,
@@ -121,7 +122,9 @@ impl Entries {
         requires parent_in { parent.0 < self.old.reserved }
         requires tagged { tag.0 ≢ 0 }
         requires rooted { 0 < length self.old.entries }
-        ensures ok { OnOk result (self.new ≡ record self.old { entries = with_new_child child.0 parent.0 tag.0 (filled_up self.old.reserved self.old.entries) }) }
+        ensures ok { OnOk result
+            (self.new ≡ record self.old
+            { entries = with_added self.old.reserved child.0 parent.0 tag.0 self.old.entries }) }
         ensures count { OnOk result (length self.new.entries ≡ self.old.reserved) }
         ensures err { IfErr result (λ e. e ≡ NoMemory) }
         ensures kept { OnErr result (self.new ≡ self.old) }
@@ -136,7 +139,12 @@ impl Entries {
         requires tagged { tag.0 ≢ 0 }
         requires rooted { 0 < length self.old.entries }
         ensures id { IfOk result (λ id. id.0 ≡ self.old.reserved) }
-        ensures ok { OnOk result (self.new ≡ record { entries = with_new_child self.old.reserved parent.0 tag.0 (filled_up (self.old.reserved + 1) self.old.entries); reserved = self.old.reserved + 1 }) }
+        ensures ok { OnOk result
+            (self.new ≡ record {
+              entries = with_added (self.old.reserved + 1) self.old.reserved
+                  parent.0 tag.0 self.old.entries;
+              reserved = self.old.reserved + 1;
+            }) }
         ensures count { OnOk result (length self.new.entries ≡ self.old.reserved + 1) }
         ensures err { IfErr result (λ e. e ≡ NoMemory) }
         ensures kept { OnErr result (self.new ≡ self.old) }
@@ -147,10 +155,11 @@ impl Entries {
         Ok(child)
     }
 
-    /// Moves the root's base types before its other children, so that expressions name them by short
-    /// offsets. Base types further down stay.
+    /// Moves the root's base types before its other children, so that expressions name them by
+    /// short offsets. Base types further down stay.
     pub fn settle(&mut self) -> Result<()>
-        ensures ok { OnOk result (self.new ≡ record self.old { entries = settled_entries self.old.entries }) }
+        ensures ok { OnOk result
+            (self.new ≡ record self.old { entries = settled_entries self.old.entries }) }
         ensures count { length self.new.entries ≡ length self.old.entries }
         ensures err { IfErr result (λ e. e ≡ NoMemory) }
         ensures kept { OnErr result (self.new ≡ self.old) }
@@ -161,12 +170,13 @@ impl Entries {
 }
 
 impl Entries {
-    /// Puts a value under a name in the entry at an index, in its position, which takes no memory, or
-    /// appends an attribute.
+    /// Puts a value under a name in the entry at an index, in its position, which takes no memory,
+    /// or appends an attribute.
     pub fn set(&mut self, index: usize, name: DwAt, value: AttributeValue) -> Result<()>
         requires index_in { index < length self.old.entries }
-        requires named { 1 < name.0 }
-        ensures ok { OnOk result (self.new ≡ with_entry self.old index (with_attribute name.0 value)) }
+        requires named { IsOwnName name.0 }
+        ensures ok { OnOk result
+            (self.new ≡ with_entry self.old index (with_attribute name.0 value)) }
         ensures err { IfErr result (λ e. e ≡ NoMemory) }
         ensures kept { OnErr result (self.new ≡ self.old) }
         ensures in_place { OnErr result (value_of self.old.entries index name.0 ≡ None) }

@@ -7,7 +7,7 @@ ghost use Rattle.std.specs.Iterator.Adapters.{IterYieldsInOrder};
 ghost use Rattle.dw_base.specs.declared.error.Error.TheVariants.{NoMemory};
 ghost use Rattle.dw_base.specs.declared.ids.UnitEntryId.{UnitEntryId};
 ghost use Rattle.dw_entries.specs.declared.attribute.Attribute.{Attribute};
-ghost use Rattle.dw_entries.specs.Attributes.{get_named, AreNamed};
+ghost use Rattle.dw_entries.specs.Attributes.{get_named, IsOwnName, HaveDistinctNames};
 ghost use Rattle.dw_entries.specs.Entries.{index_of, parent_index, blank_entry, with_child, placed_under, with_sibling, with_attribute, without_attribute, without_child};
 
 use crate::attribute::Attribute;
@@ -36,11 +36,19 @@ impl Model for DebuggingInformationEntry {
 
     ghost Value = { EntryValue };
 
-    ghost view = { λ e. record { id = e.id.0; parent = parent_index e.parent; tag = e.tag.0; sibling = e.sibling; attributes = e.walk.attributes; children = map index_of e.children.items } };
+    ghost view = { λ e. record {
+      id = e.id.0;
+      parent = parent_index e.parent;
+      tag = e.tag.0;
+      sibling = e.sibling;
+      attributes = e.walk.attributes;
+      children = map index_of e.children.items;
+    } };
 }
 
 fn delete_child_in(children: &mut Vec<UnitEntryId>, id: UnitEntryId)
-    ensures { map index_of children.new.items ≡ filter (λ x. not (x == id.0)) (map index_of children.old.items) }
+    ensures { map index_of children.new.items
+        ≡ filter (λ x. not (x == id.0)) (map index_of children.old.items) }
 {
     children.retain(|c| c.0 != id.0);
 }
@@ -95,7 +103,7 @@ impl DebuggingInformationEntry {
     }
 
     pub(crate) fn set(&mut self, name: DwAt, value: AttributeValue) -> Result<()>
-        requires { 1 < name.0 }
+        requires { IsOwnName name.0 }
         ensures ok { OnOk result (self.new ≡ with_attribute name.0 value self.old) }
         ensures err { IfErr result (λ e. e ≡ NoMemory) }
         ensures kept { OnErr result (self.new ≡ self.old) }
@@ -159,7 +167,7 @@ impl DebuggingInformationEntry {
     pub fn attrs(&self) -> slice::Iter<'_, Attribute>
         ensures rest { iter_rest result ≡ self.now.attributes }
         ensures runs { IterYieldsInOrder Attribute }
-        ensures named { AreNamed self.now.attributes }
+        ensures named { HaveDistinctNames self.now.attributes }
     {
         self.walk.attributes.as_slice().iter()
     }
@@ -224,7 +232,7 @@ impl DebuggingInformationEntry {
     /// The attributes in the order in which they are written.
     pub fn attributes(&self) -> &[Attribute]
         ensures value { result.now ≡ self.now.attributes }
-        ensures named { AreNamed self.now.attributes }
+        ensures named { HaveDistinctNames self.now.attributes }
     {
         self.walk.attributes.as_slice()
     }

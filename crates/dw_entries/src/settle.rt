@@ -20,7 +20,8 @@ fn is_base_type(entries: &[DebuggingInformationEntry], id: UnitEntryId) -> bool
 
 /// Tells that no base type stands behind another child.
 fn is_settled(entries: &[DebuggingInformationEntry], children: &[UnitEntryId]) -> bool
-    ensures { result ≡ true → bases_first entries.now (map index_of children.now) ≡ map index_of children.now }
+    ensures { result ≡ true → bases_first entries.now (map index_of children.now)
+        ≡ map index_of children.now }
 {
     let mut saw_other = false;
     'children: for child in children {
@@ -38,7 +39,9 @@ fn push_base_types(
     children: &[UnitEntryId],
     ordered: &mut Vec<UnitEntryId>,
 ) -> Result<(), AllocError>
-    ensures { OnOk result (map index_of ordered.new.items ≡ map index_of ordered.old.items ++ base_children entries.now (map index_of children.now)) }
+    ensures { OnOk result
+        (map index_of ordered.new.items ≡ map index_of ordered.old.items
+        ++ base_children entries.now (map index_of children.now)) }
 {
     'children: for child in children {
         if is_base_type(entries, *child) {
@@ -53,7 +56,9 @@ fn push_others(
     children: &[UnitEntryId],
     ordered: &mut Vec<UnitEntryId>,
 ) -> Result<(), AllocError>
-    ensures { OnOk result (map index_of ordered.new.items ≡ map index_of ordered.old.items ++ other_children entries.now (map index_of children.now)) }
+    ensures { OnOk result
+        (map index_of ordered.new.items ≡ map index_of ordered.old.items
+        ++ other_children entries.now (map index_of children.now)) }
 {
     'children: for child in children {
         if !is_base_type(entries, *child) {
@@ -68,7 +73,8 @@ fn base_types_first(
     entries: &[DebuggingInformationEntry],
     children: &[UnitEntryId],
 ) -> Result<Vec<UnitEntryId>, AllocError>
-    ensures { IfOk result (λ v. map index_of v.items ≡ bases_first entries.now (map index_of children.now)) }
+    ensures { IfOk result
+        (λ v. map index_of v.items ≡ bases_first entries.now (map index_of children.now)) }
 {
     let mut ordered = Vec::new(alloc);
     ordered.reserve(children.len())?;

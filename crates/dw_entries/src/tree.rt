@@ -52,7 +52,9 @@ fn enter(
     ensures path { OnOk result (IsPath entries.now None frames.new.items) }
     ensures given { OnOk result
         (marks items.new.items ++ pending entries.now (length entries.now) frames.new.items
-        ≡ marks items.old.items ++ (tree_from (length entries.now - length frames.old.items) entries.now index ++ pending entries.now (length entries.now) frames.old.items)) }
+        ≡ marks items.old.items
+        ++ (tree_from (length entries.now - length frames.old.items) entries.now index
+        ++ pending entries.now (length entries.now) frames.old.items)) }
     ensures grows { OnOk result (length items.new.items ≡ length items.old.items + 1) }
 {
     items.push(Item::Open(index))?;
@@ -62,8 +64,8 @@ fn enter(
     Ok(())
 }
 
-/// The tree in preorder, with a closing item behind each list of children that isn't empty. What the
-/// root doesn't reach is left out.
+/// The tree in preorder, with a closing item behind each list of children that isn't empty. What
+/// the root doesn't reach is left out.
 pub fn flatten(
     alloc: Global,
     entries: &[DebuggingInformationEntry],

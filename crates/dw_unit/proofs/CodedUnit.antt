@@ -12,7 +12,7 @@ use Rattle.dw_abbrev.specs.Codes.{with_shape, declarations, code_in}
 use Rattle.dw_abbrev.proofs.CodeLaws.{code_in-positive}
 use Rattle.dw_entries.specs.Entries.{EntryValue, entry_at}
 use Rattle.dw_unit.specs.Shapes.{Placement, shape_of_entry}
-use Rattle.dw_unit.specs.Coded.{shapes_of, coded_mark, coded, HasOperands, HaveOperands}
+use Rattle.dw_unit.specs.Coded.{shapes_of, coded_mark, tree_as_read, HasOperands, HaveOperands}
 use Rattle.dw_unit.proofs.Shared.{shape-read_entry, code_in-shapes, code_in-added, shapes-declared, with_shape-room}
 
 -- there are no more shapes than marks
@@ -23,7 +23,7 @@ shapes-room e es t (Open i ∷ ms) =
 shapes-room e es t (Close ∷ ms) = omega (arith, shapes-room e es t ms)
 
 -- each entry is declared
-marks-declared : (e : Encoding) (es : List EntryValue) (p : Placement) (t : List Shape) (ms : List (Mark ℕ)) → length t + length ms < 2 ^ 64 → HaveOperands e es p ms → All (IsMark e (declarations (shapes_of e es t ms))) (coded e es p (shapes_of e es t ms) ms)
+marks-declared : (e : Encoding) (es : List EntryValue) (p : Placement) (t : List Shape) (ms : List (Mark ℕ)) → length t + length ms < 2 ^ 64 → HaveOperands e es p ms → All (IsMark e (declarations (shapes_of e es t ms))) (tree_as_read e es p (shapes_of e es t ms) ms)
 marks-declared e es p t [] small h = All-nil (IsMark e (declarations t))
 marks-declared e es p t (Open i ∷ ms) small h =
     let s = shape_of_entry e (entry_at es i) in
@@ -31,7 +31,7 @@ marks-declared e es p t (Open i ∷ ms) small h =
     let final = shapes_of e es u ms in
     let code = code_in-shapes e es t ms s in
     let room = with_shape-room t s in
-    All-cons (IsMark e (declarations final)) (coded_mark e es p final (Open i)) (coded e es p final ms)
+    All-cons (IsMark e (declarations final)) (coded_mark e es p final (Open i)) (tree_as_read e es p final ms)
     (record {
       code = code_in-positive final s;
       code_fits = omega (arith, code, code_in-added t s, room);
@@ -41,11 +41,11 @@ marks-declared e es p t (Open i ∷ ms) small h =
     (marks-declared e es p u ms (omega (arith, room)) (All-tail (HasOperands e es p) (Open i) ms h))
 marks-declared e es p t (Close ∷ ms) small h =
     let final = shapes_of e es t ms in
-    All-cons (IsMark e (declarations final)) Close (coded e es p final ms) tt (marks-declared e es p t ms (omega arith) (All-tail (HasOperands e es p) Close ms h))
+    All-cons (IsMark e (declarations final)) Close (tree_as_read e es p final ms) tt (marks-declared e es p t ms (omega arith) (All-tail (HasOperands e es p) Close ms h))
 
-module _ (big : Bool) (e : Encoding) (place : ℕ) (es : List EntryValue) (p : Placement) (ms : List (Mark ℕ)) (shapes : List Shape) (found : shapes_of e es [] ms ≡ shapes) (from : 2 ≤ e.version) (to : e.version ≤ 5) (width : IsTrue (is_width e.address_size)) (place_fits : IsTrue (fits (word_of e.format) place)) (length_ok : IsTrue (length_fits e.format (length (fields_bytes big e place ++ body_bytes big e (coded e es p shapes ms))))) (tree : IsTrue (is_one_tree (map children_of (coded e es p shapes ms)))) (small : length ms < 2 ^ 64) where
+module _ (big : Bool) (e : Encoding) (place : ℕ) (es : List EntryValue) (p : Placement) (ms : List (Mark ℕ)) (shapes : List Shape) (found : shapes_of e es [] ms ≡ shapes) (from : 2 ≤ e.version) (to : e.version ≤ 5) (width : IsTrue (is_width e.address_size)) (place_fits : IsTrue (fits (word_of e.format) place)) (length_ok : IsTrue (length_fits e.format (length (fields_bytes big e place ++ body_bytes big e (tree_as_read e es p shapes ms))))) (tree : IsTrue (is_one_tree (map children_of (tree_as_read e es p shapes ms)))) (small : length ms < 2 ^ 64) where
   -- what the calls that write say is enough: the table ensures its declarations, and the body its operands
-  pub IsUnit-written : AreDeclarations (declarations shapes) → HaveOperands e es p ms → IsUnit big e place (declarations shapes) (coded e es p shapes ms)
+  pub IsUnit-written : AreDeclarations (declarations shapes) → HaveOperands e es p ms → IsUnit big e place (declarations shapes) (tree_as_read e es p shapes ms)
   IsUnit-written declared operands = record {
     version_from = from;
     version_to = to;
@@ -53,6 +53,6 @@ module _ (big : Bool) (e : Encoding) (place : ℕ) (es : List EntryValue) (p : P
     place_fits = place_fits;
     length_ok = length_ok;
     declarations = declared;
-    each = subst (λ ss. All (IsMark e (declarations ss)) (coded e es p ss ms)) found (marks-declared e es p [] ms (omega arith) operands);
+    each = subst (λ ss. All (IsMark e (declarations ss)) (tree_as_read e es p ss ms)) found (marks-declared e es p [] ms (omega arith) operands);
     tree = tree;
   }

@@ -14,7 +14,8 @@ use Rattle.dw_entries.specs.Tree.{IsIn, children_in, has_entry, are_entries_dist
 use Rattle.dw_unit.specs.Coded.{code_at}
 use Rattle.dw_unit.specs.Laid.{size_of, sizes_of, laid_from}
 use Rattle.dw_unit.specs.Places.{IsSamePlacement}
-use Rattle.dw_unit.specs.Laying.{LayoutValue, unlaid, placement_in, entered, closed_in, stepped, IsPlaced, IsLaid}
+use Rattle.dw_unit.specs.Laying.{LayoutValue, unlaid, placement_in, entered, closed_in, stepped}
+use Rattle.dw_unit.proofs.LaidSoFar.{IsPlaced, IsLaid}
 use Rattle.dw_unit.proofs.Placed.{read_set, read_zeros, left_once, placed_start, placed_open, placed_close}
 use Rattle.dw_entries.specs.Values.{capped}
 

@@ -3,7 +3,7 @@ use Rattle.std.proofs.Common.{◌≡◌, ◌∙◌, sym, ap, ℕ, zero, suc, ◌
 use Rattle.std.proofs.lemmas.List.{drop_more, drop_all, get_or-map, length-map}
 use Rattle.dw_entries.specs.declared.tree.Item.{Item}
 use Rattle.dw_entries.specs.declared.attribute.Attribute.{Attribute}
-use Rattle.dw_entries.specs.Attributes.{AreNamed}
+use Rattle.dw_entries.specs.Attributes.{HaveDistinctNames}
 use Rattle.dw_entries.specs.Entries.{EntryValue}
 use Rattle.dw_entries.specs.Tree.{IsIn, AreIn, mark_of, marks, IsTagged, AreTagged}
 
@@ -17,7 +17,7 @@ tagged_at es [] k d h below = absurd (omega arith)
 tagged_at es (x ∷ items) zero d h below = h.0
 tagged_at es (x ∷ items) (suc k) d h below = tagged_at es items k d h.1 (omega arith)
 
-pub named_at : (xs : List Attribute) (k : ℕ) (d : Attribute) → AreNamed xs → k < length xs → 1 < (get_or xs k d).name.0
+pub named_at : (xs : List Attribute) (k : ℕ) (d : Attribute) → HaveDistinctNames xs → k < length xs → 1 < (get_or xs k d).name.0
 named_at [] k d h below = absurd (omega arith)
 named_at (x ∷ xs) zero d h below = h.0
 named_at (x ∷ xs) (suc k) d h below = named_at xs k d h.2 (omega arith)

@@ -10,7 +10,8 @@ use Rattle.dw_base.specs.declared.common.Encoding.{Encoding}
 use Rattle.dw_entries.specs.Entries.{EntryValue, is_parent}
 use Rattle.dw_entries.specs.Tree.{has_entry}
 use Rattle.dw_unit.specs.Laid.{size_of, place_from, past_from, behind_from}
-use Rattle.dw_unit.specs.Laying.{LayoutValue, unlaid, entered, closed_in, AreBehind, IsPlaced}
+use Rattle.dw_unit.specs.Laying.{LayoutValue, unlaid, entered, closed_in}
+use Rattle.dw_unit.proofs.LaidSoFar.{AreBehind, IsPlaced}
 
 -- what is read after a number was put under an index
 pub read_set : (xs : List ℕ) (j v i : ℕ) → j < length xs → slice_index (slice_set xs j v) i ≡ (if j == i then v else slice_index xs i)

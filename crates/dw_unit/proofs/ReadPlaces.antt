@@ -8,7 +8,7 @@ use Rattle.dw_base.specs.Spelling.{header_size, mark_bytes, rows_of}
 use Rattle.dw_base.specs.declared.common.Encoding.{Encoding}
 use Rattle.dw_entries.specs.Entries.{EntryValue, is_parent}
 use Rattle.dw_unit.specs.Shapes.{Placement}
-use Rattle.dw_unit.specs.Coded.{coded_mark, coded}
+use Rattle.dw_unit.specs.Coded.{coded_mark, tree_as_read}
 use Rattle.dw_entries.specs.Tree.{preorder}
 use Rattle.dw_unit.specs.Laid.{size_of, place_from, behind_from, past_from}
 use Rattle.dw_unit.specs.Places.{IsSamePlacement}
@@ -25,20 +25,20 @@ marks-rows_of big e from depth (m ∷ ms) =
     ap (λ rest. m ∷ rest) (marks-rows_of big e (from + length (mark_bytes big e m)) (next_depth m depth) ms)
 
 -- marks are read alike where entries stand at the same places
-pub coded-same : (e : Encoding) (es : List EntryValue) (p q : Placement) (shapes : List Shape) (ms : List (Mark ℕ)) → IsSamePlacement p q → coded e es p shapes ms ≡ coded e es q shapes ms
-coded-same e es p q shapes ms same = ap (λ x. coded e es x shapes ms) (placement-same p q same)
+pub tree_as_read-same : (e : Encoding) (es : List EntryValue) (p q : Placement) (shapes : List Shape) (ms : List (Mark ℕ)) → IsSamePlacement p q → tree_as_read e es p shapes ms ≡ tree_as_read e es q shapes ms
+tree_as_read-same e es p q shapes ms same = ap (λ x. tree_as_read e es x shapes ms) (placement-same p q same)
 
 module _ (big : Bool) (e : Encoding) (es : List EntryValue) (p : Placement) (shapes : List Shape) where
   -- the rows of marks from a place on, at a depth
   abbrev rows : ℕ → ℕ → List (Mark ℕ) → List Row
-  rows at depth ms = rows_of big e at depth (coded e es p shapes ms)
+  rows at depth ms = rows_of big e at depth (tree_as_read e es p shapes ms)
 
   -- where the row behind a mark begins
   after : (at : ℕ) (m : Mark ℕ) → at + length (mark_bytes big e (coded_mark e es p shapes m)) ≡ at + size_of e es shapes m
   after at m = ap (λ n. at + n) (length-mark_bytes big e es p shapes m)
 
   -- an entry is read at its place
-  pub place_read-rows_of : (ms : List (Mark ℕ)) (at depth i : ℕ) → place_read ms (rows_of big e at depth (coded e es p shapes ms)) i ≡ place_from e es shapes at ms i
+  pub place_read-rows_of : (ms : List (Mark ℕ)) (at depth i : ℕ) → place_read ms (rows_of big e at depth (tree_as_read e es p shapes ms)) i ≡ place_from e es shapes at ms i
   unfolding rows_of
   place_read-rows_of [] at depth i = refl
   place_read-rows_of (Open j ∷ ms) at depth i =
@@ -53,7 +53,7 @@ module _ (big : Bool) (e : Encoding) (es : List EntryValue) (p : Placement) (sha
   deeper false level depth d h = h
 
   -- With d lists of children open inside a list, the row that closes it is read where its mark was laid out.
-  pub behind_read-rows_of : (ms : List (Mark ℕ)) (at level depth d : ℕ) → level ≡ suc (depth + d) → behind_read (suc depth) (rows_of big e at level (coded e es p shapes ms)) ≡ behind_from e es shapes d at ms
+  pub behind_read-rows_of : (ms : List (Mark ℕ)) (at level depth d : ℕ) → level ≡ suc (depth + d) → behind_read (suc depth) (rows_of big e at level (tree_as_read e es p shapes ms)) ≡ behind_from e es shapes d at ms
   unfolding rows_of
   behind_read-rows_of [] at level depth d h = refl
   behind_read-rows_of (Open j ∷ ms) at level depth d h =
@@ -72,7 +72,7 @@ module _ (big : Bool) (e : Encoding) (es : List EntryValue) (p : Placement) (sha
   past_one false ms to depth = refl
 
   -- the place past an entry is read where the marks past it begin
-  pub past_read-rows_of : (ms : List (Mark ℕ)) (at depth i : ℕ) → past_read ms (rows_of big e at depth (coded e es p shapes ms)) i ≡ past_from e es shapes at ms i
+  pub past_read-rows_of : (ms : List (Mark ℕ)) (at depth i : ℕ) → past_read ms (rows_of big e at depth (tree_as_read e es p shapes ms)) i ≡ past_from e es shapes at ms i
   unfolding rows_of
   past_read-rows_of [] at depth i = refl
   past_read-rows_of (Open j ∷ ms) at depth i =
@@ -86,12 +86,12 @@ module _ (big : Bool) (e : Encoding) (es : List EntryValue) (p : Placement) (sha
 -- The marks of the rows are what is read of the tree, where its entries are at the places at which they are read.
 pub marks_read : (big : Bool) (e : Encoding) (es : List EntryValue) →
     let rows = rows_of big e (header_size e) 0 (tree_read e es) in
-    map (λ row. row.mark) rows ≡ coded e es (placement_read (preorder es) rows) (tree_shapes e es) (preorder es)
+    map (λ row. row.mark) rows ≡ tree_as_read e es (placement_read (preorder es) rows) (tree_shapes e es) (preorder es)
 marks_read big e es =
     let shapes = tree_shapes e es in
     let ms = preorder es in
     marks-rows_of big e (header_size e) 0 (tree_read e es)
-    ∙ coded-same e es (tree_placement e es) _ shapes ms (record {
+    ∙ tree_as_read-same e es (tree_placement e es) _ shapes ms (record {
       place = λ i. sym (place_read-rows_of big e es (tree_placement e es) shapes ms (header_size e) 0 i);
       past = λ i. sym (past_read-rows_of big e es (tree_placement e es) shapes ms (header_size e) 0 i);
     })

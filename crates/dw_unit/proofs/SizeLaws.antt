@@ -19,7 +19,7 @@ use Rattle.dw_entries.specs.declared.value.AttributeValue.TheVariants as values
 use Rattle.dw_entries.specs.Entries.{EntryValue, has_sibling, entry_at}
 use Rattle.dw_entries.specs.Values.{reference_form, form_of, operand_of, operand_size}
 use Rattle.dw_unit.specs.Shapes.{Placement, before_attributes, read_attribute, read_sibling}
-use Rattle.dw_unit.specs.Coded.{code_at, coded_mark, coded}
+use Rattle.dw_unit.specs.Coded.{code_at, coded_mark, tree_as_read}
 use Rattle.dw_unit.specs.Laid.{sibling_size, values_size, size_of, sizes_of}
 
 -- a place in the unit is a word
@@ -72,7 +72,7 @@ module _ (big : Bool) (e : Encoding) where
     length-mark_bytes Close = refl
 
     -- and marks as many as their sizes say
-    pub length-body_bytes : (ms : List (Mark ℕ)) → length (body_bytes big e (coded e es p shapes ms)) ≡ sizes_of e es shapes ms
+    pub length-body_bytes : (ms : List (Mark ℕ)) → length (body_bytes big e (tree_as_read e es p shapes ms)) ≡ sizes_of e es shapes ms
     length-body_bytes [] = refl
     length-body_bytes (m ∷ ms) =
-        omega (arith, length-append (mark_bytes big e (coded_mark e es p shapes m)) (body_bytes big e (coded e es p shapes ms)), length-mark_bytes m, length-body_bytes ms)
+        omega (arith, length-append (mark_bytes big e (coded_mark e es p shapes m)) (body_bytes big e (tree_as_read e es p shapes ms)), length-mark_bytes m, length-body_bytes ms)

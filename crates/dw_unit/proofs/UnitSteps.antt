@@ -33,18 +33,18 @@ use Rattle.dw_unit.specs.Shapes.{Placement}
 use Rattle.dw_unit.specs.Laid.{sizes_of}
 use Rattle.dw_unit.specs.Places.{has_place, IsSamePlacement}
 use Rattle.dw_entries.specs.Tree.{preorder, has_entry}
-use Rattle.dw_unit.specs.Coded.{are_spelled, are_placed, shapes_of, coded, HaveOperands}
+use Rattle.dw_unit.specs.Coded.{are_writable, are_placed, shapes_of, tree_as_read, HaveOperands}
 use Rattle.dw_unit.specs.UnitText.{fields_text, unit_length, unit_text}
 use Rattle.dw_unit.specs.Causes.{FieldsRefused, BodyRefused, TreeRefused}
 use Rattle.dw_unit.specs.Whole.{tree_bytes, tree_table, tree_shapes, tree_size, tree_placement, tree_read, tree_declared}
 use Rattle.dw_entries.proofs.TreeLaws.{preorder_one_tree}
 use Rattle.dw_unit.proofs.DistinctShapes.{tree_shapes-found}
 use Rattle.dw_unit.proofs.PlaceSteps.{tree_size-found}
-use Rattle.dw_unit.proofs.ReadPlaces.{coded-same}
+use Rattle.dw_unit.proofs.ReadPlaces.{tree_as_read-same}
 use Rattle.dw_unit.proofs.SamePlaces.{are_placed-same}
 use Rattle.dw_unit.proofs.SizeLaws.{length-body_bytes}
 use Rattle.dw_entries.proofs.Tagged.{root_within}
-use Rattle.dw_unit.proofs.TreeRead.{children-coded}
+use Rattle.dw_unit.proofs.TreeRead.{children-tree_as_read}
 use Rattle.dw_unit.proofs.CodedUnit.{IsUnit-written}
 
 -- the fields of a header of version 5
@@ -141,7 +141,7 @@ bytes_refused old new more plain table e es f WriteFault r = f r
 bytes_refused old new more plain table e es f _ r = absurd r
 
 -- why the entries are refused
-pub body_refused : (old mid new : Meaning) (e : Encoding) (es : List EntryValue) (table : ℕ) (error : Error) → BodyRefused mid new (are_spelled es (preorder es)) (are_references_inside es) error →
+pub body_refused : (old mid new : Meaning) (e : Encoding) (es : List EntryValue) (table : ℕ) (error : Error) → BodyRefused mid new (are_writable es (preorder es)) (are_references_inside es) error →
     old.faults ≤ mid.faults → TreeRefused (HasRisen old new) old.is_plain table e es error
 body_refused old mid new e es table NoMemory r faults = tt
 body_refused old mid new e es table WriteFault r faults = HasRisen-from old mid new faults r
@@ -159,17 +159,17 @@ fields_refused old mid new e es table _ r kind faults = absurd r
 
 -- the entries, in the words of the tree
 pub tree_added : {m2 m3 : Meaning} (big : Bool) (e : Encoding) (es : List EntryValue) (p : Placement) (ms : List (Mark ℕ)) → ms ≡ preorder es → m2.is_big ≡ big → IsSamePlacement p (tree_placement e es) →
-    Adds m2 m3 (body_bytes m2.is_big e (coded e es p (shapes_of e es [] ms) ms)) → Adds m2 m3 (tree_bytes big e es)
+    Adds m2 m3 (body_bytes m2.is_big e (tree_as_read e es p (shapes_of e es [] ms) ms)) → Adds m2 m3 (tree_bytes big e es)
 tree_added {m2} {m3} big e es p ms tree order same h =
-    let found = subst (λ ss. Adds m2 m3 (body_bytes m2.is_big e (coded e es p ss ms))) (tree_shapes-found e es ms tree) h in
-    let of_tree = subst (λ l. Adds m2 m3 (body_bytes m2.is_big e (coded e es p (tree_shapes e es) l))) tree found in
-    let at_places = subst (λ l. Adds m2 m3 (body_bytes m2.is_big e l)) (coded-same e es p (tree_placement e es) (tree_shapes e es) (preorder es) same) of_tree in
+    let found = subst (λ ss. Adds m2 m3 (body_bytes m2.is_big e (tree_as_read e es p ss ms))) (tree_shapes-found e es ms tree) h in
+    let of_tree = subst (λ l. Adds m2 m3 (body_bytes m2.is_big e (tree_as_read e es p (tree_shapes e es) l))) tree found in
+    let at_places = subst (λ l. Adds m2 m3 (body_bytes m2.is_big e l)) (tree_as_read-same e es p (tree_placement e es) (tree_shapes e es) (preorder es) same) of_tree in
     subst (λ b. Adds m2 m3 (tree_bytes b e es)) order at_places
 
 -- A unit that a writer holds is not longer than its numbers tell, so no place in it was cut off.
 pub unit_small : {m0 m1 m2 m3 : Meaning} (e : Encoding) (es : List EntryValue) (p : Placement) (ms : List (Mark ℕ)) (big : Bool) (table k : ℕ) → ms ≡ preorder es →
     Adds m0 m1 (escape_of e.format ++ zeros (word_of e.format)) → Appends m1 m2 (fields_size e) (fields_text e table) →
-    Adds m2 m3 (body_bytes big e (coded e es p (shapes_of e es [] ms) ms)) → k ≡ m3.size → k < 2 ^ 64 → header_size e + tree_size e es < 2 ^ 64
+    Adds m2 m3 (body_bytes big e (tree_as_read e es p (shapes_of e es [] ms) ms)) → k ≡ m3.size → k < 2 ^ 64 → header_size e + tree_size e es < 2 ^ 64
 unit_small {m0} {m1} {m2} {m3} e es p ms big table k tree start fields body at small =
     let size = length-body_bytes big e es p (shapes_of e es [] ms) ms in
     let of_tree : sizes_of e es (shapes_of e es [] ms) ms ≡ tree_size e es = tree_size-found e es ms tree in
@@ -205,7 +205,7 @@ tree_is_unit big e place es ms shapes items links tag tree found count few encod
     let small : length (preorder es) < 2 ^ 64 = omega (arith, count, few, ap length tree) in
     let content : length (fields_bytes big e place ++ tree_bytes big e es) ≡ tree_length e es = length-content big e place (tree_bytes big e es) ∙ tree_length_is big e es in
     let some : 0 < length es = root_within es tag in
-    let one : IsTrue (is_one_tree (map children_of (tree_read e es))) = ap is_one_tree (children-coded e es (tree_placement e es) (tree_shapes e es) (preorder es)) ∙ preorder_one_tree es some in
+    let one : IsTrue (is_one_tree (map children_of (tree_read e es))) = ap is_one_tree (children-tree_as_read e es (tree_placement e es) (tree_shapes e es) (preorder es)) ∙ preorder_one_tree es some in
     IsUnit-written big e place es (tree_placement e es) (preorder es) (tree_shapes e es) (tree_shapes-found e es (preorder es) refl) low high width place_fits (ap (length_fits e.format) content ∙ long) one small
     (subst (λ t. AreDeclarations (declarations t)) (found ∙ tree_shapes-found e es ms tree) declared) operands
 

@@ -4,7 +4,7 @@ use Rattle.dw_base.specs.Entries.{Mark, Open, Close, Row, past_row}
 use Rattle.dw_base.specs.Info.{ReadUnit, read_info}
 use Rattle.dw_base.specs.Spelling.{header_size, unit_type_of}
 use Rattle.dw_unit.specs.UnitValue.{UnitValue}
-use Rattle.dw_unit.specs.Coded.{coded}
+use Rattle.dw_unit.specs.Coded.{tree_as_read}
 use Rattle.dw_unit.specs.Shapes.{Placement}
 use Rattle.dw_entries.specs.Tree.{preorder}
 use Rattle.dw_unit.specs.Whole.{tree_shapes, tree_declared, tree_size, tree_table}
@@ -35,7 +35,7 @@ placement_read ms rows = record { place = place_read ms rows; past = past_read m
 pub record IsBuilt (u : UnitValue) (r : ReadUnit) : Type 0 where
   pub encoding : r.header.encoding ≡ u.encoding
   pub unit_type : r.header.unit_type ≡ unit_type_of u.encoding.version
-  pub entries : map (λ row. row.mark) r.rows ≡ coded u.encoding u.entries (placement_read (preorder u.entries) r.rows) (tree_shapes u.encoding u.entries) (preorder u.entries)
+  pub entries : map (λ row. row.mark) r.rows ≡ tree_as_read u.encoding u.entries (placement_read (preorder u.entries) r.rows) (tree_shapes u.encoding u.entries) (preorder u.entries)
   pub declarations : r.table ≡ tree_declared u.encoding u.entries
 
 -- as many units, each as it was built

@@ -11,7 +11,7 @@ use Rattle.dw_writer.specs.Sections.{SomeHasRisen}
 use Rattle.dw_writer.specs.declared.sections.Sections.{Sections}
 use Rattle.dw_entries.specs.Entries.{EntryValue}
 use Rattle.dw_entries.specs.Tree.{preorder}
-use Rattle.dw_unit.specs.Coded.{are_spelled}
+use Rattle.dw_unit.specs.Coded.{are_writable}
 use Rattle.dw_unit.specs.UnitValue.{UnitValue}
 use Rattle.dw_unit.specs.Valid.{is_version, are_references_inside, tree_length}
 use Rattle.dw_unit.specs.Whole.{settled}
@@ -31,15 +31,15 @@ FieldsRefused old new e table _ = ⊥
 
 -- values are refused as bytes are, where one has no spelling, and where one names an entry that has no place
 abbrev pub BodyRefused : Meaning → Meaning → Bool → Bool → Error → Type 0
-BodyRefused old new is_spelled is_placed NoMemory = Unit {0}
-BodyRefused old new is_spelled is_placed WriteFault = HasRisen old new
-BodyRefused old new is_spelled is_placed InvalidAttributeValue = IsFalse is_spelled
-BodyRefused old new is_spelled is_placed InvalidReference = IsFalse is_placed
-BodyRefused old new is_spelled is_placed _ = ⊥
+BodyRefused old new is_writable is_placed NoMemory = Unit {0}
+BodyRefused old new is_writable is_placed WriteFault = HasRisen old new
+BodyRefused old new is_writable is_placed InvalidAttributeValue = IsFalse is_writable
+BodyRefused old new is_writable is_placed InvalidReference = IsFalse is_placed
+BodyRefused old new is_writable is_placed _ = ⊥
 
 -- a string of a tree has a zero byte, a reference names an entry outside it, or its length has no spelling
 abbrev pub TreeUnspelled : Encoding → List EntryValue → Error → Type 0
-TreeUnspelled e es InvalidAttributeValue = IsFalse (are_spelled es (preorder es))
+TreeUnspelled e es InvalidAttributeValue = IsFalse (are_writable es (preorder es))
 TreeUnspelled e es InvalidReference = IsFalse (are_references_inside es)
 TreeUnspelled e es InitialLengthOverflow = (e.format ≡ Dwarf32) × IsFalse (length_fits Dwarf32 (tree_length e es))
 TreeUnspelled e es _ = ⊥

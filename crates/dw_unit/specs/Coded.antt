@@ -8,7 +8,7 @@ use Rattle.dw_base.specs.declared.common.Encoding.{Encoding}
 use Rattle.dw_abbrev.specs.Codes.{code_in, with_shape}
 use Rattle.dw_entries.specs.declared.attribute.Attribute.{Attribute}
 use Rattle.dw_entries.specs.Entries.{EntryValue, entry_at}
-use Rattle.dw_entries.specs.Values.{is_spelled, names_entry}
+use Rattle.dw_entries.specs.Values.{is_writable, refers_inside}
 use Rattle.dw_unit.specs.Shapes.{Placement, read_attribute, read_attributes, read_entry, shape_of_entry}
 
 -- the shapes with that of a mark's entry, if it isn't there
@@ -35,27 +35,27 @@ abbrev pub coded_mark : Encoding → List EntryValue → Placement → List Shap
 coded_mark e es p shapes m = read_mark e es p (code_at e es shapes m) m
 
 -- the marks with what is read of each, where the shapes give the codes
-abbrev pub coded : Encoding → List EntryValue → Placement → List Shape → List (Mark ℕ) → List (Mark ReadEntry)
-coded e es p shapes ms = map (coded_mark e es p shapes) ms
+abbrev pub tree_as_read : Encoding → List EntryValue → Placement → List Shape → List (Mark ℕ) → List (Mark ReadEntry)
+tree_as_read e es p shapes ms = map (coded_mark e es p shapes) ms
 
 -- the values of attributes have a spelling
-abbrev pub are_values_spelled : List Attribute → Bool
-are_values_spelled xs = list_all (λ a. is_spelled a.value) xs
+abbrev pub are_values_writable : List Attribute → Bool
+are_values_writable xs = list_all (λ a. is_writable a.value) xs
 
-abbrev pub is_mark_spelled : List EntryValue → Mark ℕ → Bool
-is_mark_spelled es (Open i) = are_values_spelled (entry_at es i).attributes
-is_mark_spelled es Close = true
+abbrev pub is_mark_writable : List EntryValue → Mark ℕ → Bool
+is_mark_writable es (Open i) = are_values_writable (entry_at es i).attributes
+is_mark_writable es Close = true
 
 -- each value of each entry has a spelling
-abbrev pub are_spelled : List EntryValue → List (Mark ℕ) → Bool
-are_spelled es ms = list_all (is_mark_spelled es) ms
+abbrev pub are_writable : List EntryValue → List (Mark ℕ) → Bool
+are_writable es ms = list_all (is_mark_writable es) ms
 
 -- the entries that values name are there
-abbrev pub name_entries : (ℕ → Bool) → List Attribute → Bool
-name_entries has_place xs = list_all (λ a. names_entry has_place a.value) xs
+abbrev pub refer_inside : (ℕ → Bool) → List Attribute → Bool
+refer_inside has_place xs = list_all (λ a. refers_inside has_place a.value) xs
 
 abbrev pub is_mark_placed : (ℕ → Bool) → List EntryValue → Mark ℕ → Bool
-is_mark_placed has_place es (Open i) = name_entries has_place (entry_at es i).attributes
+is_mark_placed has_place es (Open i) = refer_inside has_place (entry_at es i).attributes
 is_mark_placed has_place es Close = true
 
 -- each entry that a value of an entry names is there

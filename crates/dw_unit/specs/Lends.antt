@@ -8,25 +8,12 @@ use Rattle.dw_entries.specs.declared.attribute_walk.AttributeWalk.{AttributeWalk
 use Rattle.dw_unit.specs.declared.entry_mut.EntryMut.{EntryMut}
 use Rattle.dw_entries.specs.contracts.value.AttributeValue as value
 use Rattle.dw_entries.specs.contracts.attribute_walk.AttributeWalk as walk
-use Rattle.dw_unit.specs.contracts.unit.Unit as unit
 use Rattle.dw_unit.specs.contracts.entry_mut.EntryMut as handle
 use Rattle.dw_entries.specs.Entries.{EntryValue, with_changed, with_attribute, with_attributes}
-use Rattle.dw_unit.specs.UnitValue.{UnitValue}
+use Rattle.dw_unit.specs.UnitValue.{with_entry}
 use Rattle.dw_entries.proofs.Changed.{length-with_changed}
 use denote.MutBor.{at_last}
 use mir.Syntax.{named}
-
--- a unit with one entry changed
-abbrev pub with_entry : UnitValue → ℕ → (EntryValue → EntryValue) → UnitValue
-with_entry u i f = record u { entries = with_changed i f u.entries }
-
--- the unit ends with the walk's attributes in one entry
-abbrev pub LendsWalkAt : MutBor UnitValue → ℕ → MutBor AttributeWalk → Fml
-LendsWalkAt u i r = Lends unit.the_row walk.the_row u r (λ w. with_entry u.now i (with_attributes w.attributes))
-
--- the unit ends as after a `set` of the last value, and at `None` it stays
-abbrev pub LendsNamedAt : MutBor UnitValue → ℕ → ℕ → Option (MutBor AttributeValue) → Fml
-LendsNamedAt u i n r = LendsSo unit.the_row value.the_row u r (λ new w. (length new.entries ≡ length u.now.entries) × OnSome r (new ≡ with_entry u.now i (with_attribute n w))) (λ new. new ≡ u.now)
 
 -- the handle still borrows the same unit, at the same entry
 pub record IsSameHandle (old new : EntryMut) : Type 0 where

@@ -3,6 +3,7 @@ use Rattle.std.specs.Prelude.{ℕ, List, [], ◌∷◌, ◌++◌, map, None, if�
 use Rattle.dw_base.specs.Abbreviations.{Specification, Shape}
 use Rattle.dw_base.specs.Forms.{Number}
 use Rattle.dw_base.specs.Entries.{ReadAttribute, ReadEntry}
+use Rattle.dw_base.specs.declared.constants.TheConstants.{DW_AT_sibling}
 use Rattle.dw_base.specs.declared.common.Encoding.{Encoding}
 use Rattle.dw_entries.specs.declared.attribute.Attribute.{Attribute}
 use Rattle.dw_entries.specs.Entries.{EntryValue, has_any, has_sibling}
@@ -20,7 +21,7 @@ specification e a = record { name = a.name.0; form = form_of e a.value; constant
 
 -- the name DW_AT_sibling (DWARF 5, table 7.5)
 abbrev pub sibling_name : ℕ
-sibling_name = 0x01
+sibling_name = DW_AT_sibling.0
 
 -- and of the place past the entry
 abbrev pub sibling_specification : Encoding → Specification
@@ -30,9 +31,13 @@ sibling_specification e = record { name = sibling_name; form = reference_form e.
 abbrev pub before_attributes : {A : Type 0} → EntryValue → A → List A
 before_attributes x sibling = if has_sibling x then sibling ∷ [] else []
 
+-- and of all attributes of an entry
+abbrev pub specifications : Encoding → EntryValue → List Specification
+specifications e x = before_attributes x (sibling_specification e) ++ map (specification e) x.attributes
+
 -- what an entry's declaration says of it, whatever its code is
 abbrev pub shape_of_entry : Encoding → EntryValue → Shape
-shape_of_entry e x = record { tag = x.tag; has_children = has_any x.children; attributes = before_attributes x (sibling_specification e) ++ map (specification e) x.attributes }
+shape_of_entry e x = record { tag = x.tag; has_children = has_any x.children; attributes = specifications e x }
 
 -- an attribute, as it is read
 abbrev pub read_attribute : Encoding → Placement → Attribute → ReadAttribute

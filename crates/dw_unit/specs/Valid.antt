@@ -4,7 +4,7 @@ use Rattle.dw_base.specs.Numbers.{is_width, length_fits}
 use Rattle.dw_base.specs.declared.common.Encoding.{Encoding}
 use Rattle.dw_entries.specs.Entries.{EntryValue}
 use Rattle.dw_entries.specs.Tree.{preorder, has_entry}
-use Rattle.dw_unit.specs.Coded.{are_spelled, are_placed}
+use Rattle.dw_unit.specs.Coded.{are_writable, are_placed}
 use Rattle.dw_unit.specs.UnitText.{unit_length}
 use Rattle.dw_unit.specs.Whole.{tree_size, settled}
 use Rattle.dw_unit.specs.UnitValue.{UnitValue}
@@ -28,7 +28,7 @@ tree_length e es = unit_length e (tree_size e es)
 -- the header, each value and the length of a tree have a spelling, and what references name is in the tree
 pub record IsWritableTree (e : Encoding) (es : List EntryValue) : Type 0 where
   pub encodable : IsTrue (is_encodable e)
-  pub spelled : IsTrue (are_spelled es (preorder es))
+  pub spelled : IsTrue (are_writable es (preorder es))
   pub inside : IsTrue (are_references_inside es)
   pub fits : IsTrue (length_fits e.format (tree_length e es))
 

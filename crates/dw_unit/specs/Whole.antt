@@ -7,7 +7,7 @@ use Rattle.dw_base.specs.declared.common.Encoding.{Encoding}
 use Rattle.dw_abbrev.specs.Codes.{declarations}
 use Rattle.dw_entries.specs.Entries.{EntryValue}
 use Rattle.dw_entries.specs.Tree.{preorder}
-use Rattle.dw_unit.specs.Coded.{coded}
+use Rattle.dw_unit.specs.Coded.{tree_as_read}
 use Rattle.dw_unit.specs.DistinctShapes.{entry_shapes, distinct_shapes}
 use Rattle.dw_unit.specs.Laid.{sizes_of, laid_from}
 use Rattle.dw_unit.specs.Shapes.{Placement}
@@ -28,7 +28,7 @@ tree_placement e es = laid_from e es (tree_shapes e es) (header_size e) (preorde
 
 -- what is read of the tree
 abbrev pub tree_read : Encoding → List EntryValue → List (Mark ReadEntry)
-tree_read e es = coded e es (tree_placement e es) (tree_shapes e es) (preorder es)
+tree_read e es = tree_as_read e es (tree_placement e es) (tree_shapes e es) (preorder es)
 
 -- what is declared for it
 abbrev pub tree_declared : Encoding → List EntryValue → List Declaration

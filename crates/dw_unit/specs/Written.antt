@@ -18,6 +18,10 @@ pub record AppendsTree {W : Type 0} (meaning : W → Meaning) (old new : Section
   pub table : Adds (meaning old.debug_abbrev.0) (meaning new.debug_abbrev.0) (tree_table e es)
   pub spelled : (meaning old.debug_info.0).is_plain ≡ true → IsUnit (meaning old.debug_info.0).is_big e (meaning old.debug_abbrev.0).size (tree_declared e es) (tree_read e es)
 
+-- all but the two sections that units are written into stay
+abbrev pub KeepsOtherSections : {W : Type 0} → Sections W → Sections W → Type 0
+KeepsOtherSections old new = new ≡ record old { debug_abbrev = new.debug_abbrev; debug_info = new.debug_info }
+
 -- the two sections that units are written into are as before
 abbrev pub AddsNothing : {W : Type 0} → Sections W → Sections W → Type 0
 AddsNothing old new = (new.debug_info.0 ≡ old.debug_info.0) × (new.debug_abbrev.0 ≡ old.debug_abbrev.0)

@@ -9,7 +9,7 @@ ghost use Rattle.dw_base.specs.Spellable.{IsAttribute};
 ghost use Rattle.dw_writer.specs.Meaning.{IsSameWriter, Adds};
 ghost use Rattle.dw_unit.specs.Shapes.{read_attribute, read_attributes, read_sibling, before_attributes, read_entry};
 ghost use Rattle.dw_entries.specs.Tree.{IsIn, AreIn, mark_of, marks};
-ghost use Rattle.dw_unit.specs.Coded.{shapes_of, code_at, read_mark, coded, are_values_spelled, is_mark_spelled, are_spelled, name_entries, is_mark_placed, are_placed, AreOperands, HasOperands, HaveOperands};
+ghost use Rattle.dw_unit.specs.Coded.{shapes_of, code_at, read_mark, tree_as_read, are_values_writable, is_mark_writable, are_writable, refer_inside, is_mark_placed, are_placed, AreOperands, HasOperands, HaveOperands};
 ghost use Rattle.dw_unit.specs.Places.{placement_of, has_place, FitsWords};
 ghost use Rattle.dw_unit.specs.Causes.{BodyRefused};
 
@@ -29,12 +29,15 @@ fn write_attributes<W: Writer>(
     requires { FitsWords encoding.format (placement_of places.now) }
     ensures ok { OnOk result
         (Adds (W.meaning w.old) (W.meaning w.new)
-        (flat_map (attribute_bytes (W.meaning w.old).is_big encoding) (map (read_attribute encoding (placement_of places.now)) attributes.now))) }
+        (flat_map (attribute_bytes (W.meaning w.old).is_big encoding)
+        (map (read_attribute encoding (placement_of places.now)) attributes.now))) }
     ensures fits { OnOk result (AreOperands encoding (placement_of places.now) attributes.now) }
-    ensures spelled { OnOk result (IsTrue (are_values_spelled attributes.now)) }
-    ensures placed { OnOk result (IsTrue (name_entries (has_place (placement_of places.now)) attributes.now)) }
+    ensures spelled { OnOk result (IsTrue (are_values_writable attributes.now)) }
+    ensures placed { OnOk result
+        (IsTrue (refer_inside (has_place (placement_of places.now)) attributes.now)) }
     ensures err { IfErr result
-        (BodyRefused (W.meaning w.old) (W.meaning w.new) (are_values_spelled attributes.now) (name_entries (has_place (placement_of places.now)) attributes.now)) }
+        (BodyRefused (W.meaning w.old) (W.meaning w.new) (are_values_writable attributes.now)
+        (refer_inside (has_place (placement_of places.now)) attributes.now)) }
     ensures same { IsSameWriter (W.meaning w.old) (W.meaning w.new) }
 {
     for attribute in attributes {
@@ -53,8 +56,10 @@ fn write_sibling<W: Writer>(
     requires { IsTrue (fits (word_of encoding.format) past) }
     ensures ok { OnOk result
         (Adds (W.meaning w.old) (W.meaning w.new)
-        (flat_map (attribute_bytes (W.meaning w.old).is_big encoding) (before_attributes entry.now (read_sibling encoding past)))) }
-    ensures fits { OnOk result (All (IsAttribute encoding) (before_attributes entry.now (read_sibling encoding past))) }
+        (flat_map (attribute_bytes (W.meaning w.old).is_big encoding)
+        (before_attributes entry.now (read_sibling encoding past)))) }
+    ensures fits { OnOk result
+        (All (IsAttribute encoding) (before_attributes entry.now (read_sibling encoding past))) }
     ensures err { IfErr result (BodyRefused (W.meaning w.old) (W.meaning w.new) true true) }
     ensures same { IsSameWriter (W.meaning w.old) (W.meaning w.new) }
 {
@@ -76,12 +81,17 @@ fn write_entry<W: Writer>(
     requires { FitsWords encoding.format (placement_of places.now) }
     ensures ok { OnOk result
         (Adds (W.meaning w.old) (W.meaning w.new)
-        (mark_bytes (W.meaning w.old).is_big encoding (Open (read_entry encoding (placement_of places.now) code index entry.now)))) }
-    ensures fits { OnOk result (All (IsAttribute encoding) (read_attributes encoding (placement_of places.now) index entry.now)) }
-    ensures spelled { OnOk result (IsTrue (are_values_spelled entry.now.attributes)) }
-    ensures placed { OnOk result (IsTrue (name_entries (has_place (placement_of places.now)) entry.now.attributes)) }
+        (mark_bytes (W.meaning w.old).is_big encoding
+        (Open (read_entry encoding (placement_of places.now) code index entry.now)))) }
+    ensures fits { OnOk result
+        (All (IsAttribute encoding)
+        (read_attributes encoding (placement_of places.now) index entry.now)) }
+    ensures spelled { OnOk result (IsTrue (are_values_writable entry.now.attributes)) }
+    ensures placed { OnOk result
+        (IsTrue (refer_inside (has_place (placement_of places.now)) entry.now.attributes)) }
     ensures err { IfErr result
-        (BodyRefused (W.meaning w.old) (W.meaning w.new) (are_values_spelled entry.now.attributes) (name_entries (has_place (placement_of places.now)) entry.now.attributes)) }
+        (BodyRefused (W.meaning w.old) (W.meaning w.new) (are_values_writable entry.now.attributes)
+        (refer_inside (has_place (placement_of places.now)) entry.now.attributes)) }
     ensures same { IsSameWriter (W.meaning w.old) (W.meaning w.new) }
 {
     w.write_uleb128(code)?;
@@ -102,12 +112,17 @@ fn write_item<W: Writer>(
     requires fit { FitsWords encoding.format (placement_of places.now) }
     ensures ok { OnOk result
         (Adds (W.meaning w.old) (W.meaning w.new)
-        (mark_bytes (W.meaning w.old).is_big encoding (read_mark encoding entries.now (placement_of places.now) code (mark_of item)))) }
-    ensures fits { OnOk result (HasOperands encoding entries.now (placement_of places.now) (mark_of item)) }
-    ensures spelled { OnOk result (IsTrue (is_mark_spelled entries.now (mark_of item))) }
-    ensures placed { OnOk result (IsTrue (is_mark_placed (has_place (placement_of places.now)) entries.now (mark_of item))) }
+        (mark_bytes (W.meaning w.old).is_big encoding
+        (read_mark encoding entries.now (placement_of places.now) code (mark_of item)))) }
+    ensures fits { OnOk result
+        (HasOperands encoding entries.now (placement_of places.now) (mark_of item)) }
+    ensures spelled { OnOk result (IsTrue (is_mark_writable entries.now (mark_of item))) }
+    ensures placed { OnOk result
+        (IsTrue (is_mark_placed (has_place (placement_of places.now)) entries.now (mark_of item))) }
     ensures err { IfErr result
-        (BodyRefused (W.meaning w.old) (W.meaning w.new) (is_mark_spelled entries.now (mark_of item)) (is_mark_placed (has_place (placement_of places.now)) entries.now (mark_of item))) }
+        (BodyRefused (W.meaning w.old) (W.meaning w.new)
+        (is_mark_writable entries.now (mark_of item))
+        (is_mark_placed (has_place (placement_of places.now)) entries.now (mark_of item))) }
     ensures same { IsSameWriter (W.meaning w.old) (W.meaning w.new) }
 {
     match item {
@@ -127,15 +142,23 @@ pub(crate) fn write_items<W: Writer>(
 ) -> Result<()>
     requires within { AreIn (length entries.now) (marks items.now) }
     requires fit { FitsWords encoding.format (placement_of places.now) }
-    requires codes { codes.now ≡ map (code_at encoding entries.now (shapes_of encoding entries.now [] (marks items.now))) (marks items.now) }
+    requires codes { codes.now
+        ≡ map (code_at encoding entries.now (shapes_of encoding entries.now [] (marks items.now)))
+        (marks items.now) }
     ensures ok { OnOk result
         (Adds (W.meaning w.old) (W.meaning w.new)
-        (body_bytes (W.meaning w.old).is_big encoding (coded encoding entries.now (placement_of places.now) (shapes_of encoding entries.now [] (marks items.now)) (marks items.now)))) }
-    ensures fits { OnOk result (HaveOperands encoding entries.now (placement_of places.now) (marks items.now)) }
-    ensures spelled { OnOk result (IsTrue (are_spelled entries.now (marks items.now))) }
-    ensures placed { OnOk result (IsTrue (are_placed (has_place (placement_of places.now)) entries.now (marks items.now))) }
+        (body_bytes (W.meaning w.old).is_big encoding
+        (tree_as_read encoding entries.now (placement_of places.now)
+        (shapes_of encoding entries.now [] (marks items.now)) (marks items.now)))) }
+    ensures fits { OnOk result
+        (HaveOperands encoding entries.now (placement_of places.now) (marks items.now)) }
+    ensures spelled { OnOk result (IsTrue (are_writable entries.now (marks items.now))) }
+    ensures placed { OnOk result
+        (IsTrue (are_placed (has_place (placement_of places.now)) entries.now (marks items.now))) }
     ensures err { IfErr result
-        (BodyRefused (W.meaning w.old) (W.meaning w.new) (are_spelled entries.now (marks items.now)) (are_placed (has_place (placement_of places.now)) entries.now (marks items.now))) }
+        (BodyRefused (W.meaning w.old) (W.meaning w.new)
+        (are_writable entries.now (marks items.now))
+        (are_placed (has_place (placement_of places.now)) entries.now (marks items.now))) }
     ensures same { IsSameWriter (W.meaning w.old) (W.meaning w.new) }
 {
     for (k, item) in items.iter().enumerate() {

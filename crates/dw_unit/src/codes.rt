@@ -6,10 +6,11 @@ ghost use Rattle.dw_entries.specs.Tree.{IsIn, AreIn, mark_of, marks, IsTagged, A
 ghost use Rattle.dw_unit.specs.Coded.{with_mark, shapes_of, code_at};
 
 use crate::shape::abbreviation_of;
-use dw_abbrev::AbbreviationTable;
+use dw_abbrev::{AbbreviationTable, AttributeSpecification};
 use dw_base::{Encoding, Result};
 use dw_entries::{DebuggingInformationEntry, Item};
 use std::alloc::Global;
+use std::mem;
 
 /// The abbreviations of a unit's entries, and the code of each item.
 #[derive(Drop)]
@@ -18,13 +19,15 @@ pub(crate) struct Codes {
     pub(crate) codes: Vec<u64>,
 }
 
-/// The code of one item, whose abbreviation is added if none equals it.
+/// The code of one item, whose abbreviation is added if none equals it. The list is used again for
+/// each.
 fn code_for(
     alloc: Global,
     encoding: Encoding,
     entries: &[DebuggingInformationEntry],
     item: Item,
     table: &mut AbbreviationTable,
+    used: &mut Vec<AttributeSpecification>,
 ) -> Result<u64>
     requires within { IsIn (length entries.now) (mark_of item) }
     requires tagged { IsTagged entries.now (mark_of item) }
@@ -35,8 +38,11 @@ fn code_for(
 {
     match item {
         Item::Open(index) => {
-            let abbreviation = abbreviation_of(alloc, encoding, &entries[index])?;
-            table.add(abbreviation)
+            let list = mem::replace(used, Vec::new(alloc));
+            let abbreviation = abbreviation_of(encoding, &entries[index], list)?;
+            let code = table.add_copy(&abbreviation)?;
+            *used = abbreviation.into_attributes();
+            Ok(code)
         }
         Item::Close => Ok(0),
     }
@@ -51,15 +57,19 @@ pub(crate) fn assign_codes(
 ) -> Result<Codes>
     requires within { AreIn (length entries.now) (marks items.now) }
     requires tagged { AreTagged entries.now (marks items.now) }
-    ensures table { IfOk result (λ c. c.table ≡ shapes_of encoding entries.now [] (marks items.now)) }
+    ensures table { IfOk result
+        (λ c. c.table ≡ shapes_of encoding entries.now [] (marks items.now)) }
     ensures codes { IfOk result
-        (λ c. c.codes.items ≡ map (code_at encoding entries.now (shapes_of encoding entries.now [] (marks items.now))) (marks items.now)) }
+        (λ c. c.codes.items ≡ map
+        (code_at encoding entries.now (shapes_of encoding entries.now [] (marks items.now)))
+        (marks items.now)) }
     ensures err { IfErr result (λ e. e ≡ NoMemory) }
 {
     let mut table = AbbreviationTable::new(alloc);
     let mut codes = Vec::with_capacity(alloc, items.len())?;
+    let mut used = Vec::new(alloc);
     for item in items {
-        let code = code_for(alloc, encoding, entries, *item, &mut table)?;
+        let code = code_for(alloc, encoding, entries, *item, &mut table, &mut used)?;
         codes.push(code)?;
     }
     Ok(Codes { table, codes })

@@ -12,10 +12,10 @@ ghost use Rattle.dw_unit.specs.Valid.{is_encodable, are_references_inside, tree_
 ghost use Rattle.dw_unit.specs.UnitText.{unit_text};
 ghost use Rattle.dw_unit.specs.Causes.{TreeRefused};
 ghost use Rattle.dw_entries.specs.Tree.{AreIn, marks, preorder, has_entry};
-ghost use Rattle.dw_unit.specs.Coded.{code_at, are_spelled, HaveOperands};
+ghost use Rattle.dw_unit.specs.Coded.{code_at, are_writable, HaveOperands};
 ghost use Rattle.dw_unit.specs.Whole.{tree_shapes, tree_size, tree_placement, tree_bytes};
 ghost use Rattle.dw_unit.specs.Places.{placement_of, has_place, FitsWords, IsSamePlacement};
-ghost use Rattle.dw_unit.specs.Written.{AppendsTree};
+ghost use Rattle.dw_unit.specs.Written.{AppendsTree, KeepsOtherSections};
 
 use crate::body::write_items;
 use crate::codes::assign_codes;
@@ -40,22 +40,29 @@ fn write_compile_unit<W: Writer>(
     requires within { AreIn (length entries.now) (marks items.now) }
     requires tree { marks items.now ≡ preorder entries.now }
     requires fit { FitsWords encoding.format (placement_of places.now) }
-    requires inside { (i : ℕ) → has_place (placement_of places.now) i ≡ has_entry (preorder entries.now) i }
+    requires inside { (i : ℕ) → has_place (placement_of places.now) i
+        ≡ has_entry (preorder entries.now) i }
     // No place was cut off where the unit can be written.
-    requires places { header_size encoding + tree_size encoding entries.now < 2 ^ 64 → IsSamePlacement (placement_of places.now) (tree_placement encoding entries.now) }
-    requires codes { codes.now ≡ map (code_at encoding entries.now (tree_shapes encoding entries.now)) (marks items.now) }
+    requires places { header_size encoding + tree_size encoding entries.now < 2 ^ 64
+        → IsSamePlacement (placement_of places.now) (tree_placement encoding entries.now) }
+    requires codes { codes.now
+        ≡ map (code_at encoding entries.now (tree_shapes encoding entries.now)) (marks items.now) }
     ensures ok { OnOk result
-        (Appends (W.meaning w.old) (W.meaning w.new) (header_size encoding + length (tree_bytes (W.meaning w.old).is_big encoding entries.now))
+        (Appends (W.meaning w.old) (W.meaning w.new)
+        (header_size encoding + length (tree_bytes (W.meaning w.old).is_big encoding entries.now))
         (unit_text encoding table (tree_bytes (W.meaning w.old).is_big encoding entries.now))) }
     ensures place { OnOk result
         (IsTrue (offset_fits (W.meaning w.old).is_plain (word_of encoding.format) table)) }
     ensures fits { OnOk result
         (IsTrue (length_fits encoding.format (tree_length encoding entries.now))) }
-    ensures operands { OnOk result (HaveOperands encoding entries.now (tree_placement encoding entries.now) (preorder entries.now)) }
-    ensures spelled { OnOk result (IsTrue (are_spelled entries.now (preorder entries.now))) }
+    ensures operands { OnOk result
+        (HaveOperands encoding entries.now (tree_placement encoding entries.now)
+        (preorder entries.now)) }
+    ensures spelled { OnOk result (IsTrue (are_writable entries.now (preorder entries.now))) }
     ensures references { OnOk result (IsTrue (are_references_inside entries.now)) }
     ensures err { IfErr result
-        (TreeRefused (HasRisen (W.meaning w.old) (W.meaning w.new)) (W.meaning w.old).is_plain table encoding entries.now) }
+        (TreeRefused (HasRisen (W.meaning w.old) (W.meaning w.new)) (W.meaning w.old).is_plain table
+        encoding entries.now) }
     ensures same { IsSameWriter (W.meaning w.old) (W.meaning w.new) }
 {
     let place = w.write_initial_length(encoding.format)?;
@@ -77,11 +84,14 @@ pub(crate) fn write_tree<W: Writer>(
     requires encodable { IsTrue (is_encodable encoding) }
     requires linked { AreLinked entries.now }
     requires rooted { (entry_at entries.now 0).tag ≢ 0 }
-    ensures unit { OnOk result (AppendsTree W.meaning sections.old sections.new encoding entries.now) }
+    ensures unit { OnOk result
+        (AppendsTree W.meaning sections.old sections.new encoding entries.now) }
     ensures writable { OnOk result (IsWritableTree encoding entries.now) }
     ensures err { IfErr result
-        (TreeRefused (SomeHasRisen W.meaning sections.old sections.new) (W.meaning sections.old.debug_info.0).is_plain (W.meaning sections.old.debug_abbrev.0).size encoding entries.now) }
-    ensures others { sections.new ≡ record sections.old { debug_abbrev = sections.new.debug_abbrev; debug_info = sections.new.debug_info } }
+        (TreeRefused (SomeHasRisen W.meaning sections.old sections.new)
+        (W.meaning sections.old.debug_info.0).is_plain (W.meaning sections.old.debug_abbrev.0).size
+        encoding entries.now) }
+    ensures others { KeepsOtherSections sections.old sections.new }
     ensures faults { fault_sum W.meaning sections.old ≤ fault_sum W.meaning sections.new }
 {
     let tree = flatten(alloc, entries)?;

@@ -1,8 +1,9 @@
 //! An entry that is being changed, by a handle that borrows its whole unit.
 
-ghost use Rattle.std.specs.Prelude.{◌≡◌, ◌≢◌, ◌<◌, ℕ, length, Some, None, slice_get, OnOk, OnErr, IfErr};
+ghost use Rattle.std.specs.Prelude.{◌≡◌, ◌≢◌, ◌<◌, length, Some, None, slice_get, OnOk, OnErr, IfErr};
 ghost use Rattle.dw_base.specs.declared.error.Error.TheVariants.{NoMemory};
-ghost use Rattle.dw_entries.specs.Entries.{with_changed, with_sibling, with_attribute, without_attribute, without_child, value_of};
+ghost use Rattle.dw_entries.specs.Entries.{with_sibling, with_attribute, without_attribute, without_child};
+ghost use Rattle.dw_unit.specs.UnitValue.{with_entry, value_in, KeepsOtherValues};
 
 use crate::unit::Unit;
 use dw_base::constants::DW_AT_sibling;
@@ -40,7 +41,8 @@ impl<'a> EntryMut<'a> {
     pub fn set_sibling(&mut self, sibling: bool)
         ensures same_unit { self.new.unit.ghost_name ≡ self.old.unit.ghost_name }
         ensures index { self.new.index ≡ self.old.index }
-        ensures unit { self.new.unit.now ≡ record self.old.unit.now { entries = with_changed self.old.index (with_sibling sibling) self.old.unit.now.entries } }
+        ensures unit { self.new.unit.now
+            ≡ with_entry self.old.unit.now self.old.index (with_sibling sibling) }
         ensures count { length self.new.unit.now.entries ≡ length self.old.unit.now.entries }
     {
         let index = self.index;
@@ -56,14 +58,17 @@ impl<'a> EntryMut<'a> {
         ensures same_unit { self.new.unit.ghost_name ≡ self.old.unit.ghost_name }
         ensures index { self.new.index ≡ self.old.index }
 
-        ensures ok { OnOk result (self.new.unit.now ≡ record self.old.unit.now { entries = with_changed self.old.index (with_attribute name.0 value) self.old.unit.now.entries }) }
+        ensures ok { OnOk result
+            (self.new.unit.now ≡ with_entry self.old.unit.now self.old.index
+            (with_attribute name.0 value)) }
         ensures count { length self.new.unit.now.entries ≡ length self.old.unit.now.entries }
-        ensures stored { OnOk result (value_of self.new.unit.now.entries self.old.index name.0 ≡ Some value) }
-        ensures others { (n : ℕ) → n ≢ name.0 → value_of self.new.unit.now.entries self.old.index n ≡ value_of self.old.unit.now.entries self.old.index n }
+        ensures stored { OnOk result
+            (value_in self.new.unit.now self.old.index name.0 ≡ Some value) }
+        ensures others { KeepsOtherValues self.old.unit.now self.new.unit.now self.old.index name.0 }
 
         ensures err { IfErr result (λ e. e ≡ NoMemory) }
         ensures kept { OnErr result (self.new.unit.now ≡ self.old.unit.now) }
-        ensures in_place { OnErr result (value_of self.old.unit.now.entries self.old.index name.0 ≡ None) }
+        ensures in_place { OnErr result (value_in self.old.unit.now self.old.index name.0 ≡ None) }
     {
         let index = self.index;
         let unit = &mut *self.unit;
@@ -74,22 +79,24 @@ impl<'a> EntryMut<'a> {
     pub fn delete(&mut self, name: DwAt)
         ensures same_unit { self.new.unit.ghost_name ≡ self.old.unit.ghost_name }
         ensures index { self.new.index ≡ self.old.index }
-        ensures unit { self.new.unit.now ≡ record self.old.unit.now { entries = with_changed self.old.index (without_attribute name.0) self.old.unit.now.entries } }
+        ensures unit { self.new.unit.now
+            ≡ with_entry self.old.unit.now self.old.index (without_attribute name.0) }
         ensures count { length self.new.unit.now.entries ≡ length self.old.unit.now.entries }
-        ensures gone { value_of self.new.unit.now.entries self.old.index name.0 ≡ None }
-        ensures others { (n : ℕ) → n ≢ name.0 → value_of self.new.unit.now.entries self.old.index n ≡ value_of self.old.unit.now.entries self.old.index n }
+        ensures gone { value_in self.new.unit.now self.old.index name.0 ≡ None }
+        ensures others { KeepsOtherValues self.old.unit.now self.new.unit.now self.old.index name.0 }
     {
         let index = self.index;
         let unit = &mut *self.unit;
         unit.entries.delete(index, name);
     }
 
-    /// Takes a child out of the entry's children, if it is there. The entry that was the child stays
-    /// in the unit, and neither it nor what is under it is written.
+    /// Takes a child out of the entry's children, if it is there. The entry that was the child
+    /// stays in the unit, and neither it nor what is under it is written.
     pub fn delete_child(&mut self, id: UnitEntryId)
         ensures same_unit { self.new.unit.ghost_name ≡ self.old.unit.ghost_name }
         ensures index { self.new.index ≡ self.old.index }
-        ensures unit { self.new.unit.now ≡ record self.old.unit.now { entries = with_changed self.old.index (without_child id.0) self.old.unit.now.entries } }
+        ensures unit { self.new.unit.now
+            ≡ with_entry self.old.unit.now self.old.index (without_child id.0) }
         ensures count { length self.new.unit.now.entries ≡ length self.old.unit.now.entries }
     {
         let index = self.index;
@@ -119,7 +126,8 @@ impl EntryMut<'_> {
     /// The value under a name, to be changed.
     pub fn get_mut(&mut self, name: DwAt) -> Option<&mut AttributeValue>
         ensures* writes_back { sem 𝓛 (LendsOut self.entry name.0 result) }
-        ensures value { option_copied_mut result ≡ value_of self.old.unit.now.entries self.old.index name.0 }
+        ensures value { option_copied_mut result
+            ≡ value_in self.old.unit.now self.old.index name.0 }
     {
         let index = self.index;
         let unit = &mut *self.unit;
@@ -129,7 +137,8 @@ impl EntryMut<'_> {
     /// A walk over the attributes, to change their values.
     pub fn attrs_mut(&mut self) -> AttrsMut<'_>
         ensures* writes_back { sem 𝓛 (LendsWalkOut self.entry result) }
-        ensures attributes { result.now.attributes ≡ (entry_at self.old.unit.now.entries self.old.index).attributes }
+        ensures attributes { result.now.attributes
+            ≡ (entry_at self.old.unit.now.entries self.old.index).attributes }
         ensures next { result.now.next ≡ 0 }
     {
         let index = self.index;

@@ -38,7 +38,8 @@ pub(crate) fn check_encoding(encoding: Encoding) -> Result<()>
 /// below version 5 there is no unit type, and the address size stands last).
 pub(crate) fn write_fields<W: Writer>(encoding: Encoding, table: usize, w: &mut W) -> Result<()>
     ensures ok { OnOk result
-        (Appends (W.meaning w.old) (W.meaning w.new) (fields_size encoding) (fields_text encoding table)) }
+        (Appends (W.meaning w.old) (W.meaning w.new) (fields_size encoding)
+        (fields_text encoding table)) }
     ensures fits { OnOk result
         (IsTrue (offset_fits (W.meaning w.old).is_plain (word_of encoding.format) table)) }
     ensures err { IfErr result (FieldsRefused (W.meaning w.old) (W.meaning w.new) encoding table) }

@@ -14,8 +14,8 @@ use dw_base::{Encoding, uleb128_size};
 use dw_entries::{Attribute, DebuggingInformationEntry, Item};
 use std::alloc::{AllocError, Global};
 
-/// The bytes of a header: the length, with its escape in the 64-bit format, the version, the place of
-/// the table and the address size; in version 5 the type of the unit, too (DWARF 5, 7.5.1.1).
+/// The bytes of a header: the length, with its escape in the 64-bit format, the version, the place
+/// of the table and the address size; in version 5 the type of the unit, too (DWARF 5, 7.5.1.1).
 fn header_size(encoding: Encoding) -> u64
     ensures { result ≡ size_of_header encoding }
 {
@@ -57,11 +57,11 @@ pub(crate) struct Layout {
 }
 
 impl Layout {
-    ghost use Rattle.dw_unit.specs.Laying.{value_of, unlaid, entered, closed_in, stepped};
+    ghost use Rattle.dw_unit.specs.Laying.{layout_value, unlaid, entered, closed_in, stepped};
 
     /// Entries of which none has a place yet.
     fn new(alloc: Global, count: usize, start: u64) -> Result<Layout, AllocError>
-        ensures { IfOk result (λ l. value_of l ≡ unlaid count start) }
+        ensures { IfOk result (λ l. layout_value l ≡ unlaid count start) }
     {
         Ok(Layout {
             places: Places {
@@ -75,9 +75,12 @@ impl Layout {
 
     /// Lays an entry out, of so many bytes.
     fn enter(&mut self, index: usize, size: u64, is_parent: bool) -> Result<(), AllocError>
-        requires room { index < length (value_of self.old).places }
-        requires past_room { index < length (value_of self.old).pasts }
-        ensures { OnOk result (value_of self.new ≡ entered index (capped ((value_of self.old).end + size)) is_parent (value_of self.old)) }
+        requires room { index < length (layout_value self.old).places }
+        requires past_room { index < length (layout_value self.old).pasts }
+        ensures { OnOk result
+            (layout_value self.new
+            ≡ entered index (capped ((layout_value self.old).end + size)) is_parent
+            (layout_value self.old)) }
     {
         self.places.places[index] = self.places.end;
         self.places.end = self.places.end.saturating_add(size);
@@ -91,8 +94,11 @@ impl Layout {
 
     /// Closes the innermost list of children, by one byte.
     fn close(&mut self)
-        requires { All (λ i. i < length (value_of self.old).pasts) (value_of self.old).parents }
-        ensures { value_of self.new ≡ closed_in (value_of self.old).parents (capped ((value_of self.old).end + 1)) (value_of self.old) }
+        requires { All (λ i. i < length (layout_value self.old).pasts)
+            (layout_value self.old).parents }
+        ensures { layout_value self.new
+            ≡ closed_in (layout_value self.old).parents (capped ((layout_value self.old).end + 1))
+            (layout_value self.old) }
     {
         self.places.end = self.places.end.saturating_add(1);
         if let Some(index) = self.parents.pop() {
@@ -109,11 +115,12 @@ impl Layout {
         code: u64,
     ) -> Result<(), AllocError>
         requires within { IsIn (length entries.now) (mark_of item) }
-        requires room { length (value_of self.old).places ≡ length entries.now }
-        requires past_room { length (value_of self.old).pasts ≡ length entries.now }
-        requires parents { All (λ i. i < length entries.now) (value_of self.old).parents }
+        requires room { length (layout_value self.old).places ≡ length entries.now }
+        requires past_room { length (layout_value self.old).pasts ≡ length entries.now }
+        requires parents { All (λ i. i < length entries.now) (layout_value self.old).parents }
         ensures { OnOk result
-            (value_of self.new ≡ stepped encoding entries.now code (mark_of item) (value_of self.old)) }
+            (layout_value self.new ≡ stepped encoding entries.now code (mark_of item)
+            (layout_value self.old)) }
     {
         match item {
             Item::Open(index) => {
@@ -139,14 +146,25 @@ pub(crate) fn lay_out(
 ) -> Result<Places, AllocError>
     requires within { AreIn (length entries.now) (marks items.now) }
     requires distinct { are_entries_distinct (marks items.now) ≡ true }
-    requires closed { closes 1 (map (children_in entries.now) (marks items.now) ++ Close ∷ []) ≡ true }
-    requires codes { codes.now ≡ map (code_at encoding entries.now (shapes_of encoding entries.now [] (marks items.now))) (marks items.now) }
+    requires closed { closes 1 (map (children_in entries.now) (marks items.now) ++ Close ∷ [])
+        ≡ true }
+    requires codes { codes.now
+        ≡ map (code_at encoding entries.now (shapes_of encoding entries.now [] (marks items.now)))
+        (marks items.now) }
     ensures places { IfOk result
-        (λ p. size_of_header encoding + sizes_of encoding entries.now (shapes_of encoding entries.now [] (marks items.now)) (marks items.now) < 2 ^ 64 →
-        IsSamePlacement (placement_of p) (laid_from encoding entries.now (shapes_of encoding entries.now [] (marks items.now)) (size_of_header encoding) (marks items.now))) }
+        (λ p. size_of_header encoding
+        + sizes_of encoding entries.now (shapes_of encoding entries.now [] (marks items.now))
+        (marks items.now) < 2 ^ 64 →
+        IsSamePlacement (placement_of p)
+        (laid_from encoding entries.now (shapes_of encoding entries.now [] (marks items.now))
+        (size_of_header encoding) (marks items.now))) }
     ensures end { IfOk result
-        (λ p. p.end ≡ capped (size_of_header encoding + sizes_of encoding entries.now (shapes_of encoding entries.now [] (marks items.now)) (marks items.now))) }
-    ensures inside { IfOk result (λ p. (i : ℕ) → has_place (placement_of p) i ≡ has_entry (marks items.now) i) }
+        (λ p. p.end ≡ capped
+        (size_of_header encoding
+        + sizes_of encoding entries.now (shapes_of encoding entries.now [] (marks items.now))
+        (marks items.now))) }
+    ensures inside { IfOk result
+        (λ p. (i : ℕ) → has_place (placement_of p) i ≡ has_entry (marks items.now) i) }
     ensures bounded { IfOk result
         (λ p. (i : ℕ) → ((placement_of p).place i ≤ p.end) × ((placement_of p).past i ≤ p.end)) }
 {

@@ -26,7 +26,8 @@ pub(crate) struct Places {
 impl Places {
     /// The place of an entry, if it stands in the tree.
     pub(crate) fn place(&self, entry: UnitEntryId) -> Option<u64>
-        ensures { result ≡ (if has_place (placement_of self.now) entry.0 then Some ((placement_of self.now).place entry.0) else None) }
+        ensures { result ≡ (if has_place (placement_of self.now) entry.0 then Some
+            ((placement_of self.now).place entry.0) else None) }
     {
         match self.places.get(entry.index()) {
             Some(place) if *place != 0 => Some(*place),
@@ -47,7 +48,9 @@ impl Places {
     /// Refuses a unit whose length the format has no spelling for.
     pub(crate) fn check_length(&self, format: Format) -> Result<()>
         ensures ok { OnOk result ((n : ℕ) → n ≤ self.now.end → IsTrue (fits (word_of format) n)) }
-        ensures err { IfErr result (λ e. (e ≡ InitialLengthOverflow) × (format ≡ Dwarf32) × IsFalse (length_fits Dwarf32 (self.now.end - length_size Dwarf32))) }
+        ensures err { IfErr result
+            (λ e. (e ≡ InitialLengthOverflow) × (format ≡ Dwarf32)
+            × IsFalse (length_fits Dwarf32 (self.now.end - length_size Dwarf32))) }
     {
         let end = self.end;
         match format {

@@ -2,7 +2,7 @@
 
 ghost use Rattle.std.specs.Prelude.{◌≡◌, ◌≢◌, ◌+◌, ◌<◌, false, length, Some, slice_get, OnOk, OnErr, IfOk, IfErr};
 ghost use Rattle.dw_base.specs.declared.error.Error.TheVariants.{NoMemory};
-ghost use Rattle.dw_entries.specs.Entries.{filled_up, with_new_child};
+ghost use Rattle.dw_entries.specs.Entries.{with_added};
 ghost use Rattle.dw_unit.specs.UnitValue.{new_unit, is_reserved, IsReserved, IsSound};
 
 use crate::compile_unit::write_tree;
@@ -31,7 +31,14 @@ impl Model for Unit {
 
     ghost Value = { UnitValue };
 
-    ghost view = { λ u. record { encoding = u.encoding; line_program = u.line_program; entries = u.entries.entries; reserved = u.entries.reserved; is_written = u.is_written; is_freed = u.is_freed } };
+    ghost view = { λ u. record {
+      encoding = u.encoding;
+      line_program = u.line_program;
+      entries = u.entries.entries;
+      reserved = u.entries.reserved;
+      is_written = u.is_written;
+      is_freed = u.is_freed;
+    } };
 
     ghost invariant = { λ u. IsKept u.entries.entries u.is_written u.is_freed };
 }
@@ -86,8 +93,8 @@ impl Unit {
         self.encoding.format
     }
 
-    /// How many entries there are. An id that is only handed out has a blank entry once another entry
-    /// was added after it.
+    /// How many entries there are. An id that is only handed out has a blank entry once another
+    /// entry was added after it.
     pub fn count(&self) -> usize
         ensures value { result ≡ length self.now.entries }
         ensures sound { IsSound self.now }
@@ -142,8 +149,8 @@ impl Unit {
         self.entries.reserve()
     }
 
-    /// Adds the entry of a reserved id behind its parent's other children. The parent's own id may be
-    /// reserved alone.
+    /// Adds the entry of a reserved id behind its parent's other children. The parent's own id may
+    /// be reserved alone.
     pub fn add_reserved(
         &mut self,
         child: UnitEntryId,
@@ -154,7 +161,9 @@ impl Unit {
         requires parent_in { parent.0 < self.old.reserved }
         requires tagged { tag.0 ≢ 0 }
         requires not_freed { self.old.is_freed ≡ false }
-        ensures ok { OnOk result (self.new ≡ record self.old { entries = with_new_child child.0 parent.0 tag.0 (filled_up self.old.reserved self.old.entries) }) }
+        ensures ok { OnOk result
+            (self.new ≡ record self.old
+            { entries = with_added self.old.reserved child.0 parent.0 tag.0 self.old.entries }) }
         ensures count { OnOk result (length self.new.entries ≡ self.old.reserved) }
         ensures err { IfErr result (λ e. e ≡ NoMemory) }
         ensures kept { OnErr result (self.new ≡ self.old) }
@@ -169,7 +178,12 @@ impl Unit {
         requires tagged { tag.0 ≢ 0 }
         requires not_freed { self.old.is_freed ≡ false }
         ensures id { IfOk result (λ id. id.0 ≡ self.old.reserved) }
-        ensures ok { OnOk result (self.new ≡ record self.old { entries = with_new_child self.old.reserved parent.0 tag.0 (filled_up (self.old.reserved + 1) self.old.entries); reserved = self.old.reserved + 1 }) }
+        ensures ok { OnOk result
+            (self.new ≡ record self.old {
+              entries = with_added (self.old.reserved + 1) self.old.reserved parent.0 tag.0
+                  self.old.entries;
+              reserved = self.old.reserved + 1;
+            }) }
         ensures count { OnOk result (length self.new.entries ≡ self.old.reserved + 1) }
         ensures err { IfErr result (λ e. e ≡ NoMemory) }
         ensures kept { OnErr result (self.new ≡ self.old) }
@@ -202,7 +216,8 @@ impl Unit {
 
     /// Moves the root's base types before its other children.
     pub(crate) fn settle(&mut self) -> Result<()>
-        ensures ok { OnOk result (self.new ≡ record self.old { entries = settled_entries self.old.entries }) }
+        ensures ok { OnOk result
+            (self.new ≡ record self.old { entries = settled_entries self.old.entries }) }
         ensures err { IfErr result (λ e. e ≡ NoMemory) }
         ensures kept { OnErr result (self.new ≡ self.old) }
     {
@@ -215,30 +230,32 @@ impl Unit {
     ghost use Rattle.dw_writer.specs.Sections.{fault_sum};
     ghost use Rattle.dw_unit.specs.Whole.{settled, marked_written};
     ghost use Rattle.dw_unit.specs.Valid.{IsWritable};
-    ghost use Rattle.dw_unit.specs.Written.{AppendsTree};
+    ghost use Rattle.dw_unit.specs.Written.{AppendsTree, KeepsOtherSections};
     ghost use Rattle.dw_unit.specs.Causes.{UnitRefused};
 
     /// Writes the unit at the end of `.debug_info` and its abbreviation table at the end of
     /// `.debug_abbrev` (DWARF 5, 7.5.1 to 7.5.3), and marks it written. The root's base types move
     /// before its other children.
     ///
-    /// Refused as `UnsupportedVersion` or `UnsupportedWordSize` where the version isn't 2 to 5 or the
-    /// address size isn't 1, 2, 4 or 8, as `InvalidAttributeValue` where a string has a zero byte, as
-    /// `InvalidReference` where a reference names an entry outside the unit's tree, as
+    /// Refused as `UnsupportedVersion` or `UnsupportedWordSize` where the version isn't 2 to 5 or
+    /// the address size isn't 1, 2, 4 or 8, as `InvalidAttributeValue` where a string has a zero
+    /// byte, as `InvalidReference` where a reference names an entry outside the unit's tree, as
     /// `InitialLengthOverflow` where a 32-bit unit has 0xffff_fff0 bytes or more after its length
-    /// (DWARF 5, 7.4), as `ValueTooLarge` where the place of its table has no room in a word, and as
-    /// `WriteFault` or `NoMemory`. A refused unit is as it was, or has its base types moved, and the
-    /// two sections may have got some of the bytes.
+    /// (DWARF 5, 7.4), as `ValueTooLarge` where the place of its table has no room in a word, and
+    /// as `WriteFault` or `NoMemory`. A refused unit is as it was, or has its base types moved, and
+    /// the two sections may have got some of the bytes.
     pub fn write<W: Writer>(&mut self, sections: &mut Sections<W>) -> Result<()>
         requires { self.old.is_written ≡ false }
-        ensures unit { OnOk result (AppendsTree W.meaning sections.old sections.new self.old.encoding (settled self.old).entries) }
+        ensures unit { OnOk result
+            (AppendsTree W.meaning sections.old sections.new self.old.encoding
+            (settled self.old).entries) }
         ensures writable { OnOk result (IsWritable self.old) }
         ensures marked { OnOk result (self.new ≡ marked_written (settled self.old)) }
 
         ensures err { IfErr result (UnitRefused W.meaning sections.old sections.new self.old) }
         ensures kept { OnErr result ((self.new ≡ self.old) ⊎ (self.new ≡ settled self.old)) }
 
-        ensures others { sections.new ≡ record sections.old { debug_abbrev = sections.new.debug_abbrev; debug_info = sections.new.debug_info } }
+        ensures others { KeepsOtherSections sections.old sections.new }
         ensures faults { fault_sum W.meaning sections.old ≤ fault_sum W.meaning sections.new }
     {
         check_encoding(self.encoding)?;

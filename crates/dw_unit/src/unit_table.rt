@@ -9,7 +9,7 @@ ghost use Rattle.dw_unit.specs.UnitValue.{UnitValue};
 ghost use Rattle.dw_unit.specs.Valid.{IsWritable};
 ghost use Rattle.dw_unit.specs.Whole.{settled, written};
 ghost use Rattle.dw_unit.specs.Causes.{UnitsRefused};
-ghost use Rattle.dw_unit.specs.Written.{AppendsUnits};
+ghost use Rattle.dw_unit.specs.Written.{AppendsUnits, KeepsOtherSections};
 
 use crate::unit::Unit;
 use dw_base::{Result, UnitId};
@@ -89,8 +89,8 @@ impl UnitTable {
     /// hold, and marks them written. After Ok the three lists of fixups are empty.
     ///
     /// The table has one unit at most so far. Refused as `Unit::write` refuses a unit that isn't
-    /// written yet. A refused unit is as it was, or has its base types moved, and the two sections may
-    /// have got some of its bytes.
+    /// written yet. A refused unit is as it was, or has its base types moved, and the two sections
+    /// may have got some of its bytes.
     pub fn write<W: Writer>(&mut self, sections: &mut Sections<W>) -> Result<()>
         requires { length self.old ≤ 1 }
         ensures units { OnOk result (AppendsUnits W.meaning sections.old sections.new self.old) }
@@ -101,7 +101,14 @@ impl UnitTable {
         ensures err { IfErr result (UnitsRefused W.meaning sections.old sections.new self.old) }
         ensures kept { OnErr result ((self.new ≡ self.old) ⊎ (self.new ≡ map settled self.old)) }
 
-        ensures others { sections.new ≡ record sections.old { debug_abbrev = sections.new.debug_abbrev; debug_info = sections.new.debug_info; debug_info_fixups = sections.new.debug_info_fixups; debug_loc_fixups = sections.new.debug_loc_fixups; debug_loclists_fixups = sections.new.debug_loclists_fixups } }
+        ensures others { sections.new
+            ≡ record sections.old {
+              debug_abbrev = sections.new.debug_abbrev;
+              debug_info = sections.new.debug_info;
+              debug_info_fixups = sections.new.debug_info_fixups;
+              debug_loc_fixups = sections.new.debug_loc_fixups;
+              debug_loclists_fixups = sections.new.debug_loclists_fixups;
+            } }
         ensures faults { fault_sum W.meaning sections.old ≤ fault_sum W.meaning sections.new }
     {
         self.write_units(sections)?;
@@ -121,7 +128,7 @@ impl UnitTable {
         ensures err { IfErr result (UnitsRefused W.meaning sections.old sections.new self.old) }
         ensures kept { OnErr result ((self.new ≡ self.old) ⊎ (self.new ≡ map settled self.old)) }
 
-        ensures others { sections.new ≡ record sections.old { debug_abbrev = sections.new.debug_abbrev; debug_info = sections.new.debug_info } }
+        ensures others { KeepsOtherSections sections.old sections.new }
         ensures faults { fault_sum W.meaning sections.old ≤ fault_sum W.meaning sections.new }
     {
         if self.units.is_empty() {

@@ -7,7 +7,7 @@ ghost use Rattle.dw_base.specs.Forms.{kind_of};
 ghost use Rattle.dw_base.specs.Spelling.{operand_bytes};
 ghost use Rattle.dw_base.specs.Spellable.{IsText, FormFits};
 ghost use Rattle.dw_writer.specs.Meaning.{IsSameWriter, Adds};
-ghost use Rattle.dw_entries.specs.Values.{form_of, constant_of, operand_of, is_spelled, operand_size, names_entry, reference_form as form_of_reference, capped};
+ghost use Rattle.dw_entries.specs.Values.{form_of, constant_of, operand_of, is_writable, operand_size, refers_inside, reference_form as form_of_reference, capped};
 ghost use Rattle.dw_unit.specs.Places.{placement_of, has_place, FitsWords};
 ghost use Rattle.dw_unit.specs.Causes.{BodyRefused};
 
@@ -26,13 +26,17 @@ pub(crate) fn write_value<W: Writer>(
     requires { FitsWords encoding.format (placement_of places.now) }
     ensures ok { OnOk result
         (Adds (W.meaning w.old) (W.meaning w.new)
-        (operand_bytes (W.meaning w.old).is_big (kind_of encoding (form_of encoding value.now)) (operand_of (placement_of places.now).place value.now))) }
+        (operand_bytes (W.meaning w.old).is_big (kind_of encoding (form_of encoding value.now))
+        (operand_of (placement_of places.now).place value.now))) }
     ensures fits { OnOk result
-        (FormFits (kind_of encoding (form_of encoding value.now)) (operand_of (placement_of places.now).place value.now)) }
-    ensures spelled { OnOk result (IsTrue (is_spelled value.now)) }
-    ensures placed { OnOk result (IsTrue (names_entry (has_place (placement_of places.now)) value.now)) }
+        (FormFits (kind_of encoding (form_of encoding value.now))
+        (operand_of (placement_of places.now).place value.now)) }
+    ensures spelled { OnOk result (IsTrue (is_writable value.now)) }
+    ensures placed { OnOk result
+        (IsTrue (refers_inside (has_place (placement_of places.now)) value.now)) }
     ensures err { IfErr result
-        (BodyRefused (W.meaning w.old) (W.meaning w.new) (is_spelled value.now) (names_entry (has_place (placement_of places.now)) value.now)) }
+        (BodyRefused (W.meaning w.old) (W.meaning w.new) (is_writable value.now)
+        (refers_inside (has_place (placement_of places.now)) value.now)) }
     ensures same { IsSameWriter (W.meaning w.old) (W.meaning w.new) }
 {
     match value {
@@ -52,10 +56,12 @@ fn write_reference<W: Writer>(
 ) -> Result<()>
     requires { FitsWords format (placement_of places.now) }
     ensures ok { OnOk result
-        (Adds (W.meaning w.old) (W.meaning w.new) (num (W.meaning w.old).is_big (word_of format) ((placement_of places.now).place entry.0))) }
+        (Adds (W.meaning w.old) (W.meaning w.new)
+        (num (W.meaning w.old).is_big (word_of format) ((placement_of places.now).place entry.0))) }
     ensures placed { OnOk result (IsTrue (has_place (placement_of places.now) entry.0)) }
     ensures err { IfErr result
-        (BodyRefused (W.meaning w.old) (W.meaning w.new) true (has_place (placement_of places.now) entry.0)) }
+        (BodyRefused (W.meaning w.old) (W.meaning w.new) true
+        (has_place (placement_of places.now) entry.0)) }
     ensures same { IsSameWriter (W.meaning w.old) (W.meaning w.new) }
 {
     let Some(place) = places.place(entry) else {
@@ -70,7 +76,8 @@ fn write_text<W: Writer>(text: &[u8], w: &mut W) -> Result<()>
     ensures fits { OnOk result (IsText text.now) }
     ensures spelled { OnOk result (IsFalse (list_any (λ b. b == 0) text.now)) }
     ensures err { IfErr result
-        (BodyRefused (W.meaning w.old) (W.meaning w.new) (not (list_any (λ b. b == 0) text.now)) true) }
+        (BodyRefused (W.meaning w.old) (W.meaning w.new) (not (list_any (λ b. b == 0) text.now))
+        true) }
     ensures refused { IsTrue (list_any (λ b. b == 0) text.now) → w.new ≡ w.old }
     ensures same { IsSameWriter (W.meaning w.old) (W.meaning w.new) }
 {

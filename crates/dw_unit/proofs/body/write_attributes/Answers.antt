@@ -5,9 +5,9 @@ use Rattle.dw_base.specs.Spellable.{IsAttribute}
 use Rattle.dw_writer.proofs.Steps.{IsSameWriter-trans}
 use Rattle.dw_abbrev.proofs.Steps.{Adds-none}
 use Rattle.dw_unit.specs.Places.{placement_of, has_place}
-use Rattle.dw_entries.specs.Values.{is_spelled, names_entry}
+use Rattle.dw_entries.specs.Values.{is_writable, refers_inside}
 use Rattle.dw_unit.specs.Shapes.{read_attribute}
-use Rattle.dw_unit.specs.Coded.{are_values_spelled, name_entries}
+use Rattle.dw_unit.specs.Coded.{are_values_writable, refer_inside}
 use Rattle.dw_unit.proofs.Writes.{Adds-mapped, All-mapped, passes_more, fails_at, refused_after}
 use Rattle.dw_unit.proofs.body.write_attributes.Goals as goal
 
@@ -34,8 +34,8 @@ loop-attribute-preserved g c =
     record {
       added = Adds-mapped (read_attribute e p) xs i x below c.attribute-item.is (λ big. attribute_bytes big e) c.loop-attribute.invariant.added added;
       fits = All-mapped (read_attribute e p) xs i x below c.attribute-item.is (IsAttribute e) c.loop-attribute.invariant.fits fits;
-      spelled = passes_more (λ a. is_spelled a.value) xs i x below c.attribute-item.is c.loop-attribute.invariant.spelled spelled;
-      placed = passes_more (λ a. names_entry (has_place p) a.value) xs i x below c.attribute-item.is c.loop-attribute.invariant.placed placed;
+      spelled = passes_more (λ a. is_writable a.value) xs i x below c.attribute-item.is c.loop-attribute.invariant.spelled spelled;
+      placed = passes_more (λ a. refers_inside (has_place p) a.value) xs i x below c.attribute-item.is c.loop-attribute.invariant.placed placed;
     }
 
 pub returns-in_err-write_value-clause-err : goal.returns-in_err-write_value-clause-err
@@ -49,9 +49,9 @@ returns-in_err-write_value-clause-err g c =
     let refused = rw c.get.ensures at c.in_err-write_value.ensures.err in
     rw (p.1, p.2)
     (refused_after (g.W.Writer.meaning c.args.w.now) (g.W.Writer.meaning c.loop-attribute.w) (g.W.Writer.meaning c.write_value.new.w)
-    (is_spelled x.value) (are_values_spelled xs) (names_entry has x.value) (name_entries has xs) c.in_err-write_value.field-0.0 c.loop-attribute.invariant.added.same
-    (fails_at (λ a. is_spelled a.value) xs i x below c.attribute-item.is)
-    (fails_at (λ a. names_entry has a.value) xs i x below c.attribute-item.is)
+    (is_writable x.value) (are_values_writable xs) (refers_inside has x.value) (refer_inside has xs) c.in_err-write_value.field-0.0 c.loop-attribute.invariant.added.same
+    (fails_at (λ a. is_writable a.value) xs i x below c.attribute-item.is)
+    (fails_at (λ a. refers_inside has a.value) xs i x below c.attribute-item.is)
     refused)
 
 pub returns-in_err-write_value-clause-same : goal.returns-in_err-write_value-clause-same

@@ -6,7 +6,7 @@ use Rattle.dw_abbrev.proofs.Steps.{Adds-none}
 use Rattle.dw_entries.specs.declared.tree.Item.TheVariants as its
 use Rattle.dw_unit.specs.Places.{placement_of, has_place}
 use Rattle.dw_entries.specs.Tree.{mark_of, marks}
-use Rattle.dw_unit.specs.Coded.{shapes_of, coded_mark, is_mark_spelled, are_spelled, is_mark_placed, are_placed, HasOperands}
+use Rattle.dw_unit.specs.Coded.{shapes_of, coded_mark, is_mark_writable, are_writable, is_mark_placed, are_placed, HasOperands}
 use Rattle.dw_unit.proofs.Marks.{within_at, marks-below, mark_at}
 use Rattle.dw_unit.proofs.Shared.{code_read}
 use Rattle.dw_unit.proofs.Writes.{Adds-mapped, passes_more, fails_at, refused_after}
@@ -40,7 +40,7 @@ loop-k-preserved g c =
     record {
       added = Adds-mapped (coded_mark e es p shapes) (marks items) k m below is (λ big. mark_bytes big e) c.loop-k.invariant.added added;
       fits = All-more (HasOperands e es p) (marks items) k m below c.loop-k.invariant.fits (subst (HasOperands e es p) is c.in_ok-write_item.ensures.fits);
-      spelled = passes_more (is_mark_spelled es) (marks items) k m below is c.loop-k.invariant.spelled c.in_ok-write_item.ensures.spelled;
+      spelled = passes_more (is_mark_writable es) (marks items) k m below is c.loop-k.invariant.spelled c.in_ok-write_item.ensures.spelled;
       placed = passes_more (is_mark_placed (has_place p) es) (marks items) k m below is c.loop-k.invariant.placed c.in_ok-write_item.ensures.placed;
     }
 
@@ -57,7 +57,7 @@ returns-in_err-write_item-clause-err g c =
     let p = err_from_is_err_and c.from_residual.result c.from_residual.ensures.1 in
     rw (p.1, p.2)
     (refused_after (g.W.Writer.meaning c.args.w.now) (g.W.Writer.meaning c.loop-k.w) (g.W.Writer.meaning c.write_item.new.w)
-    (is_mark_spelled es m) (are_spelled es (marks items)) (is_mark_placed has es m) (are_placed has es (marks items)) c.in_err-write_item.field-0.0 c.loop-k.invariant.added.same
-    (fails_at (is_mark_spelled es) (marks items) k m below is)
+    (is_mark_writable es m) (are_writable es (marks items)) (is_mark_placed has es m) (are_placed has es (marks items)) c.in_err-write_item.field-0.0 c.loop-k.invariant.added.same
+    (fails_at (is_mark_writable es) (marks items) k m below is)
     (fails_at (is_mark_placed has es) (marks items) k m below is)
     c.in_err-write_item.ensures.err)

@@ -2,7 +2,7 @@ use Rattle.std.proofs.Common.{◌∙◌, sym, ap, subst, arith}
 use Rattle.std.proofs.lemmas.Result.{err_from_is_err_and}
 use Rattle.dw_writer.proofs.Outcomes.{OnOk-map, IfErr-map}
 use Rattle.dw_entries.specs.Tree.{marks}
-use Rattle.dw_unit.specs.Coded.{are_spelled, HaveOperands}
+use Rattle.dw_unit.specs.Coded.{are_writable, HaveOperands}
 use Rattle.dw_unit.specs.Places.{placement_of}
 use Rattle.dw_unit.specs.Whole.{tree_placement}
 use Rattle.dw_unit.proofs.SamePlaces.{operands-same}
@@ -67,7 +67,7 @@ returns-in_err-write_items-clause-err g c =
     let fields = c.in_ok-write_fields.ensures.ok in
     let inside = references_are es (placement_of c.args.places.now) (marks c.args.items.now) c.requires.tree c.requires.inside in
     let failed = err_from_is_err_and c.from_residual-in_err-write_items.result c.from_residual-in_err-write_items.ensures.1 in
-    let refused = rw (inside, ap (are_spelled es) c.requires.tree) at c.in_err-write_items.ensures.err in
+    let refused = rw (inside, ap (are_writable es) c.requires.tree) at c.in_err-write_items.ensures.err in
     rw (failed.1, failed.2)
     (body_refused (g.W.Writer.meaning c.args.w.now) (g.W.Writer.meaning c.write_fields.new.w) (g.W.Writer.meaning c.write_items.new.w) c.args.encoding es c.args.table c.in_err-write_items.field-0.0 refused (omega (arith, start.same.faults, fields.same.faults)))
 
