@@ -1,5 +1,5 @@
 -- What a source has left, what a sink has taken, and what one call does to either.
-use Rattle.std.specs.Prelude.{◌≡◌, ℕ, ◌+◌, ◌-◌, ◌^◌, ◌<◌, ◌≤◌, ◌⊎◌, List, [], ◌++◌, length, min, take, drop}
+use Rattle.std.specs.Prelude.{◌≡◌, ℕ, ◌≤◌, List, [], ◌++◌, length, take, drop}
 use Rattle.std.specs.declared.option.Option.{Option}
 use Rattle.std.specs.Option.{option_map}
 
@@ -12,14 +12,6 @@ pub record Input : Type 0 where
 pub record Intake : Type 0 where
   pub taken : Option (List ℕ)
   pub faults : ℕ
-
--- a count of faults rose, or stands where a u64 ends and can rise no more
-abbrev pub HasRisen : ℕ → ℕ → Type 0
-HasRisen old new = (old < new) ⊎ (new ≡ 2 ^ 64 - 1)
-
--- a count with one more, which stays where a u64 ends
-abbrev pub one_higher : ℕ → ℕ
-one_higher count = min (count + 1) (2 ^ 64 - 1)
 
 -- told bytes without the first n
 abbrev pub without : ℕ → Option (List ℕ) → Option (List ℕ)

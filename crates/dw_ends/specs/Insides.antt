@@ -1,5 +1,4 @@
 -- What stands behind the sources and sinks.
-use Rattle.dw_ends.specs.declared.faults.FaultPlan.{FaultPlan}
 use Rattle.dw_ends.specs.declared.source.FailingSource.{FailingSource}
 use Rattle.dw_ends.specs.declared.source.SliceSource.{SliceSource}
 use Rattle.dw_ends.specs.declared.source.StdinSource.{StdinSource}
@@ -8,11 +7,7 @@ use Rattle.dw_ends.specs.declared.sink.StdoutSink.{StdoutSink}
 use Rattle.dw_ends.specs.declared.sink.VecSink.{VecSink}
 use Rattle.std.specs.Prelude.{Some, None}
 use Rattle.dw_ends.specs.Ends.{Input, Intake}
-use Rattle.dw_ends.specs.Plan.{Plan}
-
--- a fault plan without its count of faults
-abbrev pub plan_of : FaultPlan → Plan
-plan_of plan = record { failing = plan.failing.items; calls = plan.calls }
+use Rattle.dw_base.specs.Faults.{Plan}
 
 -- what a slice's source has left: it tells all of it, and never fails
 abbrev pub slice_input : SliceSource → Input
@@ -24,7 +19,7 @@ source_input source = record { left = Some source.rest.now; faults = source.plan
 
 -- which reads are to fail
 abbrev pub source_plan : FailingSource → Plan
-source_plan source = plan_of source.plan
+source_plan source = source.plan
 
 -- what a sink in memory has taken: it tells all of it, and counts no fault
 abbrev pub vec_intake : VecSink → Intake
@@ -36,7 +31,7 @@ sink_intake sink = record { taken = Some sink.sink.bytes.items; faults = sink.pl
 
 -- which writes are to fail
 abbrev pub sink_plan : FailingSink → Plan
-sink_plan sink = plan_of sink.plan
+sink_plan sink = sink.plan
 
 -- what a reader has left is not told
 abbrev pub reader_input : {R : Type 0} → StdinSource R → Input

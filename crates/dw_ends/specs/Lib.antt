@@ -1,4 +1,3 @@
 pub mod Ends
 pub mod Insides
 pub mod Listing
-pub mod Plan

@@ -2,7 +2,6 @@
 //! listing of sections.
 #![tactic(auto)]
 
-mod faults;
 mod listing;
 mod sink;
 mod source;

@@ -3,10 +3,10 @@
 ghost use Rattle.std.specs.Prelude.{◌≡◌, ◌<◌, ◌≤◌, ◌↔◌, ◌⊎◌, [], length, take, Some, None, Ok, IfOk, IfErr, OnOk, OnErr, IsErrOf};
 ghost use Rattle.dw_ends.specs.declared.sink.SinkError.TheVariants.{NoMemory};
 ghost use Rattle.std.specs.Io.KnownBytes.{WriteAppends};
-ghost use Rattle.dw_ends.specs.Plan.{FailsNext, after_call};
-ghost use Rattle.dw_ends.specs.Ends.{Intake, HasRisen, one_higher, with_after};
+ghost use Rattle.dw_base.specs.Faults.{HasRisen, one_higher, FailsNext, after_call, after_fault};
+ghost use Rattle.dw_ends.specs.Ends.{Intake, with_after};
 
-use crate::faults::{FaultPlan, one_more};
+use dw_base::{FaultPlan, one_fault_more};
 use std::alloc::{AllocError, Global};
 use std::io::Write;
 
@@ -102,7 +102,7 @@ impl FailingSink {
     /// A sink that has taken nothing yet, whose calls with the numbers in `failing` are to fail.
     pub fn new(alloc: Global, failing: Vec<u64>) -> FailingSink
         ensures intake { sink_intake result ≡ record { taken = Some []; faults = 0 } }
-        ensures plan { sink_plan result ≡ record { failing = failing.items; calls = 0 } }
+        ensures plan { sink_plan result ≡ record { failing = failing.items; calls = 0; faults = 0 } }
     {
         FailingSink {
             sink: VecSink::new(alloc),
@@ -138,7 +138,10 @@ impl Sink for FailingSink {
             ((sink_intake self.new).taken ≡ (sink_intake self.old).taken) }
 
         ensures chosen { IsErrOf result SinkError.Failed ↔ FailsNext (sink_plan self.old) }
-        ensures counted { sink_plan self.new ≡ after_call (sink_plan self.old) }
+        ensures counted { (IsErrOf result SinkError.Failed → ⊥) →
+            sink_plan self.new ≡ after_call (sink_plan self.old) }
+        ensures counted_fault { IsErrOf result SinkError.Failed →
+            sink_plan self.new ≡ after_fault (sink_plan self.old) }
         ensures whole { IfOk result (λ n. n ≡ length bytes.now) }
         ensures quiet { OnOk result
             ((sink_intake self.new).faults ≡ (sink_intake self.old).faults) }
@@ -202,12 +205,12 @@ impl<W: Write> Sink for StdoutSink<W> {
     {
         match self.writer.write(bytes) {
             Ok(0) if !bytes.is_empty() => {
-                self.faults = one_more(self.faults);
+                self.faults = one_fault_more(self.faults);
                 Ok(0)
             }
             Ok(count) => Ok(count),
             Err(_) => {
-                self.faults = one_more(self.faults);
+                self.faults = one_fault_more(self.faults);
                 Err(SinkError::Failed)
             }
         }

@@ -2,10 +2,10 @@
 
 ghost use Rattle.std.specs.Prelude.{◌≡◌, ◌<◌, ◌≤◌, ◌↔◌, [], length, take, min, Some, None, Ok, IfOk, OnOk, OnErr, IfSome, IsOk, IsErr};
 ghost use Rattle.std.specs.Io.KnownBytes.{ReadConsumes};
-ghost use Rattle.dw_ends.specs.Ends.{Input, HasRisen, one_higher, without};
-ghost use Rattle.dw_ends.specs.Plan.{FailsNext, after_call};
+ghost use Rattle.dw_ends.specs.Ends.{Input, without};
+ghost use Rattle.dw_base.specs.Faults.{HasRisen, one_higher, FailsNext, after_call, after_fault};
 
-use crate::faults::{FaultPlan, one_more};
+use dw_base::{FaultPlan, one_fault_more};
 use std::io::Read;
 
 /// A read that failed; its source's count of faults says so too.
@@ -102,7 +102,7 @@ impl<'a> FailingSource<'a> {
     /// A source of all these bytes, whose calls with the numbers in `failing` are to fail.
     pub fn new(bytes: &'a [u8], failing: Vec<u64>) -> FailingSource<'a>
         ensures input { source_input result ≡ record { left = Some bytes.now; faults = 0 } }
-        ensures plan { source_plan result ≡ record { failing = failing.items; calls = 0 } }
+        ensures plan { source_plan result ≡ record { failing = failing.items; calls = 0; faults = 0 } }
     {
         FailingSource {
             rest: bytes,
@@ -132,7 +132,9 @@ impl<'a> Source for FailingSource<'a> {
             IfSome (source_input self.old).left (λ xs. xs ≡ []) }
 
         ensures chosen { IsErr result ↔ FailsNext (source_plan self.old) }
-        ensures counted { source_plan self.new ≡ after_call (source_plan self.old) }
+        ensures counted { OnOk result (source_plan self.new ≡ after_call (source_plan self.old)) }
+        ensures counted_fault { OnErr result
+            (source_plan self.new ≡ after_fault (source_plan self.old)) }
         ensures unchanged { OnErr result
             ((source_input self.new).left ≡ (source_input self.old).left) }
         ensures quiet { OnOk result
@@ -195,7 +197,7 @@ impl<R: Read> Source for StdinSource<R> {
         match self.reader.read(buffer) {
             Ok(count) => Ok(count),
             Err(_) => {
-                self.faults = one_more(self.faults);
+                self.faults = one_fault_more(self.faults);
                 Err(Failed)
             }
         }

@@ -2,7 +2,8 @@
 
 ghost use Rattle.std.specs.Prelude.{◌≡◌, ◌+◌, ◌<◌, ◌≤◌, length, max, IfOk, OnOk, OnErr, IfSome, IsErrOf, vec_len, vec_capacity};
 ghost use Rattle.dw_ends.specs.declared.transfer.ReadAllError.TheVariants.{Failed as ReadFailed, NoMemory};
-ghost use Rattle.dw_ends.specs.Ends.{HasRisen, TakesPrefix, used_up, with_after};
+ghost use Rattle.dw_base.specs.Faults.{HasRisen};
+ghost use Rattle.dw_ends.specs.Ends.{TakesPrefix, used_up, with_after};
 
 use crate::sink::{Sink, SinkError};
 use crate::source::{Failed, Source};
