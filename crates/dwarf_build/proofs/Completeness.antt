@@ -1,9 +1,9 @@
 -- Where a script's units have a spelling and nothing fails, they are listed.
 use Rattle.std.proofs.Common.{◌≡◌, ◌∙◌, sym, ap, subst, ℕ, List, refl, arith, inl, inr}
 use Rattle.std.specs.Prelude.{◌⊎◌, Option, Some, Result, Ok, Err}
-use Rattle.dw_base.specs.Order.{is_big_of}
 use Rattle.dw_dwarf.specs.Valid.{IsValid}
-use Rattle.dw_ends.specs.Ends.{Intake, HasRisen}
+use Rattle.dw_base.specs.Faults.{HasRisen}
+use Rattle.dw_ends.specs.Ends.{Intake}
 use Rattle.dwarf_build.specs.Script.{script}
 use Rattle.dwarf_build.specs.Answers.{IsBuild, IsShort, HasNoSpelling, Says, Prints, code_of}
 use Rattle.dwarf_build.specs.declared.script.Script.{Script}

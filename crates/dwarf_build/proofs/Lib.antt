@@ -7,4 +7,5 @@ pub mod Answered
 pub mod ScriptUnits
 pub mod Unspelled
 pub mod Completeness
+pub mod Runs
 mod Worked

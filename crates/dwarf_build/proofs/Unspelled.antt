@@ -1,8 +1,6 @@
 -- New plain sections take every unit that has a spelling.
-use Rattle.std.proofs.Common.{◌≡◌, ◌∙◌, sym, ap, subst, ℕ, ◌≤◌, Bool, List, refl, arith}
+use Rattle.std.proofs.Common.{◌≡◌, ◌∙◌, sym, ap, subst, ℕ, Bool, List, refl}
 use Rattle.dw_base.specs.Numbers.{is_width, length_fits}
-use Rattle.dw_base.specs.Order.{is_big_of}
-use Rattle.dw_base.specs.declared.common.Format.TheVariants.{Dwarf32}
 use Rattle.dw_base.specs.declared.error.Error.{Error}
 use Rattle.dw_base.specs.declared.error.Error.TheVariants.{NoMemory, WriteFault, ValueTooLarge, UnsupportedWordSize, UnsupportedVersion, InvalidAttributeValue, InvalidReference, InitialLengthOverflow}
 use Rattle.dw_writer.specs.Contents.{Meaning}

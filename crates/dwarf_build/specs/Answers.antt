@@ -1,5 +1,5 @@
 -- What the program answers, by its status.
-use Rattle.std.specs.Prelude.{◌≡◌, ◌⊎◌, ℕ, ◌<◌, ◌≤◌, List, [], ◌∷◌, length, map, Any, Option, Some, Ok, Err, Bool, codes}
+use Rattle.std.specs.Prelude.{◌≡◌, ◌⊎◌, ℕ, ◌<◌, ◌≤◌, List, [], ◌∷◌, length, map, Any, Option, Some, Ok, Err, codes}
 use Rattle.dw_base.specs.Order.{is_big_of}
 use Rattle.dw_base.specs.declared.error.Error.{Error}
 use Rattle.dw_unit.specs.UnitValue.{UnitValue}
@@ -7,7 +7,8 @@ use Rattle.dw_unit.specs.Whole.{settled}
 use Rattle.dw_unit.specs.Causes.{UnitUnspelled}
 use Rattle.dw_unit.specs.Built.{Built}
 use Rattle.dw_dwarf.specs.Valid.{IsValid}
-use Rattle.dw_ends.specs.Ends.{Input, Intake, HasRisen, used_up, with_after, TakesPrefix}
+use Rattle.dw_base.specs.Faults.{HasRisen}
+use Rattle.dw_ends.specs.Ends.{Input, Intake, used_up, with_after, TakesPrefix}
 use Rattle.dwarf_build.specs.Script.{script}
 use Rattle.dwarf_build.specs.Texts.{usage_text, too_long_text, refusal_text, refused_text, sections_text, only_units}
 use Rattle.dwarf_build.specs.declared.answer.Stop.{Stop}
@@ -20,6 +21,10 @@ use Rattle.dwarf_build.specs.declared.script.Refusal.{Refusal}
 -- the words are the one command that there is
 abbrev pub IsBuild : List (List ℕ) → Type 0
 IsBuild words = words ≡ codes "build" ∷ []
+
+-- words that are no command leave the source alone
+abbrev pub LeavesUnread : {S : Type 0} → List (List ℕ) → S → S → Type 0
+LeavesUnread words old new = (IsBuild words → ⊥) → new ≡ old
 
 -- of what a source told
 abbrev pub IfTold : Option (List ℕ) → (List ℕ → Type 0) → Type 0
@@ -113,9 +118,14 @@ pub record TakesText (words : List (List ℕ)) (left : Option (List ℕ)) (statu
   pub says : Says words left status text
   pub takes : new ≡ with_after old text
 
+-- why there is no answer: a read failed, which comes only where the words are a command that reads
+abbrev pub StopsFor : List (List ℕ) → Input → Input → Stop → Type 0
+StopsFor words old new stop.SourceFailed = IsBuild words × HasRisen old.faults new.faults
+StopsFor words old new stop.NoMemory = Unit {0}
+
 -- what the program has done where it answers a status
 abbrev pub Answers : List (List ℕ) → Input → Input → Intake → Intake → Status → Type 0
-Answers words source_old source_new sink_old sink_new SourceFailed = HasRisen source_old.faults source_new.faults × (sink_new ≡ sink_old)
+Answers words source_old source_new sink_old sink_new SourceFailed = IsBuild words × HasRisen source_old.faults source_new.faults × (sink_new ≡ sink_old)
 Answers words source_old source_new sink_old sink_new SinkFailed = HasRisen sink_old.faults sink_new.faults × TakesFront words source_old.left sink_old.taken sink_new.taken
 Answers words source_old source_new sink_old sink_new NoMemory = (sink_new ≡ sink_old) ⊎ TakesFront words source_old.left sink_old.taken sink_new.taken
 Answers words source_old source_new sink_old sink_new status = TakesText words source_old.left status sink_old.taken sink_new.taken × Reads source_old source_new status
@@ -123,11 +133,6 @@ Answers words source_old source_new sink_old sink_new status = TakesText words s
 -- an answer was printed: whole, or a front of it where the sink refused
 abbrev pub Prints : Status → List ℕ → Intake → Intake → Status → Type 0
 Prints status text old new result = ((result ≡ status) × (new.taken ≡ with_after old.taken text)) ⊎ (TakesPrefix old.taken new.taken text × (((result ≡ SinkFailed) × HasRisen old.faults new.faults) ⊎ (result ≡ NoMemory)))
-
--- why there is no answer
-abbrev pub StopsFor : Input → Input → Stop → Type 0
-StopsFor old new stop.SourceFailed = HasRisen old.faults new.faults
-StopsFor old new stop.NoMemory = Unit {0}
 
 -- the number of a status
 abbrev pub code_of : Status → ℕ
@@ -145,3 +150,11 @@ pub record RunAnswers (words : List (List ℕ)) (source_old source_new : Input) 
   pub status : Status
   pub coded : code ≡ code_of status
   pub answers : Answers words source_old source_new sink_old sink_new status
+
+-- a script whose units are valid was listed, or memory lacked, unless the source or the sink failed
+abbrev pub ListsValid : List (List ℕ) → Input → Input → Intake → Intake → ℕ → Type 0
+ListsValid words source_old source_new sink_old sink_new code =
+    IsBuild words → (bytes : List ℕ) → source_old.left ≡ Some bytes → IsShort bytes →
+    (s : Script) → script bytes ≡ Ok s → IsValid s.dwarf.units →
+    (HasRisen source_old.faults source_new.faults → ⊥) → (HasRisen sink_old.faults sink_new.faults → ⊥) →
+    (code ≡ 0) ⊎ (code ≡ 6)

@@ -2,7 +2,7 @@
 
 ghost use Rattle.std.specs.Prelude.{◌≡◌, ◌≢◌, ◌≤◌, ◌↔◌, ◌∷◌, [], List, length, map, codes, Some, IsTrue, IfOk, IfErr, string_bytes};
 ghost use Rattle.dw_base.specs.declared.error.Error.TheVariants.{NoMemory};
-ghost use Rattle.dwarf_build.specs.Answers.{IsBuild, Says, SaysOf, SaysBuild, Reads, StopsFor};
+ghost use Rattle.dwarf_build.specs.Answers.{IsBuild, LeavesUnread, Says, SaysOf, SaysBuild, Reads, StopsFor};
 ghost use Rattle.dwarf_build.specs.Script.{HasFewUnits};
 ghost use Rattle.dwarf_build.specs.Texts.{refusal_text, refused_text};
 
@@ -60,7 +60,8 @@ fn answer_with(alloc: Global, status: Status, text: &[u8]) -> Result<Answer, All
 
 // The line of the script that is refused, and why.
 fn answer_refusal(alloc: Global, refusal: Refusal) -> Result<Answer, AllocError>
-    ensures { IfOk result (λ a. (a.status ≡ Status.ScriptRefused) × (a.text.items ≡ refusal_text refusal)) }
+    ensures { IfOk result (λ a.
+        (a.status ≡ Status.ScriptRefused) × (a.text.items ≡ refusal_text refusal)) }
 {
     let line = refusal.line;
     let reason = refusal.reason.text();
@@ -70,7 +71,8 @@ fn answer_refusal(alloc: Global, refusal: Refusal) -> Result<Answer, AllocError>
 
 // Why writing was refused. Want of memory is no refusal of what was built.
 fn answer_write_refusal(alloc: Global, error: Error) -> Result<Answer, AllocError>
-    ensures says { IfOk result (λ a. (a.status ≡ Status.WriteRefused) × (a.text.items ≡ refused_text error)) }
+    ensures says { IfOk result (λ a.
+        (a.status ≡ Status.WriteRefused) × (a.text.items ≡ refused_text error)) }
     ensures other { IfOk result (λ _. error ≢ NoMemory) }
 {
     if error == Error::NoMemory {
@@ -117,9 +119,11 @@ fn build(alloc: Global, bytes: &[u8]) -> Result<Answer, AllocError>
 
 // What the command `build` answers to its input.
 fn answer_build<S: Source>(alloc: Global, source: &mut S) -> Result<Answer, Stop>
-    ensures ok { IfOk result (λ a. Says (codes "build" ∷ []) (S.input source.old).left a.status a.text.items) }
+    ensures ok { IfOk result (λ a.
+        Says (codes "build" ∷ []) (S.input source.old).left a.status a.text.items) }
     ensures reads { IfOk result (λ a. Reads (S.input source.old) (S.input source.new) a.status) }
-    ensures err { IfErr result (StopsFor (S.input source.old) (S.input source.new)) }
+    ensures err { IfErr result (StopsFor (codes "build" ∷ [])
+        (S.input source.old) (S.input source.new)) }
     ensures faults { (S.input source.old).faults ≤ (S.input source.new).faults }
 {
     match read_all(alloc, source, SCRIPT_LIMIT) {
@@ -136,9 +140,12 @@ pub fn answer_to<S: Source>(
     words: &Vec<String>,
     source: &mut S,
 ) -> Result<Answer, Stop>
-    ensures ok { IfOk result (λ a. Says (map string_bytes words.now.items) (S.input source.old).left a.status a.text.items) }
+    ensures ok { IfOk result (λ a.
+        Says (map string_bytes words.now.items) (S.input source.old).left a.status a.text.items) }
     ensures reads { IfOk result (λ a. Reads (S.input source.old) (S.input source.new) a.status) }
-    ensures err { IfErr result (StopsFor (S.input source.old) (S.input source.new)) }
+    ensures err { IfErr result (StopsFor (map string_bytes words.now.items)
+        (S.input source.old) (S.input source.new)) }
+    ensures unread { LeavesUnread (map string_bytes words.now.items) source.old source.new }
     ensures faults { (S.input source.old).faults ≤ (S.input source.new).faults }
 {
     if !is_build(words) {

@@ -93,7 +93,8 @@ fn add_reserved(unit: &mut Unit, entry: u64, parent: u64, tag: DwTag) -> Result<
 // The id that a line gives, if it waits for its entry.
 fn reserved_id(unit: &Unit, number: u64) -> Result<UnitEntryId, CommandError>
     ensures ok { IfOk result (λ id. (id.0 ≡ number) × IsReserved unit.now number) }
-    ensures err { IfErr result (λ e. (e ≡ CommandError.Refused Reason.NotReserved) × IsFalse (is_reserved unit.now number)) }
+    ensures err { IfErr result (λ e.
+        (e ≡ CommandError.Refused Reason.NotReserved) × IsFalse (is_reserved unit.now number)) }
 {
     let index = index_below(number, unit.reserved(), Reason::NotReserved)?;
     let id = UnitEntryId::new(index);
@@ -105,8 +106,10 @@ fn reserved_id(unit: &Unit, number: u64) -> Result<UnitEntryId, CommandError>
 
 // Says whether an entry is to name the place past its children.
 fn set_sibling(unit: &mut Unit, entry: u64, sibling: bool) -> Result<(), CommandError>
-    ensures ok { OnOk result (with_entry_changed entry (with_sibling sibling) unit.old ≡ Ok unit.new) }
-    ensures err { IfErr result (RefusedFor (with_entry_changed entry (with_sibling sibling) unit.old)) }
+    ensures ok { OnOk result
+        (with_entry_changed entry (with_sibling sibling) unit.old ≡ Ok unit.new) }
+    ensures err { IfErr result
+        (RefusedFor (with_entry_changed entry (with_sibling sibling) unit.old)) }
 {
     let index = index_below(entry, unit.count(), Reason::NoSuchEntry)?;
     unit.get_mut(UnitEntryId::new(index)).set_sibling(sibling);
@@ -115,8 +118,10 @@ fn set_sibling(unit: &mut Unit, entry: u64, sibling: bool) -> Result<(), Command
 
 // Leaves an attribute of an entry out.
 fn delete_attribute(unit: &mut Unit, entry: u64, name: DwAt) -> Result<(), CommandError>
-    ensures ok { OnOk result (with_entry_changed entry (without_attribute name.0) unit.old ≡ Ok unit.new) }
-    ensures err { IfErr result (RefusedFor (with_entry_changed entry (without_attribute name.0) unit.old)) }
+    ensures ok { OnOk result
+        (with_entry_changed entry (without_attribute name.0) unit.old ≡ Ok unit.new) }
+    ensures err { IfErr result
+        (RefusedFor (with_entry_changed entry (without_attribute name.0) unit.old)) }
 {
     let index = index_below(entry, unit.count(), Reason::NoSuchEntry)?;
     unit.get_mut(UnitEntryId::new(index)).delete(name);
@@ -125,8 +130,10 @@ fn delete_attribute(unit: &mut Unit, entry: u64, name: DwAt) -> Result<(), Comma
 
 // Takes a child out of its parent's children, if it is there.
 fn delete_child(unit: &mut Unit, parent: u64, entry: u64) -> Result<(), CommandError>
-    ensures ok { OnOk result (with_entry_changed parent (without_child entry) unit.old ≡ Ok unit.new) }
-    ensures err { IfErr result (RefusedFor (with_entry_changed parent (without_child entry) unit.old)) }
+    ensures ok { OnOk result
+        (with_entry_changed parent (without_child entry) unit.old ≡ Ok unit.new) }
+    ensures err { IfErr result
+        (RefusedFor (with_entry_changed parent (without_child entry) unit.old)) }
 {
     let index = index_below(parent, unit.count(), Reason::NoSuchEntry)?;
     unit.get_mut(UnitEntryId::new(index))
@@ -160,8 +167,10 @@ fn set_attribute(
     name: DwAt,
     value: Value<'_>,
 ) -> Result<(), CommandError>
-    ensures ok { OnOk result (after_set entry name.0 (attribute_value value.entry) unit.old ≡ Ok unit.new) }
-    ensures err { IfErr result (RefusedFor (after_set entry name.0 (attribute_value value.entry) unit.old)) }
+    ensures ok { OnOk result
+        (after_set entry name.0 (attribute_value value.entry) unit.old ≡ Ok unit.new) }
+    ensures err { IfErr result
+        (RefusedFor (after_set entry name.0 (attribute_value value.entry) unit.old)) }
 {
     let index = index_below(entry, unit.count(), Reason::NoSuchEntry)?;
     if name.0 == 0 || name == DW_AT_sibling {

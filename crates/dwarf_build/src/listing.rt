@@ -14,7 +14,9 @@ fn push_one<S: Section<EndianVec<RunTimeEndian>>>(
     text: &mut Vec<u8>,
     section: &S,
 ) -> Result<(), AllocError>
-    ensures { OnOk result (AddsLine S.which (⟦<EndianVec<RunTimeEndian> as Writer>⟧.meaning (S.writer section.now)).bytes text.old.items text.new.items) }
+    ensures { OnOk result (AddsLine S.which
+        (⟦<EndianVec<RunTimeEndian> as Writer>⟧.meaning (S.writer section.now)).bytes
+        text.old.items text.new.items) }
 {
     push_section(text, section.name(), section.section().slice())
 }
@@ -25,7 +27,9 @@ pub fn list_sections(
     endian: RunTimeEndian,
     sections: &Sections<EndianVec<RunTimeEndian>>,
 ) -> Result<Vec<u8>, AllocError>
-    ensures { IfOk result (λ text. ListsSections ⟦<EndianVec<RunTimeEndian> as Writer>⟧.meaning sections.now (is_big_of endian) text.items) }
+    ensures { IfOk result (λ text.
+        ListsSections ⟦<EndianVec<RunTimeEndian> as Writer>⟧.meaning sections.now
+        (is_big_of endian) text.items) }
 {
     let mut text = Vec::new(alloc);
     push_order(&mut text, endian.is_big_endian())?;

@@ -16,7 +16,7 @@ mod tree_tests;
 
 ghost use Rattle.std.specs.Prelude.{◌≡◌, ◌⊎◌, IfErr};
 
-use crate::run::run;
+use crate::run::end;
 use crate::status::Status;
 use dw_ends::{StdinSource, StdoutSink};
 use std::env;
@@ -26,8 +26,8 @@ use std::process::ExitCode;
 /// The words of the command line couldn't be had, for another cause than memory.
 const NO_WORDS: u8 = 8;
 
-// The words after the program's name, or the exit status. Where one isn't UTF-8 there are none, as it is
-// no command.
+// The words after the program's name, or the exit status. Where one isn't UTF-8 there are none, as
+// it is no command.
 fn words(rt: &HostRuntime) -> Result<Vec<String>, u8>
     ensures { IfErr result (λ status. (status ≡ 6) ⊎ (status ≡ 8)) }
 {
@@ -48,11 +48,7 @@ fn words(rt: &HostRuntime) -> Result<Vec<String>, u8>
 }
 
 fn main(rt: HostRuntime) -> ExitCode {
-    let words = match words(&rt) {
-        Ok(words) => words,
-        Err(status) => return ExitCode::from(status),
-    };
     let mut source = StdinSource::new(rt.reader());
     let mut sink = StdoutSink::new(io::writer(&rt));
-    ExitCode::from(run(rt.alloc(), &words, &mut source, &mut sink))
+    end(rt.alloc(), words(&rt), &mut source, &mut sink)
 }

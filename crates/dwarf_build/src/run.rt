@@ -1,20 +1,19 @@
 //! The program over any words, source and sink.
 
-ghost use Rattle.std.specs.Prelude.{◌≡◌, ◌⊎◌, ℕ, ◌≤◌, List, map, Some, Ok, string_bytes};
-ghost use Rattle.dw_dwarf.specs.Valid.{IsValid};
-ghost use Rattle.dw_ends.specs.Ends.{HasRisen};
-ghost use Rattle.dwarf_build.specs.Script.{script};
-ghost use Rattle.dwarf_build.specs.Answers.{IsBuild, IsShort, RunAnswers, Prints};
-ghost use Rattle.dwarf_build.specs.declared.script.Script.{Script};
+ghost use Rattle.std.specs.Prelude.{◌≡◌, ◌≤◌, map, string_bytes, MatchResult};
+ghost use Rattle.std.specs.Process.{exit_status};
+ghost use Rattle.dwarf_build.specs.Answers.{LeavesUnread, ListsValid, RunAnswers, Prints};
 
 use crate::answer::{Answer, Stop, answer_to};
 use crate::status::Status;
 use dw_ends::{Sink, SinkError, Source, write_all};
 use std::alloc::Global;
+use std::process::ExitCode;
 
 // Prints an answer's text, and answers its status where the sink takes the text whole.
 fn print<K: Sink>(answer: &Answer, sink: &mut K) -> Status
-    ensures prints { Prints answer.now.status answer.now.text.items (K.intake sink.old) (K.intake sink.new) result }
+    ensures prints { Prints answer.now.status answer.now.text.items
+        (K.intake sink.old) (K.intake sink.new) result }
     ensures faults { (K.intake sink.old).faults ≤ (K.intake sink.new).faults }
 {
     match write_all(sink, answer.text.as_slice()) {
@@ -34,9 +33,11 @@ pub fn run<S: Source, K: Sink>(
     source: &mut S,
     sink: &mut K,
 ) -> u8
-    ensures answers { RunAnswers (map string_bytes words.now.items) (S.input source.old) (S.input source.new) (K.intake sink.old) (K.intake sink.new) result }
-    // Where the script's unit has a spelling and nothing fails, the listing is printed, if memory serves.
-    ensures complete { IsBuild (map string_bytes words.now.items) → (bytes : List ℕ) → (S.input source.old).left ≡ Some bytes → IsShort bytes → (s : Script) → script bytes ≡ Ok s → IsValid s.dwarf.units → (HasRisen (S.input source.old).faults (S.input source.new).faults → ⊥) → (HasRisen (K.intake sink.old).faults (K.intake sink.new).faults → ⊥) → (result ≡ 0) ⊎ (result ≡ 6) }
+    ensures answers { RunAnswers (map string_bytes words.now.items)
+        (S.input source.old) (S.input source.new) (K.intake sink.old) (K.intake sink.new) result }
+    ensures complete { ListsValid (map string_bytes words.now.items)
+        (S.input source.old) (S.input source.new) (K.intake sink.old) (K.intake sink.new) result }
+    ensures unread { LeavesUnread (map string_bytes words.now.items) source.old source.new }
     ensures source_faults { (S.input source.old).faults ≤ (S.input source.new).faults }
     ensures sink_faults { (K.intake sink.old).faults ≤ (K.intake sink.new).faults }
 {
@@ -46,4 +47,24 @@ pub fn run<S: Source, K: Sink>(
         Err(Stop::NoMemory) => Status::NoMemory,
     };
     status.code()
+}
+
+/// Runs the program over the words, and ends it with the exit status that `run` answers; where the
+/// words couldn't be had, with the status that stands in their place.
+pub fn end<S: Source, K: Sink>(
+    alloc: Global,
+    words: Result<Vec<String>, u8>,
+    source: &mut S,
+    sink: &mut K,
+) -> ExitCode
+    ensures answers { MatchResult words
+        (λ ws. RunAnswers (map string_bytes ws.items)
+        (S.input source.old) (S.input source.new) (K.intake sink.old) (K.intake sink.new)
+        (exit_status result))
+        (λ status. exit_status result ≡ status) }
+{
+    match words {
+        Ok(words) => ExitCode::from(run(alloc, &words, source, sink)),
+        Err(status) => ExitCode::from(status),
+    }
 }

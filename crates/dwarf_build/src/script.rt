@@ -125,8 +125,10 @@ impl Script {
         change: Change<'_>,
     ) -> Result<(), CommandError>
         requires { HasFewUnits self.old.dwarf.units }
-        ensures ok { OnOk result (after_command self.old (Command.Change unit change.entry) ≡ Ok self.new) }
-        ensures err { IfErr result (RefusedFor (after_command self.old (Command.Change unit change.entry))) }
+        ensures ok { OnOk result
+            (after_command self.old (Command.Change unit change.entry) ≡ Ok self.new) }
+        ensures err { IfErr result
+            (RefusedFor (after_command self.old (Command.Change unit change.entry))) }
     {
         let index = index_below(unit, self.dwarf.units.count(), Reason::NoSuchUnit)?;
         let unit = self.dwarf.units.get_mut(UnitId::new(index));

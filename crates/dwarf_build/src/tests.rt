@@ -112,9 +112,10 @@ pub(crate) fn told(alloc: Global, hex: &str) -> Result<String, AllocError> {
     format!(in alloc; "{size} {digits}")
 }
 
-/// Headers spelled by hand (DWARF 5, 7.5.1.1; DWARF 4, 7.5.1.1): the length, after its escape in the
-/// 64-bit format, and the version; in version 5 the type of a compile unit, the address size and the
-/// place of the table, and below it this place and the address size; at last the root's code.
+/// Headers spelled by hand (DWARF 5, 7.5.1.1; DWARF 4, 7.5.1.1): the length, after its escape in
+/// the 64-bit format, and the version; in version 5 the type of a compile unit, the address size
+/// and the place of the table, and below it this place and the address size; at last the root's
+/// code.
 #[test]
 fn spells_headers(rt: HostRuntime) -> Result<(), Fail> {
     let rows = [
@@ -251,7 +252,7 @@ fn spells_every_encoding(rt: HostRuntime) -> Result<(), Fail> {
 
 #[test]
 fn refuses_lines(rt: HostRuntime) -> Result<(), Fail> {
-    let rows: [(&[u8], &str); 44] = [
+    let rows: [(&[u8], &str); 45] = [
         (b"unit 5\t8 32", "line 1: bad byte\n"),
         (b"unit 5 8 32\x7f", "line 1: bad byte\n"),
         (b"\x1f", "line 1: bad byte\n"),
@@ -295,6 +296,10 @@ fn refuses_lines(rt: HostRuntime) -> Result<(), Fail> {
         (b"# one\n\n#\xff\nunit\n", "line 4: wrong fields\n"),
         (b"\n\nunit 6 8 32\n\nunit 5 8 32", "line 5: not built\n"),
         (b"unit 5 8 32\nfrob\nunit\n\x80", "line 2: unknown word\n"),
+        (
+            b"#\n#\n#\n#\n#\n\n\n\n\n\n\nfrob",
+            "line 12: unknown word\n",
+        ),
         (
             b"order big\nunit 5 8 32\n\n#\norder big\n",
             "line 5: order not first\n",

@@ -6,8 +6,8 @@ use std::fmt::Write;
 use std::process::Abort;
 use std::test::Fail;
 
-/// Builds a script whose lines are separated by ` / `, and looks at the two sections of its unit, given
-/// in hex with spaces between.
+/// Builds a script whose lines are separated by ` / `, and looks at the two sections of its unit,
+/// given in hex with spaces between.
 pub(crate) fn check_sections(
     rt: &impl Abort,
     alloc: Global,
@@ -35,8 +35,8 @@ pub(crate) fn check_sections(
     Ok(())
 }
 
-/// The declaration of the root is followed by that of each shape where it first comes. A string ends
-/// with a zero, and so do the children of an entry (DWARF 5, 7.5.2 and 7.5.3).
+/// The declaration of the root is followed by that of each shape where it first comes. A string
+/// ends with a zero, and so do the children of an entry (DWARF 5, 7.5.2 and 7.5.3).
 #[test]
 fn shares_codes_between_entries_of_one_shape(rt: HostRuntime) -> Result<(), Fail> {
     check_sections(
@@ -143,6 +143,30 @@ fn spells_codes_above_127(rt: HostRuntime) -> Result<(), Fail> {
     assert!(rt; info.starts_with("142 8a000000"));
     assert!(rt; info.ends_with("7f800100"));
     assert!(rt; abbrev.starts_with("896 "));
+    Ok(())
+}
+
+/// 12 bytes of the header, the root, 100,000 variables of one byte, the last one with its name in 3,
+/// and the zero that closes them: 100,017 bytes, of which 100,013 (0x186ad) stand behind the length.
+#[test]
+fn changes_the_last_of_many_entries(rt: HostRuntime) -> Result<(), Fail> {
+    let mut script = String::from_str(rt.alloc(), "unit 5 8 32\n")?;
+    for _ in 0..100_001 {
+        script.push_str("add 0 0 52\n")?;
+    }
+    script.push_str("set 0 100001 DW_AT_name string 61\n")?;
+    let (status, text) = build(rt.alloc(), script.as_bytes())?;
+    let listing = text.as_str();
+    let info = told_of(listing, ".debug_info").unwrap_or("");
+    let abbrev = told(
+        rt.alloc(),
+        "01 11 01 00 00 02 34 00 00 00 03 34 00 03 08 00 00 00",
+    )?;
+    assert_eq!(rt; status, 0);
+    assert!(rt; info.starts_with("100017 ad8601000500010800000000010202"));
+    assert!(rt; info.ends_with("020203610000"));
+    assert_eq!(rt; info.len(), 200_041);
+    assert_eq!(rt; told_of(listing, ".debug_abbrev"), Some(abbrev.as_str()));
     Ok(())
 }
 

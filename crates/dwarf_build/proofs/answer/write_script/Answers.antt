@@ -1,8 +1,8 @@
 use Rattle.dw_writer.proofs.FaultLaws.{SomeHasRisen-never}
 use Rattle.dwarf_build.proofs.Unspelled.{units_unspelled, says_refused}
-use Rattle.std.proofs.Common.{refl, subst, arith}
+use Rattle.std.proofs.Common.{refl}
 use Rattle.dwarf_build.proofs.Outcomes.{IfOk-two}
-use Rattle.dw_dwarf.specs.Valid.{AreUnwritten, IsValid}
+use Rattle.dw_dwarf.specs.Valid.{AreUnwritten}
 use Rattle.dw_base.specs.Order.{is_big_of}
 use Rattle.dw_writer.proofs.NewLemmas.{IsNewPlain-from_all_mean}
 use Rattle.dwarf_build.proofs.Answered.{script_listed}
