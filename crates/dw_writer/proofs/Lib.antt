@@ -11,3 +11,4 @@ pub mod VisitSteps
 pub mod DraftLaws
 pub mod WriteLaws
 pub mod FaultLaws
+pub mod Relocating

@@ -11,3 +11,5 @@ pub mod Sections
 pub mod New
 pub mod Visits
 pub mod Drafts
+pub mod Relocating
+pub mod Faulty

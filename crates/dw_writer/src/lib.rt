@@ -4,9 +4,11 @@
 
 mod bytes;
 mod endian_vec;
+mod fault_vec;
 mod fixup;
 mod leb128;
 mod number;
+mod reloc_vec;
 mod relocate;
 mod section;
 mod sections;
@@ -16,8 +18,10 @@ mod writer;
 
 pub use bytes::Bytes;
 pub use endian_vec::EndianVec;
+pub use fault_vec::FaultVec;
 pub use fixup::{DebugInfoFixup, FixupList};
-pub use relocate::{Relocation, RelocationTarget};
+pub use reloc_vec::RelocVec;
+pub use relocate::{RelocateWriter, Relocation, RelocationTarget};
 pub use section::{
     DebugAbbrev, DebugFrame, DebugInfo, DebugLine, DebugLineStr, DebugLoc, DebugLocLists,
     DebugRanges, DebugRngLists, DebugStr, EhFrame, Section,

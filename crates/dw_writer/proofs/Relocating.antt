@@ -1,0 +1,141 @@
+-- What the calls of relocating writers come to, and those of writers that fail at chosen calls.
+use Rattle.std.specs.Prelude.{◌≡◌, ℕ, ◌+◌, Bool, true, List, [], ◌∷◌, ◌++◌, Option, Some, None, refl, slice_get, ℤ, pos, ◌+ℤ◌, IsTrue, Result, Ok, Err, OnOk, OnErr}
+use Rattle.std.proofs.Common.{sym, ◌∙◌, ap, subst, inl, arith, append_assoc, append-nil, zero-add}
+use Rattle.std.proofs.Math.IntN.{+ℤ_idl}
+use Rattle.dw_base.specs.Numbers.{◌>>=◌, num, is_width, fits}
+use Rattle.dw_base.specs.declared.error.Error.{Error}
+use Rattle.dw_base.specs.declared.section_id.SectionId.{SectionId}
+use Rattle.dw_base.specs.declared.address.Address.TheVariants.{Constant, Symbol}
+use Rattle.dw_writer.specs.Texts.{Text, zeros, num_text, int_text}
+use Rattle.dw_writer.specs.Resolved.{sum_text, record_text}
+use Rattle.dw_writer.specs.SectionTexts.{offset_text, address_text}
+use Rattle.dw_writer.specs.Meaning.{Layout, Meaning, Records, Adds, AddsWith, AddsSome, AddsSomeWith, Replaces, ReplacesWith, ReplacesSome, ReplacesSomeWith, Appends, Patches, start_of, spelled_num}
+use Rattle.dw_writer.specs.Relocating.{relocating, record_at}
+use Rattle.dw_writer.specs.declared.relocate.Relocation.{Relocation}
+use Rattle.dw_writer.specs.declared.relocate.RelocationTarget.{RelocationTarget}
+use Rattle.dw_writer.specs.declared.relocate.RelocationTarget.TheVariants as to
+use Rattle.dw_writer.proofs.Parts.{followed-nothing, patched-nothing, AddsSome-either, num-spelled}
+use Rattle.dw_writer.proofs.Plain.{Adds-constant}
+use Rattle.dw_writer.proofs.RecordSteps.{Records-appends, Records-patches}
+use Rattle.dw_writer.proofs.Steps.{Appends-as, Patches-as}
+
+-- a call of the inner writer, beside the records
+
+pub relocated : (a b : Meaning) (rs : List Relocation) (xs : List ℕ) → Adds a b xs → Adds (relocating a rs) (relocating b rs) xs
+relocated a b rs xs p = record {
+  same = record { order = p.same.order; kind = refl; faults = p.same.faults };
+  size = p.size;
+  told = p.told;
+  records = ap (λ k. k ++ rs) p.records;
+}
+
+-- what the inner writer has added after either result, behind a record
+pub relocated_either : {T : Type 0} (r : Result T Error) (a b : Meaning) (rs qs more : List Relocation) (xs : List ℕ) → OnOk r (Adds a b xs) → OnErr r (AddsSome a b xs) → qs ≡ rs ++ more →
+    AddsSomeWith (relocating a rs) (relocating b qs) xs more
+relocated_either r a b rs qs more xs p q e =
+    let some : AddsSome a b xs = AddsSome-either r a b xs xs p q refl in
+    record {
+      count = some.count;
+      size = some.size;
+      told = some.told;
+      records = inl (ap (λ k. k ++ qs) some.records ∙ ap (λ k. a.records ++ k) e ∙ sym (append_assoc a.records rs more));
+    }
+
+-- what it has replaced, behind a record
+pub relocated_patch : {T : Type 0} (r : Result T Error) (a b : Meaning) (rs qs more : List Relocation) (p : ℕ) (xs : List ℕ) → OnErr r (ReplacesSome a b p xs) → qs ≡ rs ++ more →
+    OnErr r (ReplacesSomeWith (relocating a rs) (relocating b qs) p xs more)
+relocated_patch (Ok x) a b rs qs more p xs h e = tt
+relocated_patch (Err x) a b rs qs more p xs h e = record {
+  count = h.count;
+  size = h.size;
+  told = h.told;
+  records = inl (ap (λ k. k ++ qs) h.records ∙ ap (λ k. a.records ++ k) e ∙ sym (append_assoc a.records rs more));
+}
+
+-- Zeros behind a record resolve to the record's text.
+
+AddsWith-appends : {a c : Meaning} (w : ℕ) (target : RelocationTarget) (addend : ℤ) → AddsWith a c (zeros w) (record_at a.size w target addend) → IsTrue (is_width w) →
+    Appends a c w (λ big l. record_text big l (record { offset = a.size; size = w; target = target; addend = addend; eh_pe = None }) 0)
+AddsWith-appends {a} {c} w target addend p width =
+    let r : Relocation = record { offset = a.size; size = w; target = target; addend = addend; eh_pe = None } in
+    let b : Meaning = record a { records = a.records ++ r ∷ [] } in
+    let first : Records a b r = record { same = record { order = refl; kind = refl; faults = omega arith }; size = refl; told = refl; records = refl } in
+    let second : Adds b c (zeros w) = record { same = record { order = p.same.order; kind = p.same.kind; faults = p.same.faults }; size = p.size; told = p.told; records = p.records } in
+    Records-appends {a = a} {b = b} {c = c} {r = r} first second refl width
+
+ReplacesWith-patches : {a c : Meaning} (place w : ℕ) (target : RelocationTarget) (addend : ℤ) → ReplacesWith a c place (zeros w) (record_at place w target addend) → IsTrue (is_width w) →
+    Patches a c place w (λ big l. record_text big l (record { offset = place; size = w; target = target; addend = addend; eh_pe = None }) 0)
+ReplacesWith-patches {a} {c} place w target addend p width =
+    let r : Relocation = record { offset = place; size = w; target = target; addend = addend; eh_pe = None } in
+    let b : Meaning = record a { records = a.records ++ r ∷ [] } in
+    let first : Records a b r = record { same = record { order = refl; kind = refl; faults = omega arith }; size = refl; told = refl; records = refl } in
+    let second : Replaces b c place (zeros w) =
+    record { same = record { order = p.same.order; kind = p.same.kind; faults = p.same.faults }; within = p.within; size = p.size; told = p.told; records = p.records } in
+    Records-patches {a = a} {b = b} {c = c} {r = r} first second width
+
+offset_record : (big : Bool) (l : Layout) (p w n : ℕ) (section : SectionId) →
+    record_text big l (record { offset = p; size = w; target = to.Section section; addend = pos n; eh_pe = None }) 0 ≡ offset_text w section n big l
+unfolding record_text sum_text offset_text int_text
+offset_record big l p w n section = ap (λ k. num_text big w (k + start_of l section)) (zero-add n)
+
+symbol_value : (big : Bool) (w place : ℕ) (addend : ℤ) (v : Option ℕ) →
+    ◌≡◌ {A = Text} (v >>= λ n. sum_text big w place true None (pos 0 +ℤ addend +ℤ pos n)) (elim v [ None ↦ None | Some n ↦ int_text big w (addend +ℤ pos n) ])
+unfolding sum_text
+symbol_value big w place addend None = refl
+symbol_value big w place addend (Some n) = ap (λ z. int_text big w (z +ℤ pos n)) (+ℤ_idl addend)
+
+symbol_record : (big : Bool) (l : Layout) (p w s : ℕ) (addend : ℤ) →
+    record_text big l (record { offset = p; size = w; target = to.Symbol s; addend = addend; eh_pe = None }) 0 ≡ address_text w (Symbol s addend) big l
+unfolding record_text address_text
+symbol_record big l p w s addend = symbol_value big w (l.own_start + p) addend (slice_get l.symbols s)
+
+-- The calls of a relocating writer, from what its two steps ensure.
+
+pub offset_added : {T : Type 0} (r : Result T Error) (a b : Meaning) (w n : ℕ) (section : SectionId) (addend : ℤ) →
+    OnOk r (AddsWith a b (zeros w) (record_at a.size w (to.Section section) addend)) → addend ≡ pos n → IsTrue (is_width w) → OnOk r (Appends a b w (offset_text w section n))
+offset_added (Ok x) a b w n section addend p e width =
+    Appends-as (AddsWith-appends w (to.Section section) (pos n) (subst (λ z. AddsWith a b (zeros w) (record_at a.size w (to.Section section) z)) e p) width) refl
+    (λ big l. offset_record big l a.size w n section)
+offset_added (Err x) a b w n section addend p e width = tt
+
+pub offset_patched : {T : Type 0} (r : Result T Error) (a b : Meaning) (place w n : ℕ) (section : SectionId) (addend : ℤ) →
+    OnOk r (ReplacesWith a b place (zeros w) (record_at place w (to.Section section) addend)) → addend ≡ pos n → IsTrue (is_width w) →
+    OnOk r (Patches a b place w (offset_text w section n))
+offset_patched (Ok x) a b place w n section addend p e width =
+    Patches-as (ReplacesWith-patches place w (to.Section section) (pos n) (subst (λ z. ReplacesWith a b place (zeros w) (record_at place w (to.Section section) z)) e p) width)
+    (λ big l. offset_record big l place w n section)
+offset_patched (Err x) a b place w n section addend p e width = tt
+
+pub symbol_added : {T : Type 0} (r : Result T Error) (a b : Meaning) (w s : ℕ) (addend z : ℤ) →
+    OnOk r (AddsWith a b (zeros w) (record_at a.size w (to.Symbol s) z)) → z ≡ addend → IsTrue (is_width w) → OnOk r (Appends a b w (address_text w (Symbol s addend)))
+symbol_added (Ok x) a b w s addend z p e width =
+    Appends-as (AddsWith-appends w (to.Symbol s) addend (subst (λ k. AddsWith a b (zeros w) (record_at a.size w (to.Symbol s) k)) e p) width) refl
+    (λ big l. symbol_record big l a.size w s addend)
+symbol_added (Err x) a b w s addend z p e width = tt
+
+pub constant_added : {T : Type 0} (r : Result T Error) (a b : Meaning) (rs qs : List Relocation) (w n : ℕ) → OnOk r (Adds a b (num a.is_big w n)) → qs ≡ rs →
+    OnOk r (IsTrue (is_width w) × IsTrue (fits w n)) → OnOk r (Appends (relocating a rs) (relocating b qs) w (address_text w (Constant n)))
+constant_added (Ok x) a b rs qs w n p e fit =
+    subst (λ k. Appends (relocating a rs) (relocating b k) w (address_text w (Constant n))) (sym e) (Adds-constant w n (relocated a b rs (num a.is_big w n) p) fit.0 fit.1)
+constant_added (Err x) a b rs qs w n p e fit = tt
+
+-- a constant adds its number's first bytes, and no record
+pub constant_either : {T : Type 0} (r : Result T Error) (a b : Meaning) (rs qs : List Relocation) (w n : ℕ) → OnOk r (Adds a b (num a.is_big w n)) → OnErr r (AddsSome a b (spelled_num a.is_big w n)) →
+    qs ≡ rs → OnOk r (IsTrue (is_width w) × IsTrue (fits w n)) → AddsSomeWith (relocating a rs) (relocating b qs) (spelled_num a.is_big w n) []
+constant_either r a b rs qs w n p q e fit =
+    relocated_either r a b rs qs [] (spelled_num a.is_big w n) (spelled r p fit) q (e ∙ sym (append-nil rs))
+  where
+    spelled : {T : Type 0} (r : Result T Error) → OnOk r (Adds a b (num a.is_big w n)) → OnOk r (IsTrue (is_width w) × IsTrue (fits w n)) → OnOk r (Adds a b (spelled_num a.is_big w n))
+    spelled (Ok x) p fit = subst (λ xs. Adds a b xs) (num-spelled a.is_big w n fit.0 fit.1) p
+    spelled (Err x) p fit = tt
+
+-- a call of a plain writer that failed at once, and counted that
+
+abbrev counting : Bool → ℕ → List ℕ → ℕ → Meaning
+counting big size xs n = record { bytes = Some xs; size = size; is_big = big; is_plain = true; records = []; faults = n }
+
+pub AddsSome-faulty : (big : Bool) (size : ℕ) (xs : List ℕ) (a b : ℕ) (bytes : List ℕ) → AddsSome (counting big size xs a) (counting big size xs b) bytes
+AddsSome-faulty big size xs a b bytes = record { count = 0; size = omega arith; told = sym (followed-nothing (Some xs)); records = refl }
+
+pub ReplacesSome-faulty : (big : Bool) (size : ℕ) (xs : List ℕ) (a b p : ℕ) (bytes : List ℕ) → ReplacesSome (counting big size xs a) (counting big size xs b) p bytes
+ReplacesSome-faulty big size xs a b p bytes = record { count = 0; size = refl; told = sym (patched-nothing p (Some xs)); records = refl }

@@ -1,0 +1,14 @@
+use Rattle.std.proofs.Common.{◌≡◌, ◌∙◌, rules, to_z, of_z, w64}
+use Rattle.dw_writer.proofs.Outcomes.{OnErr-always}
+use Rattle.dw_writer.proofs.Parts.{ReplacesSomeWith-none}
+use Rattle.dw_writer.proofs.Relocating.{offset_patched}
+use Rattle.dw_writer.proofs.relocate.AnyWriter.write_offset_at.Goals as goal
+
+pub returns-in_err-addend-clause-partly : goal.returns-in_err-addend-clause-partly
+returns-in_err-addend-clause-partly g c = OnErr-always c.from_residual.result (ReplacesSomeWith-none _ c.args.offset _ _)
+
+pub returns-clause-ok : goal.returns-clause-ok
+returns-clause-ok g c =
+    let addend = c.in_ok-addend.ensures in
+    let value : to_z w64 (of_z w64 c.in_ok-addend.addend) ≡ c.in_ok-addend.addend = search rules in
+    offset_patched c.patch_relocated.result _ _ c.args.offset c.args.size c.args.val c.args.section _ c.patch_relocated.ensures.ok (value ∙ addend.ok) addend.fits.0
