@@ -12,3 +12,4 @@ pub mod DraftLaws
 pub mod WriteLaws
 pub mod FaultLaws
 pub mod Relocating
+pub mod Worked

@@ -34,6 +34,9 @@ AddsSome-none m bytes = record { count = 0; size = omega arith; told = sym (foll
 pub ReplacesSome-none : (m : Meaning) (p : ℕ) (bytes : List ℕ) → ReplacesSome m m p bytes
 ReplacesSome-none m p bytes = record { count = 0; size = refl; told = sym (patched-nothing p m.bytes); records = refl }
 
+pub replaces_nothing : (m : Meaning) (p : ℕ) (bytes : List ℕ) → ReplacesSome m m p bytes
+replaces_nothing = ReplacesSome-none
+
 pub AddsSomeWith-none : (m : Meaning) (bytes : List ℕ) (more : List Relocation) → AddsSomeWith m m bytes more
 AddsSomeWith-none m bytes more = record { count = 0; size = omega arith; told = sym (followed-nothing m.bytes); records = inr refl }
 

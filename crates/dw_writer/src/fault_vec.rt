@@ -94,6 +94,7 @@ impl<E: Endianity> Writer for FaultVec<E> {
             fault_plan self.new ≡ after_call (fault_plan self.old) }
     {
         if self.plan.next_fails() {
+            // Nothing is added.
             return Err(Error::WriteFault);
         }
         self.vec.write(bytes)
@@ -122,6 +123,7 @@ impl<E: Endianity> Writer for FaultVec<E> {
             fault_plan self.new ≡ after_call (fault_plan self.old) }
     {
         if self.plan.next_fails() {
+            // Nothing is written over.
             return Err(Error::WriteFault);
         }
         self.vec.write_at(offset, bytes)

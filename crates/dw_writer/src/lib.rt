@@ -14,6 +14,8 @@ mod section;
 mod sections;
 #[cfg(test)]
 mod tests;
+#[cfg(test)]
+mod vector_tests;
 mod writer;
 
 pub use bytes::Bytes;

@@ -259,39 +259,95 @@ fn has_no_writer_for_other_sections(rt: HostRuntime) -> std::result::Result<(), 
     Ok(())
 }
 
-/// One fixup for `.debug_info`, two for `.debug_loc` and three for `.debug_loclists`.
-fn push_fixups(sections: &mut Sections<EndianVec<LittleEndian>>) -> Result<()> {
-    let fixup = DebugInfoFixup {
-        offset: 11,
+fn fixup_at(offset: usize) -> DebugInfoFixup {
+    DebugInfoFixup {
+        offset,
         size: 4,
         unit: UnitId::new(0),
         entry: UnitEntryId::new(2),
-    };
-    sections.debug_info_fixups.push(fixup)?;
-    sections.debug_loc_fixups.push(fixup)?;
-    sections.debug_loc_fixups.push(fixup)?;
-    sections.debug_loclists_fixups.push(fixup)?;
-    sections.debug_loclists_fixups.push(fixup)?;
-    sections.debug_loclists_fixups.push(fixup)
+    }
+}
+
+/// Sections of different lengths, each with its own number in all of its bytes, and four fixups
+/// for `.debug_info`, five for `.debug_loc` and six for `.debug_loclists`.
+fn filled_sections(alloc: Global) -> Result<Sections<EndianVec<LittleEndian>>> {
+    let mut sections = new_sections(alloc)?;
+    for id in WRITTEN {
+        if let Some(section) = sections.get_mut(id) {
+            for _ in 0..id as u8 {
+                section.write_u8(id as u8)?;
+            }
+        }
+    }
+    for i in 0..6 {
+        if i < 4 {
+            sections.debug_info_fixups.push(fixup_at(i))?;
+        }
+        if i < 5 {
+            sections.debug_loc_fixups.push(fixup_at(10 + i))?;
+        }
+        sections.debug_loclists_fixups.push(fixup_at(20 + i))?;
+    }
+    Ok(sections)
+}
+
+/// Checks that the list has so many fixups, from this offset on.
+fn check_fixups(rt: &impl Abort, list: &FixupList, count: usize, from: usize) {
+    assert_eq!(rt; list.len(), count);
+    for i in 0..6 {
+        let want = if i < count {
+            Some(fixup_at(from.saturating_add(i)))
+        } else {
+            None
+        };
+        assert_eq!(rt; list.get(i), want);
+    }
+}
+
+/// Checks that the sections are filled, with one more byte of its number in each that was visited.
+fn check_filled(
+    rt: &impl Abort,
+    sections: &Sections<EndianVec<LittleEndian>>,
+    visited: &[SectionId],
+) {
+    for id in WRITTEN {
+        let more = usize::from(visited.contains(&id));
+        let length = sections.get(id).map(|section| section.len());
+        assert_eq!(rt; length, Some(id as usize + more), "{id:?}");
+        let has_own = sections.get(id).is_some_and(|section| section
+            .slice()
+            .iter()
+            .all(|byte| *byte == id as u8));
+        assert!(rt; has_own, "{id:?}");
+    }
+    check_fixups(rt, &sections.debug_info_fixups, 4, 0);
+    check_fixups(rt, &sections.debug_loc_fixups, 5, 10);
+    check_fixups(rt, &sections.debug_loclists_fixups, 6, 20);
+}
+
+/// Adds the number of each section to it, up to the one at which it fails.
+fn visit_up_to(
+    sections: &mut Sections<EndianVec<LittleEndian>>,
+    last: Option<SectionId>,
+) -> Result<()> {
+    sections.for_each_mut(|id, section| {
+        if Some(id) == last {
+            Err(Error::WriteFault)
+        } else {
+            section.write_u8(id as u8)
+        }
+    })
 }
 
 #[test]
 fn visits_sections_in_order(rt: HostRuntime) -> std::result::Result<(), Fail> {
-    let mut sections = new_sections(rt.alloc())?;
-    push_fixups(&mut sections)?;
-    let mut names = Vec::new(rt.alloc());
-    sections.for_each_mut(|id, section| {
-        names.push(id.name())?;
-        section.write_u8(7)
-    })?;
-    assert_eq!(rt; names.as_slice(), NAMES.as_slice());
-    assert_eq!(rt; sections.debug_info_fixups.len(), 1);
-    assert_eq!(rt; sections.debug_loc_fixups.len(), 2);
-    assert_eq!(rt; sections.debug_loclists_fixups.len(), 3);
+    let mut sections = filled_sections(rt.alloc())?;
+    visit_up_to(&mut sections, None)?;
+    check_filled(&rt, &sections, &WRITTEN);
     let mut names = Vec::new(rt.alloc());
     sections.for_each(|id, section| {
         names.push(id.name())?;
-        if section.len() == 1 {
+        if section.len() == id as usize + 1 {
             Ok(())
         } else {
             Err(Error::WriteFault)
@@ -303,7 +359,7 @@ fn visits_sections_in_order(rt: HostRuntime) -> std::result::Result<(), Fail> {
 
 #[test]
 fn stops_at_the_first_error(rt: HostRuntime) -> std::result::Result<(), Fail> {
-    let mut sections = new_sections(rt.alloc())?;
+    let sections = new_sections(rt.alloc())?;
     let mut ids = Vec::new(rt.alloc());
     let answer = sections.for_each(|id, _section| {
         ids.push(id)?;
@@ -315,15 +371,38 @@ fn stops_at_the_first_error(rt: HostRuntime) -> std::result::Result<(), Fail> {
     });
     assert_eq!(rt; answer, Err(Error::WriteFault));
     assert_eq!(rt; ids.as_slice(), &WRITTEN[..4]);
-    let answer = sections.for_each_mut(|id, section| {
-        if id == SectionId::DebugStr {
-            Err(Error::WriteFault)
-        } else {
-            section.write_u8(7)
-        }
-    });
-    assert_eq!(rt; answer, Err(Error::WriteFault));
-    check_one_byte(&rt, &sections, SectionId::DebugAbbrev);
+    Ok(())
+}
+
+/// No clause can say what a section holds after the loan that a visit was given.
+#[test]
+fn a_visit_that_fails_leaves_the_others(rt: HostRuntime) -> std::result::Result<(), Fail> {
+    for i in 0..11 {
+        let mut sections = filled_sections(rt.alloc())?;
+        let answer = visit_up_to(&mut sections, Some(WRITTEN[i]));
+        assert_eq!(rt; answer, Err(Error::WriteFault));
+        check_filled(&rt, &sections, &WRITTEN[..i]);
+    }
+    Ok(())
+}
+
+#[test]
+fn tells_each_section_by_its_type(rt: HostRuntime) -> std::result::Result<(), Fail> {
+    let sections = new_sections(rt.alloc())?;
+    let ids = [
+        sections.debug_abbrev.id(),
+        sections.debug_str.id(),
+        sections.debug_line_str.id(),
+        sections.debug_line.id(),
+        sections.debug_ranges.id(),
+        sections.debug_rnglists.id(),
+        sections.debug_loc.id(),
+        sections.debug_loclists.id(),
+        sections.debug_info.id(),
+        sections.debug_frame.id(),
+        sections.eh_frame.id(),
+    ];
+    assert_eq!(rt; ids, WRITTEN);
     Ok(())
 }
 

@@ -354,6 +354,7 @@ pub trait Writer {
 
     /// Writes a length over the zeros that `write_initial_length` left. In the 32-bit format a
     /// length of `0xffff_fff0` or more is refused as `InitialLengthOverflow` (DWARF 5, 7.4).
+    #[tactic(auto, using(crate::proofs::Parts::replaces_nothing))]
     final fn write_initial_length_at(
         &mut self,
         offset: usize,
