@@ -29,9 +29,10 @@ impl Model for AttributeSpecification {
         { name = a.name.0; form = a.form.0; constant = a.implicit_const_value } };
 
     ghost inverse = { λ s. record {
-        name = record { 0 = s.name };
-        form = record { 0 = s.form };
-        implicit_const_value = s.constant } };
+      name = record { 0 = s.name };
+      form = record { 0 = s.form };
+      implicit_const_value = s.constant;
+    } };
 
     ghost invariant = { λ a. IsSpecification
         (record { name = a.name.0; form = a.form.0; constant = a.implicit_const_value }) };

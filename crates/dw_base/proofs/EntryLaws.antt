@@ -7,7 +7,7 @@ use Rattle.dw_base.specs.Numbers.{◌>>=◌, number_at, num}
 use Rattle.dw_base.specs.Leb128.{groups_at, uleb_at, uleb}
 use Rattle.dw_base.specs.Forms.{Operand, Absent, Number, Signed, Bytes, Text, Kind, Empty, Fixed, Uleb, Sleb, Block, UlebBlock, Zeroed, Indirect, kind_of, text_at, number_operand, block_operand, direct_at, in_form, kind_at, form_at}
 use Rattle.dw_base.specs.Abbreviations.{Declaration}
-use Rattle.dw_base.specs.Entries.{ReadAttribute, ReadEntry, Mark, Open, Close, attributes_at, mark_at, next_depth, rows_at, children_of}
+use Rattle.dw_base.specs.Entries.{ReadAttribute, ReadEntry, Mark, Open, Null, attributes_at, mark_at, next_depth, rows_at, children_of}
 use Rattle.dw_base.specs.Spelling.{kind_bytes, operand_bytes, attribute_bytes, mark_bytes, body_bytes, rows_of}
 use Rattle.dw_base.specs.Spellable.{IsText, KindFits, FormFits, IsAttribute, specification_of, IsEntry, IsMark}
 use Rattle.dw_base.specs.declared.common.Encoding.{Encoding}
@@ -76,7 +76,7 @@ open_again big e table x rest h =
     let e3 = attributes-again big e x.attributes rest h.attributes in
     bind_is _ _ _ e1 ∙ rw e2 (bind_is _ _ _ h.declared ∙ bind_is _ _ _ e3)
 
-close_again : (big : Bool) (e : Encoding) (table : List Declaration) (rest : List ℕ) → mark_at big e table (0 ∷ rest) ≡ Some (Close, rest)
+close_again : (big : Bool) (e : Encoding) (table : List Declaration) (rest : List ℕ) → mark_at big e table (0 ∷ rest) ≡ Some (Null, rest)
 unfolding mark_at uleb_at groups_at
 close_again big e table rest = refl
 
@@ -84,12 +84,12 @@ pub mark-again : (big : Bool) (e : Encoding) (table : List Declaration) (m : Mar
 mark-again big e table (Open x) rest h =
     ap (mark_at big e table) (append_assoc (uleb x.code) (flat_map (attribute_bytes big e) x.attributes) rest)
     ∙ open_again big e table x rest h
-mark-again big e table Close rest h = close_again big e table rest
+mark-again big e table Null rest h = close_again big e table rest
 
 mark_long : (big : Bool) (e : Encoding) (m : Mark ReadEntry) → 0 < length (mark_bytes big e m)
 mark_long big e (Open x) =
     omega (arith, uleb_long x.code, length-append (uleb x.code) (flat_map (attribute_bytes big e) x.attributes))
-mark_long big e Close = omega arith
+mark_long big e Null = omega arith
 
 pub body_long : (big : Bool) (e : Encoding) (ms : List (Mark ReadEntry)) → length ms ≤ length (body_bytes big e ms)
 body_long big e [] = omega arith

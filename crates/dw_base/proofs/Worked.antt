@@ -6,7 +6,7 @@ use Rattle.dw_base.specs.Leb128.{uleb_at, uleb16_at, groups_at, sleb_at, signed_
 use Rattle.dw_base.specs.Forms.{Absent, Number, Signed, kinds, form_at, kind_of, direct_at, text_at}
 use Rattle.dw_base.specs.Abbreviations.{table_at, declarations_at, shape_at, specifications_at, shape_of_code}
 use Rattle.dw_base.specs.Headers.{header_at, is_unit_type, has_identity, has_type_offset}
-use Rattle.dw_base.specs.Entries.{Open, Close, Row, rows_at, mark_at, attributes_at, closes, is_one_tree, past_row}
+use Rattle.dw_base.specs.Entries.{Open, Null, Row, rows_at, mark_at, attributes_at, closes, is_one_tree, past_row}
 use Rattle.dw_base.specs.Pointers.{format_of, application_of, pointer_width, is_signed, distance}
 use Rattle.dw_base.specs.Info.{units_at, read_info, section_places}
 use Rattle.dw_base.specs.declared.common.Format.TheVariants.{Dwarf32, Dwarf64}
@@ -53,7 +53,7 @@ typed-read : read_info false typed_info typed_abbrev ≡ Some (
           record { from = 11; depth = 0; mark = Open (record { code = 1; tag = 0x11; has_children = true; attributes = [] }); to = 12 }
           ∷ record { from = 12; depth = 1; mark = Open (record { code = 2; tag = 0x24; has_children = false; attributes = record { name = 0x0b; form = 0x0b; constant = None; operand = Number 4 } ∷ [] }); to = 14 }
           ∷ record { from = 14; depth = 1; mark = Open (record { code = 3; tag = 0x2e; has_children = false; attributes = record { name = 0x49; form = 0x13; constant = None; operand = Number 12 } ∷ [] }); to = 19 }
-          ∷ record { from = 19; depth = 1; mark = Close; to = 20 } ∷ [];
+          ∷ record { from = 19; depth = 1; mark = Null; to = 20 } ∷ [];
     } ∷ [])
 unfolding typed_info typed_abbrev read_info units_at header_at bytes_at number_at initial_length_at table_at declarations_at shape_at specifications_at shape_of_code rows_at mark_at attributes_at form_at kind_of direct_at text_at uleb16_at uleb_at groups_at sleb_at signed_groups_at closes is_one_tree
 typed-read = refl
@@ -79,8 +79,8 @@ sibling-read : read_info false sibling_info sibling_abbrev ≡ Some (
           record { from = 12; depth = 0; mark = Open (record { code = 1; tag = 0x11; has_children = true; attributes = [] }); to = 13 }
           ∷ record { from = 13; depth = 1; mark = Open (record { code = 2; tag = 0x2e; has_children = true; attributes = record { name = 0x01; form = 0x13; constant = None; operand = Number 20 } ∷ [] }); to = 18 }
           ∷ record { from = 18; depth = 2; mark = Open (record { code = 3; tag = 0x34; has_children = false; attributes = [] }); to = 19 }
-          ∷ record { from = 19; depth = 2; mark = Close; to = 20 }
-          ∷ record { from = 20; depth = 1; mark = Close; to = 21 } ∷ [];
+          ∷ record { from = 19; depth = 2; mark = Null; to = 20 }
+          ∷ record { from = 20; depth = 1; mark = Null; to = 21 } ∷ [];
     } ∷ [])
 unfolding sibling_info sibling_abbrev read_info units_at header_at bytes_at number_at initial_length_at table_at declarations_at shape_at specifications_at shape_of_code rows_at mark_at attributes_at form_at kind_of direct_at text_at uleb16_at uleb_at groups_at sleb_at signed_groups_at closes is_one_tree
 sibling-read = refl
@@ -135,7 +135,7 @@ constant-read : read_info false constant_info constant_abbrev ≡ Some (
           record { from = 12; depth = 0; mark = Open (record { code = 1; tag = 0x11; has_children = true; attributes = [] }); to = 13 }
           ∷ record { from = 13; depth = 1; mark = Open (record { code = 2; tag = 0x34; has_children = false; attributes = record { name = 0x0b; form = 0x21; constant = Some (negsuc 0); operand = Absent } ∷ [] }); to = 14 }
           ∷ record { from = 14; depth = 1; mark = Open (record { code = 3; tag = 0x34; has_children = false; attributes = record { name = 0x0b; form = 0x21; constant = Some (pos 1); operand = Absent } ∷ [] }); to = 15 }
-          ∷ record { from = 15; depth = 1; mark = Close; to = 16 } ∷ [];
+          ∷ record { from = 15; depth = 1; mark = Null; to = 16 } ∷ [];
     } ∷ [])
 unfolding constant_info constant_abbrev read_info units_at header_at bytes_at number_at initial_length_at table_at declarations_at shape_at specifications_at shape_of_code rows_at mark_at attributes_at form_at kind_of direct_at text_at uleb16_at uleb_at groups_at sleb_at signed_groups_at closes is_one_tree
 constant-read = refl
@@ -160,7 +160,7 @@ signed-read : read_info false signed_info signed_abbrev ≡ Some (
           record { from = 11; depth = 0; mark = Open (record { code = 1; tag = 0x11; has_children = true; attributes = [] }); to = 12 }
           ∷ record { from = 12; depth = 1; mark = Open (record { code = 2; tag = 0x34; has_children = false; attributes = record { name = 0x0b; form = 0x0d; constant = None; operand = Signed (negsuc 0) } ∷ [] }); to = 14 }
           ∷ record { from = 14; depth = 1; mark = Open (record { code = 2; tag = 0x34; has_children = false; attributes = record { name = 0x0b; form = 0x0d; constant = None; operand = Signed (pos 1) } ∷ [] }); to = 16 }
-          ∷ record { from = 16; depth = 1; mark = Close; to = 17 } ∷ [];
+          ∷ record { from = 16; depth = 1; mark = Null; to = 17 } ∷ [];
     } ∷ [])
 unfolding signed_info signed_abbrev read_info units_at header_at bytes_at number_at initial_length_at table_at declarations_at shape_at specifications_at shape_of_code rows_at mark_at attributes_at form_at kind_of direct_at text_at uleb16_at uleb_at groups_at sleb_at signed_groups_at closes is_one_tree
 signed-read = refl
@@ -267,7 +267,7 @@ child_row : Row
 child_row = record { from = 18; depth = 2; mark = Open (record { code = 3; tag = 0x34; has_children = false; attributes = [] }); to = 19 }
 
 closing_rows : List Row
-closing_rows = record { from = 19; depth = 2; mark = Close; to = 20 } ∷ record { from = 20; depth = 1; mark = Close; to = 21 } ∷ []
+closing_rows = record { from = 19; depth = 2; mark = Null; to = 20 } ∷ record { from = 20; depth = 1; mark = Null; to = 21 } ∷ []
 
 past_root : past_row root_row (subprogram_row ∷ child_row ∷ closing_rows) ≡ 21
 unfolding root_row subprogram_row child_row closing_rows
@@ -286,7 +286,7 @@ place_of_second_root : section_places (record {
   from = 17;
   header = record { encoding = record { address_size = 8; format = Dwarf32; version = 5 }; unit_type = Some 1; table_offset = 8; identity = None; type_offset = None };
   table = [];
-  rows = record { from = 12; depth = 0; mark = Close; to = 13 } ∷ [];
+  rows = record { from = 12; depth = 0; mark = Null; to = 13 } ∷ [];
 }) ≡ 29 ∷ []
 place_of_second_root = refl
 

@@ -21,10 +21,10 @@ pub record ReadEntry : Type 0 where
   pub has_children : Bool
   pub attributes : List ReadAttribute
 
--- an entry, or the zero that closes a list of children
+-- an entry, or the null entry: the zero that closes a list of children (DWARF 5, 2.3)
 pub data Mark (A : Type 0) : Type 0 where
   Open : A → Mark A
-  Close : Mark A
+  Null : Mark A
 
 -- from and to are the places in the unit where the row begins and ends
 pub record Row : Type 0 where
@@ -43,14 +43,14 @@ attributes_at big e (s ∷ ss) bytes =
 -- a code, and the operands of its declaration
 unfoldable pub mark_at : Bool → Encoding → List Declaration → Parser (Mark ReadEntry)
 mark_at big e table bytes =
-    uleb_at bytes >>= λ code. if code.0 == 0 then Some (Close, code.1)
+    uleb_at bytes >>= λ code. if code.0 == 0 then Some (Null, code.1)
     else (shape_of_code table code.0 >>= λ shape. attributes_at big e shape.attributes code.1 >>= λ x.
     Some (Open (record { code = code.0; tag = shape.tag; has_children = shape.has_children; attributes = x.0 }), x.1))
 
 -- the depth of the next row
 abbrev pub next_depth : Mark ReadEntry → ℕ → ℕ
 next_depth (Open e) depth = if e.has_children then suc depth else depth
-next_depth Close depth = depth - 1
+next_depth Null depth = depth - 1
 
 -- the rows from a place on, up to the end of the bytes
 unfoldable pub rows_at : ℕ → Bool → Encoding → List Declaration → ℕ → ℕ → List ℕ → Option (List Row)
@@ -68,22 +68,22 @@ closes zero (m ∷ ms) = false
 closes (suc d) [] = false
 closes (suc d) (Open true ∷ ms) = closes (suc (suc d)) ms
 closes (suc d) (Open false ∷ ms) = closes (suc d) ms
-closes (suc d) (Close ∷ ms) = closes d ms
+closes (suc d) (Null ∷ ms) = closes d ms
 
 -- one entry with all that is under it; each entry says whether it has children
 unfoldable pub is_one_tree : List (Mark Bool) → Bool
 is_one_tree [] = false
 is_one_tree (Open true ∷ ms) = closes 1 ms
 is_one_tree (Open false ∷ ms) = closes 0 ms
-is_one_tree (Close ∷ ms) = false
+is_one_tree (Null ∷ ms) = false
 
 abbrev pub children_of : Mark ReadEntry → Mark Bool
 children_of (Open e) = Open e.has_children
-children_of Close = Close
+children_of Null = Null
 
 -- the row closes a list of children at a depth
 abbrev pub is_closing : ℕ → Row → Bool
-is_closing depth r = elim r.mark [ Open x ↦ false | Close ↦ r.depth == depth ]
+is_closing depth r = elim r.mark [ Open x ↦ false | Null ↦ r.depth == depth ]
 
 -- the place behind the first row that closes a list of children at a depth
 abbrev pub behind_read : ℕ → List Row → ℕ
@@ -92,4 +92,4 @@ behind_read depth (r ∷ rows) = if is_closing depth r then r.to else behind_rea
 
 -- the place past a row's entry, where these rows follow it: behind the zero that closes its children, or behind itself
 abbrev pub past_row : Row → List Row → ℕ
-past_row r rows = elim r.mark [ Open x ↦ (if x.has_children then behind_read (suc r.depth) rows else r.to) | Close ↦ r.to ]
+past_row r rows = elim r.mark [ Open x ↦ (if x.has_children then behind_read (suc r.depth) rows else r.to) | Null ↦ r.to ]

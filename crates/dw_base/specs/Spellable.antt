@@ -5,7 +5,7 @@ use Rattle.dw_base.specs.Numbers.{word_of, fits, length_fits, is_width}
 use Rattle.dw_base.specs.Leb128.{fits_i64}
 use Rattle.dw_base.specs.Forms.{Operand, Absent, Number, Signed, Bytes, Text, Kind, Empty, Fixed, Uleb, Sleb, Block, UlebBlock, Zeroed, implicit_const, kind_of}
 use Rattle.dw_base.specs.Abbreviations.{Specification, Shape, Declaration, is_new_code, shape_of_code}
-use Rattle.dw_base.specs.Entries.{ReadAttribute, ReadEntry, Mark, Open, Close, is_one_tree, children_of}
+use Rattle.dw_base.specs.Entries.{ReadAttribute, ReadEntry, Mark, Open, Null, is_one_tree, children_of}
 use Rattle.dw_base.specs.Spelling.{fields_bytes, body_bytes}
 use Rattle.dw_base.specs.declared.common.Encoding.{Encoding}
 
@@ -79,7 +79,7 @@ pub record IsEntry (e : Encoding) (table : List Declaration) (x : ReadEntry) : T
 
 abbrev pub IsMark : Encoding → List Declaration → Mark ReadEntry → Type 0
 IsMark e table (Open x) = IsEntry e table x
-IsMark e table Close = ⊤
+IsMark e table Null = ⊤
 
 -- a compile unit that is one tree, with its table's place
 pub record IsUnit (big : Bool) (e : Encoding) (place : ℕ) (table : List Declaration) (marks : List (Mark ReadEntry)) : Type 0 where

@@ -6,7 +6,7 @@ use Rattle.dw_base.specs.Leb128.{uleb, sleb}
 use Rattle.dw_base.specs.Forms.{Operand, Number, Signed, Bytes, Text, Kind, Fixed, Uleb, Sleb, Block, UlebBlock, Zeroed, kind_of}
 use Rattle.dw_base.specs.Abbreviations.{Specification, Shape, Declaration}
 use Rattle.dw_base.specs.Headers.{Header}
-use Rattle.dw_base.specs.Entries.{ReadAttribute, ReadEntry, Mark, Open, Close, Row, next_depth}
+use Rattle.dw_base.specs.Entries.{ReadAttribute, ReadEntry, Mark, Open, Null, Row, next_depth}
 use Rattle.dw_base.specs.Info.{ReadUnit}
 use Rattle.dw_base.specs.declared.common.Encoding.{Encoding}
 use Rattle.dw_base.specs.declared.constants.TheConstants.{DW_UT_compile}
@@ -97,7 +97,7 @@ attribute_bytes big e a = operand_bytes big (kind_of e a.form) a.operand
 -- an entry, or the zero that closes a list of children
 abbrev pub mark_bytes : Bool → Encoding → Mark ReadEntry → List ℕ
 mark_bytes big e (Open x) = uleb x.code ++ flat_map (attribute_bytes big e) x.attributes
-mark_bytes big e Close = 0 ∷ []
+mark_bytes big e Null = 0 ∷ []
 
 -- what stands in a unit after its header
 abbrev pub body_bytes : Bool → Encoding → List (Mark ReadEntry) → List ℕ

@@ -4,7 +4,7 @@ use Rattle.std.specs.Prelude.{option_and_then, not, ◌==◌, ◌||◌}
 use Rattle.std.specs.List.{flat_map, list_any, IsDistinct}
 use Rattle.std.proofs.lemmas.Bool.{and_from, and_parts, or_left, or_right, or_from, or_cases, not_from_true, not_from_false, false_from_ne_true, eq-eqb, eqb-true, false≢true}
 use Rattle.std.proofs.lemmas.Option.{none-some, same_Some}
-use Rattle.dw_base.specs.Entries.{Mark, Open, Close}
+use Rattle.dw_base.specs.Entries.{Mark, Open, Null}
 use Rattle.dw_entries.specs.Entries.{EntryValue, entry_at}
 use Rattle.dw_entries.specs.Arena.{AreLinked, HasChild}
 use Rattle.dw_entries.specs.Tree.{closed, tree_from, preorder, has_entry, are_entries_distinct}
@@ -13,7 +13,7 @@ use Rattle.dw_entries.proofs.Filtered.{not_in}
 -- an entry among marks and others is among the ones or the others
 has_entry_append : (ms ns : List (Mark ℕ)) (x : ℕ) → has_entry (ms ++ ns) x ≡ (has_entry ms x || has_entry ns x)
 has_entry_append [] ns x = refl
-has_entry_append (Close ∷ ms) ns x = has_entry_append ms ns x
+has_entry_append (Null ∷ ms) ns x = has_entry_append ms ns x
 has_entry_append (Open j ∷ ms) ns x = either (j == x) (has_entry_append ms ns x)
   where
     either : (b : Bool) → has_entry (ms ++ ns) x ≡ (has_entry ms x || has_entry ns x) → (b || has_entry (ms ++ ns) x) ≡ ((b || has_entry ms x) || has_entry ns x)
@@ -23,7 +23,7 @@ has_entry_append (Open j ∷ ms) ns x = either (j == x) (has_entry_append ms ns 
 -- marks that share no entry are distinct together
 distinct_append : (ms ns : List (Mark ℕ)) → are_entries_distinct ms ≡ true → are_entries_distinct ns ≡ true → ((x : ℕ) → has_entry ms x ≡ true → has_entry ns x ≡ false) → are_entries_distinct (ms ++ ns) ≡ true
 distinct_append [] ns d e apart = e
-distinct_append (Close ∷ ms) ns d e apart = distinct_append ms ns d e apart
+distinct_append (Null ∷ ms) ns d e apart = distinct_append ms ns d e apart
 distinct_append (Open j ∷ ms) ns d e apart =
     let parts = and_parts (not (has_entry ms j)) (are_entries_distinct ms) d in
     let fresh : has_entry ms j ≡ true → ⊥ = λ h. false≢true (sym (not_from_true (has_entry ms j) h) ∙ parts.0) in
@@ -36,12 +36,12 @@ distinct_append (Open j ∷ ms) ns d e apart =
 has_entry_closed : (cs : List ℕ) (ms : List (Mark ℕ)) (x : ℕ) → has_entry (closed cs ms) x ≡ true → has_entry ms x ≡ true
 has_entry_closed [] ms x h = absurd (false≢true h)
 has_entry_closed (c ∷ cs) ms x h =
-    ⊎_elim (λ e. e) (λ e. absurd (false≢true e)) (or_cases (has_entry ms x) false (sym (has_entry_append ms (Close ∷ []) x) ∙ h))
+    ⊎_elim (λ e. e) (λ e. absurd (false≢true e)) (or_cases (has_entry ms x) false (sym (has_entry_append ms (Null ∷ []) x) ∙ h))
 
 -- a closing mark leaves them distinct
 distinct_closed : (cs : List ℕ) (ms : List (Mark ℕ)) → are_entries_distinct ms ≡ true → are_entries_distinct (closed cs ms) ≡ true
 distinct_closed [] ms d = refl
-distinct_closed (c ∷ cs) ms d = distinct_append ms (Close ∷ []) d refl (λ x h. refl)
+distinct_closed (c ∷ cs) ms d = distinct_append ms (Null ∷ []) d refl (λ x h. refl)
 
 module _ (f : ℕ → List (Mark ℕ)) where
   -- an entry among the marks of some children is among one's

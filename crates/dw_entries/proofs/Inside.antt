@@ -3,7 +3,7 @@ use Rattle.std.proofs.Common.{◌≡◌, ap, ℕ, zero, suc, ◌<◌, ◌≤◌,
 use Rattle.std.specs.Prelude.{◌==◌, ◌||◌}
 use Rattle.std.specs.List.{flat_map, list_any}
 use Rattle.std.proofs.lemmas.Bool.{eq-eqb}
-use Rattle.dw_base.specs.Entries.{Mark, Close}
+use Rattle.dw_base.specs.Entries.{Mark, Null}
 use Rattle.dw_entries.specs.Entries.{EntryValue, entry_at}
 use Rattle.dw_entries.specs.Arena.{AreLinked}
 use Rattle.dw_entries.specs.Tree.{closed, tree_from, preorder, AreIn}
@@ -27,7 +27,7 @@ in_flat n f (c ∷ cs) h =
 
 in_closed : (n : ℕ) (cs : List ℕ) (ms : List (Mark ℕ)) → AreIn n ms → AreIn n (closed cs ms)
 in_closed n [] ms h = tt
-in_closed n (c ∷ cs) ms h = in_append n ms (Close ∷ []) h (tt, tt)
+in_closed n (c ∷ cs) ms h = in_append n ms (Null ∷ []) h (tt, tt)
 
 module _ (es : List EntryValue) (links : AreLinked es) where
   tree_in : (k i : ℕ) → i < length es → AreIn (length es) (tree_from k es i)

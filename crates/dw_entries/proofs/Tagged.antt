@@ -3,7 +3,7 @@ use Rattle.std.proofs.Common.{◌≡◌, ◌≢◌, ap, ℕ, zero, suc, ◌<◌,
 use Rattle.std.specs.Prelude.{◌==◌, ◌||◌}
 use Rattle.std.specs.List.{flat_map, list_any}
 use Rattle.std.proofs.lemmas.Bool.{eq-eqb}
-use Rattle.dw_base.specs.Entries.{Mark, Close}
+use Rattle.dw_base.specs.Entries.{Mark, Null}
 use Rattle.dw_entries.specs.Entries.{EntryValue, entry_at}
 use Rattle.dw_entries.specs.Arena.{AreLinked}
 use Rattle.dw_entries.specs.Tree.{closed, tree_from, preorder, AreTagged}
@@ -27,7 +27,7 @@ tagged_flat es f (c ∷ cs) h =
 
 tagged_closed : (es : List EntryValue) (cs : List ℕ) (ms : List (Mark ℕ)) → AreTagged es ms → AreTagged es (closed cs ms)
 tagged_closed es [] ms h = tt
-tagged_closed es (c ∷ cs) ms h = tagged_append es ms (Close ∷ []) h (tt, tt)
+tagged_closed es (c ∷ cs) ms h = tagged_append es ms (Null ∷ []) h (tt, tt)
 
 -- where the root has a tag there is a root
 pub root_within : (es : List EntryValue) → (entry_at es 0).tag ≢ 0 → 0 < length es

@@ -2,7 +2,7 @@
 use Rattle.std.proofs.Common.{◌≡◌, ◌∙◌, ap, ℕ, zero, suc, ◌-◌, ◌<◌, List, [], ◌∷◌, ◌++◌, length, map, Bool, true, refl, arith, append_assoc}
 use Rattle.std.specs.List.{flat_map}
 use Rattle.std.proofs.lemmas.List.{map-append}
-use Rattle.dw_base.specs.Entries.{Mark, Open, Close, closes, is_one_tree}
+use Rattle.dw_base.specs.Entries.{Mark, Open, Null, closes, is_one_tree}
 use Rattle.dw_entries.specs.Entries.{EntryValue, entry_at, has_any}
 use Rattle.dw_entries.specs.Tree.{children_in, closed, tree_from, preorder}
 
@@ -25,9 +25,9 @@ module _ (es : List EntryValue) where
   unfolding kinds closes
   under f h [] d rest = refl
   under f h (c ∷ cs) d rest =
-      ap (λ x. closes (suc (suc d)) (x ++ rest)) (map-append (children_in es) (flat_map f (c ∷ cs)) (Close ∷ []))
-      ∙ ap (closes (suc (suc d))) (append_assoc (map (children_in es) (flat_map f (c ∷ cs))) (Close ∷ []) rest)
-      ∙ skip_all f h (c ∷ cs) (suc d) (Close ∷ rest)
+      ap (λ x. closes (suc (suc d)) (x ++ rest)) (map-append (children_in es) (flat_map f (c ∷ cs)) (Null ∷ []))
+      ∙ ap (closes (suc (suc d))) (append_assoc (map (children_in es) (flat_map f (c ∷ cs))) (Null ∷ []) rest)
+      ∙ skip_all f h (c ∷ cs) (suc d) (Null ∷ rest)
 
   skip : (n i d : ℕ) (rest : List (Mark Bool)) → closes (suc d) (kinds (tree_from n es i) ++ rest) ≡ closes (suc d) rest
   unfolding kinds tree_from
@@ -35,16 +35,16 @@ module _ (es : List EntryValue) where
   skip (suc n) i d rest = under (tree_from n es) (skip n) (entry_at es i).children d rest
 
   -- the tree leaves as many lists open as there were
-  pub preorder_closes : closes 1 (map (children_in es) (preorder es) ++ Close ∷ []) ≡ true
+  pub preorder_closes : closes 1 (map (children_in es) (preorder es) ++ Null ∷ []) ≡ true
   unfolding kinds preorder closes
-  preorder_closes = skip (length es) 0 0 (Close ∷ [])
+  preorder_closes = skip (length es) 0 0 (Null ∷ [])
 
   root_alone : (f : ℕ → List (Mark ℕ)) → ((i d : ℕ) (rest : List (Mark Bool)) → closes (suc d) (kinds (f i) ++ rest) ≡ closes (suc d) rest) → (cs : List ℕ) → is_one_tree (Open (has_any cs) ∷ kinds (closed cs (flat_map f cs))) ≡ true
   unfolding kinds closes is_one_tree
   root_alone f h [] = refl
   root_alone f h (c ∷ cs) =
-      ap (closes 1) (map-append (children_in es) (flat_map f (c ∷ cs)) (Close ∷ []))
-      ∙ skip_all f h (c ∷ cs) 0 (Close ∷ [])
+      ap (closes 1) (map-append (children_in es) (flat_map f (c ∷ cs)) (Null ∷ []))
+      ∙ skip_all f h (c ∷ cs) 0 (Null ∷ [])
 
   one_tree : (n : ℕ) → is_one_tree (kinds (tree_from (suc n) es 0)) ≡ true
   unfolding kinds tree_from

@@ -6,7 +6,7 @@ use Rattle.std.proofs.lemmas.Bool.{ne_eqb, eqb-true, false≢true}
 use Rattle.std.proofs.lemmas.List.{append-nil, drop_all, drop_more, length-map, length_push}
 use Rattle.std.proofs.lemmas.Option.{slice_get_within, slice_get_cases, get_or_from_slice_get}
 use Rattle.std.proofs.lemmas.Map.Steps.{length-le_from_distinct_below}
-use Rattle.dw_base.specs.Entries.{Mark, Open, Close}
+use Rattle.dw_base.specs.Entries.{Mark, Open, Null}
 use Rattle.dw_entries.specs.declared.tree.Frame.{Frame}
 use Rattle.dw_entries.specs.Entries.{EntryValue, entry_at}
 use Rattle.dw_entries.specs.Tree.{closed, tree_from, preorder}
@@ -107,11 +107,11 @@ module _ (es : List EntryValue) where
       ap (λ ms. ms ++ (left_of es) n f) (pending_push n k fs g (omega arith)) ∙ append_assoc ((left_of es) k g) ((pending es) n fs) ((left_of es) n f)
 
   -- a frame that is done gives a closing mark
-  pub done_step : (n k : ℕ) (fs : List Frame) (f : Frame) (ms all : List (Mark ℕ)) → n ≡ length fs + suc k → None ≡ slice_get (entry_at es f.index).children f.next → ms ++ (pending es) n (fs ++ f ∷ []) ≡ all → (ms ++ Close ∷ []) ++ (pending es) n fs ≡ all
+  pub done_step : (n k : ℕ) (fs : List Frame) (f : Frame) (ms all : List (Mark ℕ)) → n ≡ length fs + suc k → None ≡ slice_get (entry_at es f.index).children f.next → ms ++ (pending es) n (fs ++ f ∷ []) ≡ all → (ms ++ Null ∷ []) ++ (pending es) n fs ≡ all
   done_step n k fs f ms all e past h =
       let none : drop f.next (entry_at es f.index).children ≡ [] = drop_all f.next (entry_at es f.index).children (none_past (entry_at es f.index).children f.next past) in
-      append_assoc ms (Close ∷ []) ((pending es) n fs)
-      ∙ ap (λ cs. ms ++ ((flat_map (tree_from k es) cs ++ Close ∷ []) ++ (pending es) n fs)) (sym none)
+      append_assoc ms (Null ∷ []) ((pending es) n fs)
+      ∙ ap (λ cs. ms ++ ((flat_map (tree_from k es) cs ++ Null ∷ []) ++ (pending es) n fs)) (sym none)
       ∙ ap (λ x. ms ++ x) (sym (pending_push n k fs f e))
       ∙ h
 
@@ -120,11 +120,11 @@ module _ (es : List EntryValue) where
   unfolding tree_from
   leaf k c e = ap (λ cs. Open c ∷ closed cs (flat_map (tree_from k es) cs)) e
 
-  pub branch : (k c : ℕ) → 0 < length (entry_at es c).children → tree_from (suc k) es c ≡ Open c ∷ (flat_map (tree_from k es) (entry_at es c).children ++ Close ∷ [])
+  pub branch : (k c : ℕ) → 0 < length (entry_at es c).children → tree_from (suc k) es c ≡ Open c ∷ (flat_map (tree_from k es) (entry_at es c).children ++ Null ∷ [])
   unfolding tree_from
   branch k c lt = ap (λ ms. Open c ∷ ms) (with_kids (entry_at es c).children lt)
     where
-      with_kids : (cs : List ℕ) → 0 < length cs → closed cs (flat_map (tree_from k es) cs) ≡ flat_map (tree_from k es) cs ++ Close ∷ []
+      with_kids : (cs : List ℕ) → 0 < length cs → closed cs (flat_map (tree_from k es) cs) ≡ flat_map (tree_from k es) cs ++ Null ∷ []
       with_kids [] lt = absurd (omega arith)
       with_kids (c ∷ cs) lt = refl
 
@@ -137,9 +137,9 @@ module _ (es : List EntryValue) where
       let rest = flat_map (tree_from k es) (drop (f.next + 1) cs) in
       let front : drop f.next cs ≡ c ∷ drop (f.next + 1) cs = drop_more cs f.next c lt ∙ ap (λ x. x ∷ drop (f.next + 1) cs) is in
       ap (λ x. ms ++ (tree_from k es c ++ x)) (pending_push n k fs (record { index = f.index; next = f.next + 1 }) e)
-      ∙ ap (λ x. ms ++ x) (sym (append_assoc (tree_from k es c) (rest ++ Close ∷ []) ((pending es) n fs)))
-      ∙ ap (λ x. ms ++ (x ++ (pending es) n fs)) (sym (append_assoc (tree_from k es c) rest (Close ∷ [])))
-      ∙ ap (λ x. ms ++ ((flat_map (tree_from k es) x ++ Close ∷ []) ++ (pending es) n fs)) (sym front)
+      ∙ ap (λ x. ms ++ x) (sym (append_assoc (tree_from k es c) (rest ++ Null ∷ []) ((pending es) n fs)))
+      ∙ ap (λ x. ms ++ (x ++ (pending es) n fs)) (sym (append_assoc (tree_from k es c) rest (Null ∷ [])))
+      ∙ ap (λ x. ms ++ ((flat_map (tree_from k es) x ++ Null ∷ []) ++ (pending es) n fs)) (sym front)
       ∙ ap (λ x. ms ++ x) (sym (pending_push n k fs f e))
       ∙ h
 
@@ -167,7 +167,7 @@ module _ (es : List EntryValue) where
   pub given_room : (n k : ℕ) (fs : List Frame) (f : Frame) (ms all : List (Mark ℕ)) → n ≡ length fs + suc k → ms ++ (pending es) n (fs ++ f ∷ []) ≡ all → length ms < length all
   given_room n k fs f ms all e h =
       let rest = flat_map (tree_from k es) (drop f.next (entry_at es f.index).children) in
-      omega (arith, ap length h, length-append ms ((pending es) n (fs ++ f ∷ [])), ap length (pending_push n k fs f e), length-append ((left_of es) k f) ((pending es) n fs), length-append rest (Close ∷ []))
+      omega (arith, ap length h, length-append ms ((pending es) n (fs ++ f ∷ [])), ap length (pending_push n k fs f e), length-append ((left_of es) k f) ((pending es) n fs), length-append rest (Null ∷ []))
 
   -- how deep the frames under a frame are
   pub path_depth : (fs : List Frame) (f : Frame) → (IsPath es) None (fs ++ f ∷ []) → length es ≡ length fs + suc (length es - length fs - 1)

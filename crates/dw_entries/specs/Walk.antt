@@ -1,7 +1,7 @@
 -- Where a walk down the tree stands.
 use Rattle.std.specs.Prelude.{◌≡◌, ℕ, zero, suc, ◌<◌, List, [], ◌∷◌, ◌++◌, length, drop, Option, Some}
 use Rattle.std.specs.List.{flat_map}
-use Rattle.dw_base.specs.Entries.{Mark, Close}
+use Rattle.dw_base.specs.Entries.{Mark, Null}
 use Rattle.dw_entries.specs.declared.tree.Frame.{Frame}
 use Rattle.dw_entries.specs.Entries.{EntryValue, entry_at}
 use Rattle.dw_entries.specs.Tree.{tree_from}
@@ -19,7 +19,7 @@ module _ (es : List EntryValue) where
 
   -- what one frame still has to give
   abbrev pub left_of : ℕ → Frame → List (Mark ℕ)
-  left_of n f = flat_map (tree_from n es) (drop f.next (entry_at es f.index).children) ++ Close ∷ []
+  left_of n f = flat_map (tree_from n es) (drop f.next (entry_at es f.index).children) ++ Null ∷ []
 
   -- what all frames still have to give, where the first is n deep
   unfoldable pub pending : ℕ → List Frame → List (Mark ℕ)

@@ -83,9 +83,9 @@ fn the_tree_is_flattened_in_preorder(rt: HostRuntime) -> Result<(), Fail> {
         Item::Open(0),
         Item::Open(1),
         Item::Open(3),
-        Item::Close,
+        Item::Null,
         Item::Open(2),
-        Item::Close,
+        Item::Null,
     ];
     assert_eq!(rt; items.as_slice(), in_calls_order.as_slice());
     entries.settle()?;
@@ -95,8 +95,8 @@ fn the_tree_is_flattened_in_preorder(rt: HostRuntime) -> Result<(), Fail> {
         Item::Open(2),
         Item::Open(1),
         Item::Open(3),
-        Item::Close,
-        Item::Close,
+        Item::Null,
+        Item::Null,
     ];
     assert_eq!(rt; items.as_slice(), bases_first.as_slice());
     Ok(())

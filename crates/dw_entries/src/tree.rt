@@ -15,7 +15,7 @@ pub enum Item {
     /// The entry at an index.
     Open(usize),
     /// The end of a list of children.
-    Close,
+    Null,
 }
 
 /// An entry that has children, and how many of them were visited.
@@ -89,7 +89,7 @@ pub fn flatten(
                 })?;
                 enter(entries, &mut items, &mut frames, child)?;
             }
-            None => items.push(Item::Close)?,
+            None => items.push(Item::Null)?,
         }
     }
     Ok(items)

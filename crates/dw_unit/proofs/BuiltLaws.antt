@@ -6,7 +6,7 @@ use Rattle.std.proofs.lemmas.Bool.{and_parts, or_left, or_right, or_cases, not_f
 use Rattle.std.proofs.lemmas.Option.{none-some, same_Some, slice_get-map}
 use Rattle.dw_base.specs.Abbreviations.{Declaration}
 use Rattle.dw_base.specs.Forms.{Number}
-use Rattle.dw_base.specs.Entries.{ReadAttribute, ReadEntry, Mark, Open, Close, Row, past_row}
+use Rattle.dw_base.specs.Entries.{ReadAttribute, ReadEntry, Mark, Open, Null, Row, past_row}
 use Rattle.dw_base.specs.Info.{ReadUnit}
 use Rattle.dw_base.specs.declared.common.Encoding.{Encoding}
 use Rattle.dw_base.specs.declared.ids.UnitEntryId.{UnitEntryId}
@@ -36,7 +36,7 @@ pub record IsReadIn (u : UnitValue) (r : ReadUnit) (i : ℕ) (row : Row) : Type 
 
 -- the code that an entry's row begins with
 abbrev pub code_of : Row → Option ℕ
-code_of row = elim row.mark [ Open x ↦ Some x.code | Close ↦ None ]
+code_of row = elim row.mark [ Open x ↦ Some x.code | Null ↦ None ]
 
 -- A declaration at a place of a unit's table is used: an entry has its shape, and is read with its code, which is the place
 -- counted from 1.
@@ -57,7 +57,7 @@ mark_as_read u r m = coded_mark u.encoding u.entries (places_read u r) (tree_sha
 
 -- the attribute at a position in a row
 abbrev pub attribute_at : Row → ℕ → Option ReadAttribute
-attribute_at row a = elim row.mark [ Open x ↦ slice_get x.attributes a | Close ↦ None ]
+attribute_at row a = elim row.mark [ Open x ↦ slice_get x.attributes a | Null ↦ None ]
 
 -- the position at which an entry's a-th attribute is read: one later, where DW_AT_sibling stands first
 abbrev pub position_read : EntryValue → ℕ → ℕ
@@ -67,9 +67,9 @@ position_read x a = if has_sibling x then suc a else a
 has_entry-at : (ms : List (Mark ℕ)) (n i : ℕ) → slice_get ms n ≡ Some (Open i) → has_entry ms i ≡ true
 has_entry-at [] n i h = absurd (none-some (Open i) h)
 has_entry-at (Open j ∷ ms) zero i h = let same : j ≡ i = cc in or_left (j == i) (has_entry ms i) (eq-eqb j i same)
-has_entry-at (Close ∷ ms) zero i h = absurd cc
+has_entry-at (Null ∷ ms) zero i h = absurd cc
 has_entry-at (Open j ∷ ms) (suc n) i h = or_right (j == i) (has_entry ms i) (has_entry-at ms n i h)
-has_entry-at (Close ∷ ms) (suc n) i h = has_entry-at ms n i h
+has_entry-at (Null ∷ ms) (suc n) i h = has_entry-at ms n i h
 
 -- an entry that is among the marks has a number
 number_of : (ms : List (Mark ℕ)) (i : ℕ) → has_entry ms i ≡ true → (n : ℕ) × (slice_get ms n ≡ Some (Open i))
@@ -79,7 +79,7 @@ number_of (Open j ∷ ms) i h =
     (λ here. (0, ap (λ k. Some (Open k)) (eqb-true j i here)))
     (λ behind. let w = number_of ms i behind in (suc w.0, w.1))
     (or_cases (j == i) (has_entry ms i) h)
-number_of (Close ∷ ms) i h = let w = number_of ms i h in (suc w.0, w.1)
+number_of (Null ∷ ms) i h = let w = number_of ms i h in (suc w.0, w.1)
 
 -- where no entry stands twice, the first of the marks is no entry that stands behind it
 first_other : (ms : List (Mark ℕ)) (j n i : ℕ) → not (has_entry ms j) ≡ true → slice_get ms n ≡ Some (Open i) → (j == i) ≡ false
@@ -97,7 +97,7 @@ found_at (Open j ∷ ms) (x ∷ rows) zero i row d h g =
       ap (λ (b : Bool). if b then x.from else place_read ms rows i) test ∙ ap (λ y. y.from) here,
       ap (λ (b : Bool). if b then past_row x rows else past_read ms rows i) test ∙ ap (λ y. past_row y rows) here,
     )
-found_at (Close ∷ ms) (x ∷ rows) zero i row d h g = absurd cc
+found_at (Null ∷ ms) (x ∷ rows) zero i row d h g = absurd cc
 found_at (Open j ∷ ms) (x ∷ rows) (suc n) i row d h g =
     let parts = and_parts (not (has_entry ms j)) (are_entries_distinct ms) d in
     let test = first_other ms j n i parts.0 h in
@@ -105,7 +105,7 @@ found_at (Open j ∷ ms) (x ∷ rows) (suc n) i row d h g =
       ap (λ (b : Bool). if b then x.from else place_read ms rows i) test ∙ behind.0,
       ap (λ (b : Bool). if b then past_row x rows else past_read ms rows i) test ∙ behind.1,
     )
-found_at (Close ∷ ms) (x ∷ rows) (suc n) i row d h g = found_at ms rows n i row d h g
+found_at (Null ∷ ms) (x ∷ rows) (suc n) i row d h g = found_at ms rows n i row d h g
 
 -- each entry's shape is among the tree's shapes
 Contains-entry : (e : Encoding) (es : List EntryValue) (i : ℕ) → has_entry (preorder es) i ≡ true → Contains (tree_shapes e es) (shape_of_entry e (entry_at es i))

@@ -4,7 +4,7 @@ use Rattle.std.proofs.Common.{◌≡◌, ◌∙◌, sym, ap, subst, Some, arith}
 use Rattle.std.proofs.lemmas.List.Elements.{All-nil, All-cons, All-head, All-tail}
 use Rattle.dw_base.specs.Numbers.{word_of, fits, length_fits, is_width}
 use Rattle.dw_base.specs.Abbreviations.{Shape}
-use Rattle.dw_base.specs.Entries.{Mark, Open, Close, is_one_tree, children_of}
+use Rattle.dw_base.specs.Entries.{Mark, Open, Null, is_one_tree, children_of}
 use Rattle.dw_base.specs.Spelling.{fields_bytes, body_bytes}
 use Rattle.dw_base.specs.Spellable.{IsMark, AreDeclarations, IsUnit}
 use Rattle.dw_base.specs.declared.common.Encoding.{Encoding}
@@ -20,7 +20,7 @@ pub shapes-room : (e : Encoding) (es : List EntryValue) (t : List Shape) (ms : L
 shapes-room e es t [] = omega arith
 shapes-room e es t (Open i ∷ ms) =
     let s = shape_of_entry e (entry_at es i) in omega (arith, shapes-room e es (with_shape t s) ms, with_shape-room t s)
-shapes-room e es t (Close ∷ ms) = omega (arith, shapes-room e es t ms)
+shapes-room e es t (Null ∷ ms) = omega (arith, shapes-room e es t ms)
 
 -- each entry is declared
 marks-declared : (e : Encoding) (es : List EntryValue) (p : Placement) (t : List Shape) (ms : List (Mark ℕ)) → length t + length ms < 2 ^ 64 → HaveOperands e es p ms → All (IsMark e (declarations (shapes_of e es t ms))) (tree_as_read e es p (shapes_of e es t ms) ms)
@@ -39,9 +39,9 @@ marks-declared e es p t (Open i ∷ ms) small h =
       attributes = All-head (HasOperands e es p) (Open i) ms h;
     })
     (marks-declared e es p u ms (omega (arith, room)) (All-tail (HasOperands e es p) (Open i) ms h))
-marks-declared e es p t (Close ∷ ms) small h =
+marks-declared e es p t (Null ∷ ms) small h =
     let final = shapes_of e es t ms in
-    All-cons (IsMark e (declarations final)) Close (tree_as_read e es p final ms) tt (marks-declared e es p t ms (omega arith) (All-tail (HasOperands e es p) Close ms h))
+    All-cons (IsMark e (declarations final)) Null (tree_as_read e es p final ms) tt (marks-declared e es p t ms (omega arith) (All-tail (HasOperands e es p) Null ms h))
 
 module _ (big : Bool) (e : Encoding) (place : ℕ) (es : List EntryValue) (p : Placement) (ms : List (Mark ℕ)) (shapes : List Shape) (found : shapes_of e es [] ms ≡ shapes) (from : 2 ≤ e.version) (to : e.version ≤ 5) (width : IsTrue (is_width e.address_size)) (place_fits : IsTrue (fits (word_of e.format) place)) (length_ok : IsTrue (length_fits e.format (length (fields_bytes big e place ++ body_bytes big e (tree_as_read e es p shapes ms))))) (tree : IsTrue (is_one_tree (map children_of (tree_as_read e es p shapes ms)))) (small : length ms < 2 ^ 64) where
   -- what the calls that write say is enough: the table ensures its declarations, and the body its operands

@@ -10,7 +10,7 @@ use Rattle.std.proofs.lemmas.List.Folds.{list_any-append}
 use Rattle.std.proofs.lemmas.List.Kept.{AllPairs-cons, AllPairs-filter}
 use Rattle.std.proofs.lemmas.Option.{none-some, same_Some, slice_get_within, get_or_from_slice_get}
 use Rattle.dw_base.specs.Abbreviations.{Shape, Declaration}
-use Rattle.dw_base.specs.Entries.{Mark, Open, Close}
+use Rattle.dw_base.specs.Entries.{Mark, Open, Null}
 use Rattle.dw_base.specs.declared.common.Encoding.{Encoding}
 use Rattle.dw_abbrev.specs.Equal.{shape_eq}
 use Rattle.dw_abbrev.specs.EqualLaws.{shape_Decides}
@@ -158,7 +158,7 @@ module _ (e : Encoding) (es : List EntryValue) where
       let s = shape_of_entry e (entry_at es i) in
       let rest = distinct_shapes (entry_shapes e es ms) in
       shapes_of-grown (with_shape t s) ms ∙ ap (λ u. u ++ outside u rest) (sym (insert_key-with t s)) ∙ grown (has_shape t s) t s rest refl
-  shapes_of-grown t (Close ∷ ms) = shapes_of-grown t ms
+  shapes_of-grown t (Null ∷ ms) = shapes_of-grown t ms
 
   -- The shapes that are added to a table, one entry after another, are the different ones, in the order in which each first comes.
   pub first_used_in_order : (ms : List (Mark ℕ)) → shapes_of e es [] ms ≡ distinct_shapes (entry_shapes e es ms)
@@ -178,7 +178,7 @@ module _ (e : Encoding) (es : List EntryValue) where
       (λ here. or_left (shape_eq s first) (has_shape (entry_shapes e es ms) s) ((shape_Decides s first).1 (ap (λ k. shape_of_entry e (entry_at es k)) (sym (eqb-true j i here)))))
       (λ behind. or_right (shape_eq s first) (has_shape (entry_shapes e es ms) s) (has_shape-entry ms i behind))
       (or_cases (j == i) (has_entry ms i) h)
-  has_shape-entry (Close ∷ ms) i h = has_shape-entry ms i h
+  has_shape-entry (Null ∷ ms) i h = has_shape-entry ms i h
 
   -- each of the shapes is an entry's
   pub entry_of_shape : (ms : List (Mark ℕ)) (s : Shape) → has_shape (entry_shapes e es ms) s ≡ true → (i : ℕ) × (has_entry ms i ≡ true) × (shape_of_entry e (entry_at es i) ≡ s)
@@ -189,4 +189,4 @@ module _ (e : Encoding) (es : List EntryValue) where
       (λ here. (j, or_left (j == j) (has_entry ms j) (eq-eqb j j refl), sym ((shape_Decides s first).0 here)))
       (λ behind. let w = entry_of_shape ms s behind in (w.0, or_right (j == w.0) (has_entry ms w.0) w.1, w.2))
       (or_cases (shape_eq s first) (has_shape (entry_shapes e es ms) s) h)
-  entry_of_shape (Close ∷ ms) s h = entry_of_shape ms s h
+  entry_of_shape (Null ∷ ms) s h = entry_of_shape ms s h

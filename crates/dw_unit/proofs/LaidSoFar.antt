@@ -2,7 +2,7 @@
 use Rattle.std.specs.Prelude.{◌≡◌, ℕ, suc, ◌+◌, ◌<◌, ◌≤◌, ◌^◌, true, false, ◌||◌, ◌==◌, List, [], ◌∷◌, ◌++◌, length, map, All, if◌then◌else◌}
 use Rattle.std.specs.List.{list_any}
 use Rattle.dw_base.specs.Abbreviations.{Shape}
-use Rattle.dw_base.specs.Entries.{Mark, Close, closes}
+use Rattle.dw_base.specs.Entries.{Mark, Null, closes}
 use Rattle.dw_base.specs.declared.common.Encoding.{Encoding}
 use Rattle.dw_entries.specs.Entries.{EntryValue}
 use Rattle.dw_entries.specs.Tree.{children_in, has_entry, are_entries_distinct}
@@ -28,7 +28,7 @@ module _ (e : Encoding) (es : List EntryValue) (shapes : List Shape) (start : �
   -- the marks but those that are left were laid out
   pub record IsLaid (rest : List (Mark ℕ)) (v : LayoutValue) : Type 0 where
     pub distinct : are_entries_distinct rest ≡ true
-    pub closed : closes (suc (length v.parents)) (map (children_in es) rest ++ Close ∷ []) ≡ true
+    pub closed : closes (suc (length v.parents)) (map (children_in es) rest ++ Null ∷ []) ≡ true
     pub parents_in : All (λ i. i < length es) v.parents
     pub room : length v.places ≡ length es
     pub past_room : length v.pasts ≡ length es

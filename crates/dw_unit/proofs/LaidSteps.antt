@@ -7,7 +7,7 @@ use Rattle.std.proofs.lemmas.Bool.{and_parts, not-true, ne_eqb, true≢false, fa
 use Rattle.std.proofs.lemmas.List.{length-replicate, length-set}
 use Rattle.std.proofs.lemmas.List.Elements.{All-nil, All-cons, All-head, All-tail}
 use Rattle.dw_base.specs.Abbreviations.{Shape}
-use Rattle.dw_base.specs.Entries.{Mark, Open, Close, closes}
+use Rattle.dw_base.specs.Entries.{Mark, Open, Null, closes}
 use Rattle.dw_base.specs.declared.common.Encoding.{Encoding}
 use Rattle.dw_entries.specs.Entries.{EntryValue, is_parent}
 use Rattle.dw_entries.specs.Tree.{IsIn, children_in, has_entry, are_entries_distinct}
@@ -30,18 +30,18 @@ unfolding closes
 closes_parent d ms h = h
 
 -- and behind the mark that closes one
-closes_close : (d : ℕ) (ms : List (Mark Bool)) → closes (suc d) (Close ∷ ms) ≡ true → closes d ms ≡ true
+closes_close : (d : ℕ) (ms : List (Mark Bool)) → closes (suc d) (Null ∷ ms) ≡ true → closes d ms ≡ true
 unfolding closes
 closes_close d ms h = h
 
 -- a list is open before the last mark
-closes_last : (ms : List (Mark Bool)) → closes 0 (ms ++ Close ∷ []) ≡ true → ⊥
+closes_last : (ms : List (Mark Bool)) → closes 0 (ms ++ Null ∷ []) ≡ true → ⊥
 unfolding closes
 closes_last [] h = false≢true h
 closes_last (m ∷ ms) h = false≢true h
 
 -- and only that one
-no_parents : (parents : List ℕ) → closes (suc (length parents)) (Close ∷ []) ≡ true → parents ≡ []
+no_parents : (parents : List ℕ) → closes (suc (length parents)) (Null ∷ []) ≡ true → parents ≡ []
 unfolding closes
 no_parents [] h = refl
 no_parents (i ∷ parents) h = absurd (false≢true h)
@@ -66,7 +66,7 @@ module _ (e : Encoding) (es : List EntryValue) (shapes : List Shape) (start : �
 
   -- what closes the lists behind marks
   abbrev closing : List (Mark ℕ) → List (Mark Bool)
-  closing rest = map (children_in es) rest ++ Close ∷ []
+  closing rest = map (children_in es) rest ++ Null ∷ []
 
   -- before the first mark
   pub laid_start : 0 < start → start < 2 ^ 64 → are_entries_distinct all ≡ true → closes 1 (closing all) ≡ true → is_laid all (unlaid (length es) start)
@@ -148,12 +148,12 @@ module _ (e : Encoding) (es : List EntryValue) (shapes : List Shape) (start : �
       placed = open_placed false is;
     }
 
-  close_closed : (parents : List ℕ) (rest : List (Mark ℕ)) (v : LayoutValue) → v.parents ≡ parents → is_laid (Close ∷ rest) v → closes (length parents) (closing rest) ≡ true
+  close_closed : (parents : List ℕ) (rest : List (Mark ℕ)) (v : LayoutValue) → v.parents ≡ parents → is_laid (Null ∷ rest) v → closes (length parents) (closing rest) ≡ true
   close_closed parents rest v is h =
       subst (λ (ps : List ℕ). closes (length ps) (closing rest) ≡ true) is (closes_close (length v.parents) (closing rest) h.closed)
 
   -- a list of children is closed
-  laid_close : (parents : List ℕ) (rest : List (Mark ℕ)) (v : LayoutValue) → v.parents ≡ parents → is_laid (Close ∷ rest) v → is_laid rest (closed_in parents (capped (v.end + 1)) v)
+  laid_close : (parents : List ℕ) (rest : List (Mark ℕ)) (v : LayoutValue) → v.parents ≡ parents → is_laid (Null ∷ rest) v → is_laid rest (closed_in parents (capped (v.end + 1)) v)
   laid_close [] rest v is h = absurd (closes_last (map (children_in es) rest) (close_closed [] rest v is h))
   laid_close (i ∷ parents) rest v is h =
       let to = capped (v.end + 1) in
@@ -181,7 +181,7 @@ module _ (e : Encoding) (es : List EntryValue) (shapes : List Shape) (start : �
   -- one mark on
   pub laid_step : (m : Mark ℕ) (rest : List (Mark ℕ)) (v : LayoutValue) → IsIn (length es) m → is_laid (m ∷ rest) v → is_laid rest (stepped e es (code_at e es shapes m) m v)
   laid_step (Open j) rest v within h = laid_open j rest v within h (is_parent es j) refl
-  laid_step Close rest v within h = laid_close v.parents rest v refl h
+  laid_step Null rest v within h = laid_close v.parents rest v refl h
 
   -- behind the last mark all places are kept
   pub same_placement : (v : LayoutValue) → is_laid [] v → start + sizes_of e es shapes all < 2 ^ 64 → IsSamePlacement (placement_in v) (laid_from e es shapes start all)

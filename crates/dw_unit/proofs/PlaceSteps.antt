@@ -3,7 +3,7 @@ use Rattle.std.proofs.Common.{◌≡◌, ◌∙◌, sym, ap, subst, ℕ, ◌+◌
 use Rattle.std.specs.Prelude.{IsFalse}
 use Rattle.std.proofs.lemmas.Bool.Decides.{nat_tests}
 use Rattle.dw_base.specs.Numbers.{fits, word_of, length_size, length_fits}
-use Rattle.dw_base.specs.Entries.{Mark, Close, closes}
+use Rattle.dw_base.specs.Entries.{Mark, Null, closes}
 use Rattle.dw_base.specs.Spelling.{header_size}
 use Rattle.dw_base.specs.declared.common.Encoding.{Encoding}
 use Rattle.dw_base.specs.declared.common.Format.{Format}
@@ -28,8 +28,8 @@ use Rattle.dw_entries.specs.Values.{capped}
 pub tree_distinct : (es : List EntryValue) (ms : List (Mark ℕ)) → ms ≡ preorder es → AreLinked es → are_entries_distinct ms ≡ true
 tree_distinct es ms tree links = ap are_entries_distinct tree ∙ preorder_distinct es links
 
-pub tree_closes : (es : List EntryValue) (ms : List (Mark ℕ)) → ms ≡ preorder es → closes 1 (map (children_in es) ms ++ Close ∷ []) ≡ true
-tree_closes es ms tree = ap (λ l. closes 1 (map (children_in es) l ++ Close ∷ [])) tree ∙ preorder_closes es
+pub tree_closes : (es : List EntryValue) (ms : List (Mark ℕ)) → ms ≡ preorder es → closes 1 (map (children_in es) ms ++ Null ∷ []) ≡ true
+tree_closes es ms tree = ap (λ l. closes 1 (map (children_in es) l ++ Null ∷ [])) tree ∙ preorder_closes es
 
 pub tree_codes : (e : Encoding) (es : List EntryValue) (ms : List (Mark ℕ)) (codes : List ℕ) → ms ≡ preorder es → codes ≡ map (code_at e es (shapes_of e es [] ms)) ms → codes ≡ map (code_at e es (tree_shapes e es)) ms
 tree_codes e es ms codes tree given = given ∙ ap (λ ss. map (code_at e es ss) ms) (tree_shapes-found e es ms tree)

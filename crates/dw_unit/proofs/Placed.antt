@@ -5,7 +5,7 @@ use Rattle.std.specs.List.{list_any}
 use Rattle.std.proofs.lemmas.Bool.{cases_lt, cond_both, cond-true, cond-false, or_left, or_right, or_from, or_parts, eqb-true, eqb-false, eq-eqb, ne_eqb, true≢false}
 use Rattle.std.proofs.lemmas.List.{get_or-replicate, get_or_past, length-replicate, get_or-set_same, get_or-set_other}
 use Rattle.dw_base.specs.Abbreviations.{Shape}
-use Rattle.dw_base.specs.Entries.{Mark, Open, Close}
+use Rattle.dw_base.specs.Entries.{Mark, Open, Null}
 use Rattle.dw_base.specs.declared.common.Encoding.{Encoding}
 use Rattle.dw_entries.specs.Entries.{EntryValue, is_parent}
 use Rattle.dw_entries.specs.Tree.{has_entry}
@@ -43,7 +43,7 @@ module _ (e : Encoding) (es : List EntryValue) (shapes : List Shape) where
   place_from-none at (Open j ∷ ms) i none =
       let parts = or_parts (j == i) (has_entry ms i) none in
       cond-false (j == i) _ _ parts.0 ∙ place_from-none (at + size_of e es shapes (Open j)) ms i parts.1
-  place_from-none at (Close ∷ ms) i none = place_from-none (at + 1) ms i none
+  place_from-none at (Null ∷ ms) i none = place_from-none (at + 1) ms i none
 
   -- nor is a place past it
   pub past_from-none : (at : ℕ) (ms : List (Mark ℕ)) (i : ℕ) → has_entry ms i ≡ false → past_from e es shapes at ms i ≡ 0
@@ -51,7 +51,7 @@ module _ (e : Encoding) (es : List EntryValue) (shapes : List Shape) where
   past_from-none at (Open j ∷ ms) i none =
       let parts = or_parts (j == i) (has_entry ms i) none in
       cond-false (j == i) _ _ parts.0 ∙ past_from-none (at + size_of e es shapes (Open j)) ms i parts.1
-  past_from-none at (Close ∷ ms) i none = past_from-none (at + 1) ms i none
+  past_from-none at (Null ∷ ms) i none = past_from-none (at + 1) ms i none
 
   module _ (start : ℕ) (all : List (Mark ℕ)) where
     abbrev is_placed : List (Mark ℕ) → LayoutValue → Type 0
@@ -80,7 +80,7 @@ module _ (e : Encoding) (es : List EntryValue) (shapes : List Shape) where
         (h.0 ∙ ap (λ b. behind_from e es shapes (if b then suc d else d) (at + size_of e es shapes (Open j)) rest) parent, behind_parent (suc d) at j rest parents parent h.1)
 
     -- behind the mark that closes one list the others are left
-    behind_close : (d at : ℕ) (rest : List (Mark ℕ)) (parents : List ℕ) → AreBehind e es shapes start all (suc d) at (Close ∷ rest) parents → AreBehind e es shapes start all d (at + 1) rest parents
+    behind_close : (d at : ℕ) (rest : List (Mark ℕ)) (parents : List ℕ) → AreBehind e es shapes start all (suc d) at (Null ∷ rest) parents → AreBehind e es shapes start all d (at + 1) rest parents
     behind_close d at rest [] h = tt
     behind_close d at rest (i ∷ parents) h = (h.0, behind_close (suc d) at rest parents h.1)
 
@@ -135,9 +135,9 @@ module _ (e : Encoding) (es : List EntryValue) (shapes : List Shape) where
       placed_open false is = placed_leaf is
 
     -- a list of children is closed
-    pub placed_close : (i : ℕ) (parents : List ℕ) (rest : List (Mark ℕ)) (v : LayoutValue) → v.parents ≡ i ∷ parents → i < length v.pasts → is_placed (Close ∷ rest) v → is_placed rest (closed_in (i ∷ parents) (v.end + 1) v)
+    pub placed_close : (i : ℕ) (parents : List ℕ) (rest : List (Mark ℕ)) (v : LayoutValue) → v.parents ≡ i ∷ parents → i < length v.pasts → is_placed (Null ∷ rest) v → is_placed rest (closed_in (i ∷ parents) (v.end + 1) v)
     placed_close i parents rest v is room h =
-        let behind = subst (AreBehind e es shapes start all 0 v.end (Close ∷ rest)) is h.past_behind in
+        let behind = subst (AreBehind e es shapes start all 0 v.end (Null ∷ rest)) is h.past_behind in
         record {
           sum = omega (arith, h.sum);
           place = h.place;

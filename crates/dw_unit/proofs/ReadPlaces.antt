@@ -3,7 +3,7 @@ use Rattle.std.proofs.Common.{◌≡◌, ◌∙◌, sym, ap, ℕ, zero, suc, ◌
 use Rattle.std.specs.Prelude.{◌==◌, if◌then◌else◌}
 use Rattle.std.proofs.lemmas.Bool.{eq-eqb, ne_eqb}
 use Rattle.dw_base.specs.Abbreviations.{Shape}
-use Rattle.dw_base.specs.Entries.{behind_read, ReadEntry, Mark, Open, Close, Row, next_depth}
+use Rattle.dw_base.specs.Entries.{behind_read, ReadEntry, Mark, Open, Null, Row, next_depth}
 use Rattle.dw_base.specs.Spelling.{header_size, mark_bytes, rows_of}
 use Rattle.dw_base.specs.declared.common.Encoding.{Encoding}
 use Rattle.dw_entries.specs.Entries.{EntryValue, is_parent}
@@ -45,7 +45,7 @@ module _ (big : Bool) (e : Encoding) (es : List EntryValue) (p : Placement) (sha
       let next = next_depth (coded_mark e es p shapes (Open j)) depth in
       ap (λ n. if j == i then at else n) (
       ap (λ n. place_read ms (rows n next ms) i) (after at (Open j)) ∙ place_read-rows_of ms (at + size_of e es shapes (Open j)) next i)
-  place_read-rows_of (Close ∷ ms) at depth i = place_read-rows_of ms (at + 1) (depth - 1) i
+  place_read-rows_of (Null ∷ ms) at depth i = place_read-rows_of ms (at + 1) (depth - 1) i
 
   -- the depth behind an entry, by the lists of children that are open
   deeper : (b : Bool) (level depth d : ℕ) → level ≡ suc (depth + d) → (if b then suc level else level) ≡ suc (depth + (if b then suc d else d))
@@ -60,9 +60,9 @@ module _ (big : Bool) (e : Encoding) (es : List EntryValue) (p : Placement) (sha
       let next = next_depth (coded_mark e es p shapes (Open j)) level in
       ap (λ n. behind_read (suc depth) (rows n next ms)) (after at (Open j))
       ∙ behind_read-rows_of ms (at + size_of e es shapes (Open j)) next depth (if is_parent es j then suc d else d) (deeper (is_parent es j) level depth d h)
-  behind_read-rows_of (Close ∷ ms) at level depth zero h =
+  behind_read-rows_of (Null ∷ ms) at level depth zero h =
       ap (λ (b : Bool). if b then at + 1 else behind_read (suc depth) (rows (at + 1) (level - 1) ms)) (eq-eqb level (suc depth) (omega arith))
-  behind_read-rows_of (Close ∷ ms) at level depth (suc d) h =
+  behind_read-rows_of (Null ∷ ms) at level depth (suc d) h =
       ap (λ (b : Bool). if b then at + 1 else behind_read (suc depth) (rows (at + 1) (level - 1) ms)) (ne_eqb level (suc depth) (λ same. omega arith))
       ∙ behind_read-rows_of ms (at + 1) (level - 1) depth d (omega arith)
 
@@ -81,7 +81,7 @@ module _ (big : Bool) (e : Encoding) (es : List EntryValue) (p : Placement) (sha
       ap (λ n. if j == i then (if is_parent es j then behind_read (suc depth) (rows n next ms) else n) else past_read ms (rows n next ms) i) (after at (Open j))
       ∙ ap (λ n. if j == i then n else past_read ms (rows to next ms) i) (past_one (is_parent es j) ms to depth)
       ∙ ap (λ n. if j == i then (if is_parent es j then behind_from e es shapes 0 to ms else to) else n) (past_read-rows_of ms to next i)
-  past_read-rows_of (Close ∷ ms) at depth i = past_read-rows_of ms (at + 1) (depth - 1) i
+  past_read-rows_of (Null ∷ ms) at depth i = past_read-rows_of ms (at + 1) (depth - 1) i
 
 -- The marks of the rows are what is read of the tree, where its entries are at the places at which they are read.
 pub marks_read : (big : Bool) (e : Encoding) (es : List EntryValue) →

@@ -3,7 +3,7 @@ use Rattle.std.specs.Prelude.{◌≡◌, ℕ, suc, ◌≤◌, ◌<◌, Bool, tru
 use Rattle.std.proofs.Common.{sym, ◌∙◌, ap, arith, map, get_or}
 use Rattle.std.proofs.lemmas.List.{get_or-map}
 use Rattle.dw_base.specs.Abbreviations.{Specification, Shape, shape_of_code}
-use Rattle.dw_base.specs.Entries.{Mark, Open, Close}
+use Rattle.dw_base.specs.Entries.{Mark, Open, Null}
 use Rattle.dw_base.specs.Spellable.{specification_of, shape_of}
 use Rattle.dw_base.specs.declared.common.Encoding.{Encoding}
 use Rattle.dw_abbrev.specs.Equal.{shape_eq}
@@ -71,14 +71,14 @@ module _ (e : Encoding) (es : List EntryValue) where
       let u = shape_of_entry e (entry_at es i) in
       let same = code_in-kept t s u h in
       shapes-kept (with_shape t u) ms s (omega (arith, same, length-with_shape t u)) ∙ same
-  shapes-kept t (Close ∷ ms) s h = shapes-kept t ms s h
+  shapes-kept t (Null ∷ ms) s h = shapes-kept t ms s h
 
   pub shapes-keep : (t : List Shape) (ms : List (Mark ℕ)) → KeepsCodes t (shapes_of e es t ms)
   shapes-keep t [] code s h = h
   shapes-keep t (Open i ∷ ms) code s h =
       let u = shape_of_entry e (entry_at es i) in
       shapes-keep (with_shape t u) ms code s (with_shape-keeps t u code s h)
-  shapes-keep t (Close ∷ ms) code s h = shapes-keep t ms code s h
+  shapes-keep t (Null ∷ ms) code s h = shapes-keep t ms code s h
 
   -- the code that a shape is given is that which it has among all shapes
   pub code_in-shapes : (t : List Shape) (ms : List (Mark ℕ)) (s : Shape) → code_in (shapes_of e es (with_shape t s) ms) s ≡ code_in t s
@@ -94,7 +94,7 @@ module _ (e : Encoding) (es : List EntryValue) where
 
   code_at-shapes : (t : List Shape) (ms : List (Mark ℕ)) (m : Mark ℕ) → code_at e es (shapes_of e es t (m ∷ ms)) m ≡ code_at e es t m
   code_at-shapes t ms (Open i) = code_in-shapes t ms (shape_of_entry e (entry_at es i))
-  code_at-shapes t ms Close = refl
+  code_at-shapes t ms Null = refl
 
   -- the code that a mark is given is that which it has at the end
   pub code_given : (t final : List Shape) (ms rest : List (Mark ℕ)) (m : Mark ℕ) → shapes_of e es t ms ≡ final → ms ≡ m ∷ rest → code_at e es t m ≡ code_at e es final m

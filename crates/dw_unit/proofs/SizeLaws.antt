@@ -7,7 +7,7 @@ use Rattle.dw_base.specs.Numbers.{word_of}
 use Rattle.dw_base.specs.Leb128.{uleb}
 use Rattle.dw_base.specs.Forms.{Number, Fixed, kind_of}
 use Rattle.dw_base.specs.Abbreviations.{Shape}
-use Rattle.dw_base.specs.Entries.{ReadAttribute, Mark, Open, Close}
+use Rattle.dw_base.specs.Entries.{ReadAttribute, Mark, Open, Null}
 use Rattle.dw_base.specs.Spelling.{operand_bytes, attribute_bytes, mark_bytes, body_bytes}
 use Rattle.dw_base.specs.declared.common.Encoding.{Encoding}
 use Rattle.dw_base.specs.declared.common.Format.{Format}
@@ -69,7 +69,7 @@ module _ (big : Bool) (e : Encoding) where
         let first = before_attributes x (read_sibling e (p.past i)) in
         let others = map (read_attribute e p) x.attributes in
         omega (arith, length-append (uleb code) (bytes_of (first ++ others)), ap length (flat_map-append (attribute_bytes big e) first others), length-append (bytes_of first) (bytes_of others), length-sibling x (p.past i), length-values p x.attributes)
-    length-mark_bytes Close = refl
+    length-mark_bytes Null = refl
 
     -- and marks as many as their sizes say
     pub length-body_bytes : (ms : List (Mark ℕ)) → length (body_bytes big e (tree_as_read e es p shapes ms)) ≡ sizes_of e es shapes ms

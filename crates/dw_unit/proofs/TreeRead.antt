@@ -1,7 +1,7 @@
 -- What is read of a tree.
 use Rattle.std.proofs.Common.{◌≡◌, ap, ℕ, List, [], ◌∷◌, map, refl}
 use Rattle.dw_base.specs.Abbreviations.{Shape}
-use Rattle.dw_base.specs.Entries.{Mark, Open, Close, children_of as children_mark}
+use Rattle.dw_base.specs.Entries.{Mark, Open, Null, children_of as children_mark}
 use Rattle.dw_base.specs.declared.common.Encoding.{Encoding}
 use Rattle.dw_entries.specs.Entries.{EntryValue, is_parent}
 use Rattle.dw_entries.specs.Tree.{children_in}
@@ -13,4 +13,4 @@ pub children-tree_as_read : (e : Encoding) (es : List EntryValue) (p : Placement
 children-tree_as_read e es p shapes [] = refl
 children-tree_as_read e es p shapes (Open i ∷ ms) =
     ap (λ rest. Open (is_parent es i) ∷ rest) (children-tree_as_read e es p shapes ms)
-children-tree_as_read e es p shapes (Close ∷ ms) = ap (λ rest. Close ∷ rest) (children-tree_as_read e es p shapes ms)
+children-tree_as_read e es p shapes (Null ∷ ms) = ap (λ rest. Null ∷ rest) (children-tree_as_read e es p shapes ms)

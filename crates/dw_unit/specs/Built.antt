@@ -1,6 +1,6 @@
 -- The units that are read are those that were built.
 use Rattle.std.specs.Prelude.{◌≡◌, ℕ, ◌+◌, List, [], ◌∷◌, length, map, sum_by, Some, Bool, ◌==◌, if◌then◌else◌}
-use Rattle.dw_base.specs.Entries.{Mark, Open, Close, Row, past_row}
+use Rattle.dw_base.specs.Entries.{Mark, Open, Null, Row, past_row}
 use Rattle.dw_base.specs.Info.{ReadUnit, read_info}
 use Rattle.dw_base.specs.Spelling.{header_size, unit_type_of}
 use Rattle.dw_unit.specs.UnitValue.{UnitValue}
@@ -14,14 +14,14 @@ abbrev pub place_read : List (Mark ℕ) → List Row → ℕ → ℕ
 place_read [] rows i = 0
 place_read (m ∷ ms) [] i = 0
 place_read (Open j ∷ ms) (r ∷ rows) i = if j == i then r.from else place_read ms rows i
-place_read (Close ∷ ms) (r ∷ rows) i = place_read ms rows i
+place_read (Null ∷ ms) (r ∷ rows) i = place_read ms rows i
 
 -- the place past the entry of the row that has the same number in preorder as an entry
 abbrev pub past_read : List (Mark ℕ) → List Row → ℕ → ℕ
 past_read [] rows i = 0
 past_read (m ∷ ms) [] i = 0
 past_read (Open j ∷ ms) (r ∷ rows) i = if j == i then past_row r rows else past_read ms rows i
-past_read (Close ∷ ms) (r ∷ rows) i = past_read ms rows i
+past_read (Null ∷ ms) (r ∷ rows) i = past_read ms rows i
 
 -- where the entries of a tree are read
 abbrev pub placement_read : List (Mark ℕ) → List Row → Placement

@@ -3,7 +3,7 @@ use Rattle.std.specs.Prelude.{ℕ, zero, suc, ◌+◌, List, [], ◌∷◌, leng
 use Rattle.dw_base.specs.Numbers.{word_of}
 use Rattle.dw_base.specs.Leb128.{uleb}
 use Rattle.dw_base.specs.Abbreviations.{Shape}
-use Rattle.dw_base.specs.Entries.{Mark, Open, Close}
+use Rattle.dw_base.specs.Entries.{Mark, Open, Null}
 use Rattle.dw_base.specs.declared.common.Encoding.{Encoding}
 use Rattle.dw_entries.specs.declared.attribute.Attribute.{Attribute}
 use Rattle.dw_entries.specs.Entries.{EntryValue, has_sibling, entry_at, is_parent}
@@ -27,7 +27,7 @@ entry_size e code x = length (uleb code) + (sibling_size e x + values_size e x.a
 -- the bytes of a mark with its code; a list of children is closed by one
 abbrev pub mark_size : Encoding → List EntryValue → ℕ → Mark ℕ → ℕ
 mark_size e es code (Open i) = entry_size e code (entry_at es i)
-mark_size e es code Close = 1
+mark_size e es code Null = 1
 
 module _ (e : Encoding) (es : List EntryValue) (shapes : List Shape) where
   abbrev pub size_of : Mark ℕ → ℕ
@@ -42,14 +42,14 @@ module _ (e : Encoding) (es : List EntryValue) (shapes : List Shape) where
   abbrev pub place_from : ℕ → List (Mark ℕ) → ℕ → ℕ
   place_from at [] i = 0
   place_from at (Open j ∷ ms) i = if j == i then at else place_from (at + size_of (Open j)) ms i
-  place_from at (Close ∷ ms) i = place_from (at + 1) ms i
+  place_from at (Null ∷ ms) i = place_from (at + 1) ms i
 
   -- the place behind the zero that closes the innermost list of children, or that which is d lists further out
   abbrev pub behind_from : ℕ → ℕ → List (Mark ℕ) → ℕ
   behind_from d at [] = 0
   behind_from d at (Open j ∷ ms) = behind_from (if is_parent es j then suc d else d) (at + size_of (Open j)) ms
-  behind_from zero at (Close ∷ ms) = at + 1
-  behind_from (suc d) at (Close ∷ ms) = behind_from d (at + 1) ms
+  behind_from zero at (Null ∷ ms) = at + 1
+  behind_from (suc d) at (Null ∷ ms) = behind_from d (at + 1) ms
 
   -- the place past an entry
   abbrev pub past_from : ℕ → List (Mark ℕ) → ℕ → ℕ
@@ -57,7 +57,7 @@ module _ (e : Encoding) (es : List EntryValue) (shapes : List Shape) where
   past_from at (Open j ∷ ms) i =
       if j == i then (if is_parent es j then behind_from 0 (at + size_of (Open j)) ms else at + size_of (Open j))
       else past_from (at + size_of (Open j)) ms i
-  past_from at (Close ∷ ms) i = past_from (at + 1) ms i
+  past_from at (Null ∷ ms) i = past_from (at + 1) ms i
 
   -- both, of marks of which the first stands at a place
   abbrev pub laid_from : ℕ → List (Mark ℕ) → Placement

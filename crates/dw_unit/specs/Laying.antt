@@ -1,6 +1,6 @@
 -- A layout on its way through the marks of a tree.
 use Rattle.std.specs.Prelude.{ℕ, ◌+◌, Bool, true, false, List, [], ◌∷◌, reverse, replicate, slice_index, slice_set}
-use Rattle.dw_base.specs.Entries.{Mark, Open, Close}
+use Rattle.dw_base.specs.Entries.{Mark, Open, Null}
 use Rattle.dw_base.specs.declared.common.Encoding.{Encoding}
 use Rattle.dw_unit.specs.declared.layout.Layout.{Layout}
 use Rattle.dw_entries.specs.Entries.{EntryValue, entry_at, is_parent}
@@ -40,4 +40,4 @@ closed_in (i ∷ parents) to v = record v { pasts = slice_set v.pasts i to; end 
 -- a mark is laid out with its code
 abbrev pub stepped : Encoding → List EntryValue → ℕ → Mark ℕ → LayoutValue → LayoutValue
 stepped e es code (Open i) v = entered i (capped (v.end + entry_size e code (entry_at es i))) (is_parent es i) v
-stepped e es code Close v = closed_in v.parents (capped (v.end + 1)) v
+stepped e es code Null v = closed_in v.parents (capped (v.end + 1)) v

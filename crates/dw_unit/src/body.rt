@@ -127,7 +127,7 @@ fn write_item<W: Writer>(
 {
     match item {
         Item::Open(index) => write_entry(encoding, &entries[index], index, code, places, w),
-        Item::Close => w.write_u8(0),
+        Item::Null => w.write_u8(0),
     }
 }
 

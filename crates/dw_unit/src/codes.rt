@@ -44,7 +44,7 @@ fn code_for(
             *used = abbreviation.into_attributes();
             Ok(code)
         }
-        Item::Close => Ok(0),
+        Item::Null => Ok(0),
     }
 }
 

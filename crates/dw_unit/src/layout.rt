@@ -1,7 +1,7 @@
 //! The places of a unit's entries, found before the first byte is written.
 
 ghost use Rattle.std.specs.Prelude.{◌≡◌, ◌+◌, ◌<◌, ◌≤◌, ◌^◌, ◌++◌, ◌∷◌, [], ℕ, true, length, map, All, IfOk, OnOk};
-ghost use Rattle.dw_base.specs.Entries.{Close, closes};
+ghost use Rattle.dw_base.specs.Entries.{Null, closes};
 ghost use Rattle.dw_base.specs.Spelling.{header_size as size_of_header};
 ghost use Rattle.dw_entries.specs.Tree.{AreIn, IsIn, mark_of, marks, children_in, has_entry, are_entries_distinct};
 ghost use Rattle.dw_unit.specs.Coded.{shapes_of, code_at};
@@ -128,7 +128,7 @@ impl Layout {
                 let size = entry_size(encoding, entry, code);
                 self.enter(index, size, !entry.child_ids().is_empty())
             }
-            Item::Close => {
+            Item::Null => {
                 self.close();
                 Ok(())
             }
@@ -146,7 +146,7 @@ pub(crate) fn lay_out(
 ) -> Result<Places, AllocError>
     requires within { AreIn (length entries.now) (marks items.now) }
     requires distinct { are_entries_distinct (marks items.now) ≡ true }
-    requires closed { closes 1 (map (children_in entries.now) (marks items.now) ++ Close ∷ [])
+    requires closed { closes 1 (map (children_in entries.now) (marks items.now) ++ Null ∷ [])
         ≡ true }
     requires codes { codes.now
         ≡ map (code_at encoding entries.now (shapes_of encoding entries.now [] (marks items.now)))

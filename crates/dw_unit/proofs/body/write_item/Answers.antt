@@ -20,6 +20,6 @@ returns-in-Open-clause-fits g c =
     OnOk-map c.write_entry.result c.write_entry.ensures.fits
     (λ h. subst (λ item. HasOperands e es p (mark_of item)) (sym c.in-Open.is) (subst (λ x. All (IsAttribute e) (read_attributes e p i x)) is h))
 
-pub returns-in-Close-clause-ok : goal.returns-in-Close-clause-ok
-returns-in-Close-clause-ok g c =
-    let zero = rw (num-byte _ 0 (omega arith)) at c.write_u8.ensures.ok in rw c.in-Close.is zero
+pub returns-in-Null-clause-ok : goal.returns-in-Null-clause-ok
+returns-in-Null-clause-ok g c =
+    let zero = rw (num-byte _ 0 (omega arith)) at c.write_u8.ensures.ok in rw c.in-Null.is zero
