@@ -14,3 +14,4 @@ pub mod TreeLaws
 pub mod SettledLaws
 pub mod Tagged
 pub mod Distinct
+pub mod Worked

@@ -1,0 +1,44 @@
+-- Worked rows: codes as the standard's tables have them, a small tree, and its base types moved.
+use Rattle.std.proofs.Common.{◌≡◌, List, [], ◌∷◌, refl}
+use Rattle.dw_base.specs.Entries.{Open, Null}
+use Rattle.dw_base.specs.declared.common.Encoding.{Encoding}
+use Rattle.dw_base.specs.declared.common.Format.TheVariants.{Dwarf32, Dwarf64}
+use Rattle.dw_entries.specs.declared.value.AttributeValue.TheVariants as values
+use Rattle.dw_entries.specs.Entries.{EntryValue, new_root, with_added}
+use Rattle.dw_entries.specs.Settled.{settled_entries}
+use Rattle.dw_entries.specs.Tree.{tree_from, preorder}
+use Rattle.dw_entries.specs.Values.{form_of, reference_form}
+
+-- DWARF 5, table 7.3
+root-tag : new_root.tag ≡ 0x11
+root-tag = refl
+
+-- DWARF 5, table 7.6
+forms-32 : reference_form Dwarf32 ≡ 0x13
+forms-32 = refl
+
+forms-64 : reference_form Dwarf64 ≡ 0x14
+forms-64 = refl
+
+module _ (e : Encoding) where
+  data1-form : form_of e (values.Data1 4) ≡ 0x0b
+  data1-form = refl
+
+  udata-form : form_of e (values.Udata 4) ≡ 0x0f
+  udata-form = refl
+
+  string-form : form_of e (values.String []) ≡ 0x08
+  string-form = refl
+
+-- a variable below the root, a base type behind it, and one below the variable
+small : List EntryValue
+small = with_added 4 3 1 0x24 (with_added 3 2 0 0x24 (with_added 2 1 0 0x34 (new_root ∷ [])))
+
+small-preorder : preorder small ≡ Open 0 ∷ Open 1 ∷ Open 3 ∷ Null ∷ Open 2 ∷ Null ∷ []
+unfolding small preorder tree_from
+small-preorder = refl
+
+-- only the root's own base types move
+small-settled : preorder (settled_entries small) ≡ Open 0 ∷ Open 2 ∷ Open 1 ∷ Open 3 ∷ Null ∷ Null ∷ []
+unfolding small preorder tree_from
+small-settled = refl
