@@ -70,7 +70,8 @@ impl Dwarf {
             (self.new ≡ record self.old { units = map written self.old.units }) }
         ensures valid { OnOk result (AreUnwritten self.old.units → IsValid self.old.units) }
 
-        ensures err { IfErr result (UnitsRefused W.meaning sections.old sections.new self.old.units) }
+        ensures err { IfErr result
+            (UnitsRefused W.meaning sections.old sections.new self.old.units) }
         ensures kept { OnErr result ((self.new ≡ self.old)
             ⊎ (self.new ≡ record self.old { units = map settled self.old.units })) }
         // A valid unit is refused over new plain sections only for want of memory, or by a fault

@@ -102,7 +102,8 @@ impl FailingSink {
     /// A sink that has taken nothing yet, whose calls with the numbers in `failing` are to fail.
     pub fn new(alloc: Global, failing: Vec<u64>) -> FailingSink
         ensures intake { sink_intake result ≡ record { taken = Some []; faults = 0 } }
-        ensures plan { sink_plan result ≡ record { failing = failing.items; calls = 0; faults = 0 } }
+        ensures plan { sink_plan result ≡
+            record { failing = failing.items; calls = 0; faults = 0 } }
     {
         FailingSink {
             sink: VecSink::new(alloc),

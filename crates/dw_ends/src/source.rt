@@ -102,7 +102,8 @@ impl<'a> FailingSource<'a> {
     /// A source of all these bytes, whose calls with the numbers in `failing` are to fail.
     pub fn new(bytes: &'a [u8], failing: Vec<u64>) -> FailingSource<'a>
         ensures input { source_input result ≡ record { left = Some bytes.now; faults = 0 } }
-        ensures plan { source_plan result ≡ record { failing = failing.items; calls = 0; faults = 0 } }
+        ensures plan { source_plan result ≡
+            record { failing = failing.items; calls = 0; faults = 0 } }
     {
         FailingSource {
             rest: bytes,

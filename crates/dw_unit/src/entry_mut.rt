@@ -64,7 +64,8 @@ impl<'a> EntryMut<'a> {
         ensures count { length self.new.unit.now.entries ≡ length self.old.unit.now.entries }
         ensures stored { OnOk result
             (value_in self.new.unit.now self.old.index name.0 ≡ Some value) }
-        ensures others { KeepsOtherValues self.old.unit.now self.new.unit.now self.old.index name.0 }
+        ensures others { KeepsOtherValues self.old.unit.now self.new.unit.now
+            self.old.index name.0 }
 
         ensures err { IfErr result (λ e. e ≡ NoMemory) }
         ensures kept { OnErr result (self.new.unit.now ≡ self.old.unit.now) }
@@ -83,7 +84,8 @@ impl<'a> EntryMut<'a> {
             ≡ with_entry self.old.unit.now self.old.index (without_attribute name.0) }
         ensures count { length self.new.unit.now.entries ≡ length self.old.unit.now.entries }
         ensures gone { value_in self.new.unit.now self.old.index name.0 ≡ None }
-        ensures others { KeepsOtherValues self.old.unit.now self.new.unit.now self.old.index name.0 }
+        ensures others { KeepsOtherValues self.old.unit.now self.new.unit.now
+            self.old.index name.0 }
     {
         let index = self.index;
         let unit = &mut *self.unit;

@@ -11,8 +11,8 @@ const ROOT_ALONE: &str = "09000000 0500 01 08 00000000 01";
 /// Its table.
 const ROOT_TABLE: &str = "01 11 00 00 00 00";
 
-/// A reference counts from the unit's first byte (DWARF 5, 7.5.5.5). The root stands behind the header,
-/// at 12 in version 5 and at 11 below it, and at 24 in the 64-bit format.
+/// A reference counts from the unit's first byte (DWARF 5, 7.5.5.5). The root stands behind the
+/// header, at 12 in version 5 and at 11 below it, and at 24 in the 64-bit format.
 #[test]
 fn refers_to_earlier_and_later_entries(rt: HostRuntime) -> Result<(), Fail> {
     let rows = [
@@ -141,8 +141,8 @@ fn refuses_references_out_of_the_tree(rt: HostRuntime) -> Result<(), Fail> {
     Ok(())
 }
 
-/// Codes from 128 on have two bytes. The root has 5 bytes at 12; of the 199 entries before the last one
-/// 126 have one byte, and 73 have two.
+/// Codes from 128 on have two bytes. The root has 5 bytes at 12; of the 199 entries before the last
+/// one 126 have one byte, and 73 have two.
 #[test]
 fn refers_past_codes_of_two_bytes(rt: HostRuntime) -> Result<(), Fail> {
     let mut script = String::from_str(

@@ -146,8 +146,9 @@ fn spells_codes_above_127(rt: HostRuntime) -> Result<(), Fail> {
     Ok(())
 }
 
-/// 12 bytes of the header, the root, 100,000 variables of one byte, the last one with its name in 3,
-/// and the zero that closes them: 100,017 bytes, of which 100,013 (0x186ad) stand behind the length.
+/// 12 bytes of the header, the root, 100,000 variables of one byte, the last one with its name in
+/// 3, and the zero that closes them: 100,017 bytes, of which 100,013 (0x186ad) stand behind the
+/// length.
 #[test]
 fn changes_the_last_of_many_entries(rt: HostRuntime) -> Result<(), Fail> {
     let mut script = String::from_str(rt.alloc(), "unit 5 8 32\n")?;
