@@ -109,7 +109,8 @@ impl Eq for Bytes {
 impl Hash for Bytes {
     ghost hash_input = { fed.slice fed.u8 };
 
-    ghost respects_eq = { (fed.same_Alike (fed.slice fed.u8) (pointwise_decides unsigned_Decides)).fed };
+    ghost respects_eq = { (fed.same_Alike (fed.slice fed.u8)
+        (pointwise_decides unsigned_Decides)).fed };
 
     fn hash<H: Hasher>(&self, state: &mut H) {
         self.items.hash(state);

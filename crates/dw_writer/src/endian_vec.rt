@@ -22,7 +22,14 @@ impl<E: Endianity> EndianVec<E> {
     /// A writer with no bytes.
     pub fn new(alloc: Global, endian: E) -> EndianVec<E>
         ensures { ⟦<EndianVec<E> as Writer>⟧.meaning result ≡
-            record { bytes = Some []; size = 0; is_big = E.is_big endian; is_plain = true; records = []; faults = 0 } }
+            record {
+              bytes = Some [];
+              size = 0;
+              is_big = E.is_big endian;
+              is_plain = true;
+              records = [];
+              faults = 0;
+            } }
     {
         EndianVec {
             bytes: Vec::new(alloc),
@@ -49,7 +56,8 @@ impl<E: Endianity> EndianVec<E> {
 }
 
 impl<E: Endianity> Clone for EndianVec<E> {
-    ghost is_clone = { λ s n. ⟦<EndianVec<E> as Writer>⟧.meaning n ≡ ⟦<EndianVec<E> as Writer>⟧.meaning s };
+    ghost is_clone = { λ s n.
+        ⟦<EndianVec<E> as Writer>⟧.meaning n ≡ ⟦<EndianVec<E> as Writer>⟧.meaning s };
 
     fn clone(&self) -> std::result::Result<EndianVec<E>, AllocError> {
         Ok(EndianVec {
@@ -62,7 +70,14 @@ impl<E: Endianity> Clone for EndianVec<E> {
 impl<E: Endianity> Writer for EndianVec<E> {
     type Endian = E;
 
-    ghost meaning = { λ s. record { bytes = Some s.bytes.items; size = vec_len s.bytes; is_big = E.is_big s.endian; is_plain = true; records = []; faults = 0 } };
+    ghost meaning = { λ s. record {
+      bytes = Some s.bytes.items;
+      size = vec_len s.bytes;
+      is_big = E.is_big s.endian;
+      is_plain = true;
+      records = [];
+      faults = 0;
+    } };
 
     ghost patches_in_place = { true };
 

@@ -27,8 +27,16 @@ impl<E: Endianity> FaultVec<E> {
     /// A writer with no bytes. Its calls with the numbers in `failing` are to fail.
     pub fn new(alloc: Global, endian: E, failing: Vec<u64>) -> FaultVec<E>
         ensures meaning { ⟦<FaultVec<E> as Writer>⟧.meaning result ≡
-            record { bytes = Some []; size = 0; is_big = E.is_big endian; is_plain = true; records = []; faults = 0 } }
-        ensures plan { fault_plan result ≡ record { failing = failing.items; calls = 0; faults = 0 } }
+            record {
+              bytes = Some [];
+              size = 0;
+              is_big = E.is_big endian;
+              is_plain = true;
+              records = [];
+              faults = 0;
+            } }
+        ensures plan { fault_plan result ≡
+            record { failing = failing.items; calls = 0; faults = 0 } }
     {
         FaultVec {
             vec: EndianVec::new(alloc, endian),
@@ -48,7 +56,9 @@ impl<E: Endianity> FaultVec<E> {
 impl<E: Endianity> Clone for FaultVec<E> {
     ghost use Rattle.dw_writer.specs.Faulty.{fault_plan};
 
-    ghost is_clone = { λ s n. (⟦<FaultVec<E> as Writer>⟧.meaning n ≡ ⟦<FaultVec<E> as Writer>⟧.meaning s) × (fault_plan n ≡ fault_plan s) };
+    ghost is_clone = { λ s n.
+        (⟦<FaultVec<E> as Writer>⟧.meaning n ≡ ⟦<FaultVec<E> as Writer>⟧.meaning s)
+        × (fault_plan n ≡ fault_plan s) };
 
     fn clone(&self) -> std::result::Result<FaultVec<E>, AllocError> {
         Ok(FaultVec {
@@ -89,7 +99,8 @@ impl<E: Endianity> Writer for FaultVec<E> {
             (faulty ⟦<EndianVec<E> as Writer>⟧.meaning self.new) }
         ensures chosen { IsErrOf result Error.WriteFault ↔ FailsNext (fault_plan self.old) }
         ensures failed { FailsNext (fault_plan self.old) →
-            (fault_plan self.new ≡ after_fault (fault_plan self.old)) × (self.new.vec ≡ self.old.vec) }
+            (fault_plan self.new ≡ after_fault (fault_plan self.old))
+            × (self.new.vec ≡ self.old.vec) }
         ensures went { (FailsNext (fault_plan self.old) → ⊥) →
             fault_plan self.new ≡ after_call (fault_plan self.old) }
     {
@@ -118,7 +129,8 @@ impl<E: Endianity> Writer for FaultVec<E> {
             (faulty ⟦<EndianVec<E> as Writer>⟧.meaning self.new) }
         ensures chosen { IsErrOf result Error.WriteFault ↔ FailsNext (fault_plan self.old) }
         ensures failed { FailsNext (fault_plan self.old) →
-            (fault_plan self.new ≡ after_fault (fault_plan self.old)) × (self.new.vec ≡ self.old.vec) }
+            (fault_plan self.new ≡ after_fault (fault_plan self.old))
+            × (self.new.vec ≡ self.old.vec) }
         ensures went { (FailsNext (fault_plan self.old) → ⊥) →
             fault_plan self.new ≡ after_call (fault_plan self.old) }
     {

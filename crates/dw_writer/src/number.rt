@@ -74,7 +74,8 @@ pub struct NumberBytes {
 
 impl NumberBytes {
     pub fn slice(&self) -> &[u8]
-        ensures { result.now ≡ take (self.now.end - self.now.start) (drop self.now.start self.now.bytes) }
+        ensures { result.now ≡
+            take (self.now.end - self.now.start) (drop self.now.start self.now.bytes) }
     {
         &self.bytes[self.start..self.end]
     }

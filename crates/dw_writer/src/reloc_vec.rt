@@ -20,7 +20,14 @@ impl<E: Endianity> RelocVec<E> {
     /// A writer with no bytes and no relocations.
     pub fn new(alloc: Global, endian: E) -> RelocVec<E>
         ensures { ⟦<RelocVec<E> as Writer>⟧.meaning result ≡
-            record { bytes = Some []; size = 0; is_big = E.is_big endian; is_plain = false; records = []; faults = 0 } }
+            record {
+              bytes = Some [];
+              size = 0;
+              is_big = E.is_big endian;
+              is_plain = false;
+              records = [];
+              faults = 0;
+            } }
     {
         RelocVec {
             writer: EndianVec::new(alloc, endian),
@@ -72,7 +79,8 @@ impl<E: Endianity> RelocateWriter for RelocVec<E> {
 }
 
 impl<E: Endianity> Clone for RelocVec<E> {
-    ghost is_clone = { λ s n. ⟦<RelocVec<E> as Writer>⟧.meaning n ≡ ⟦<RelocVec<E> as Writer>⟧.meaning s };
+    ghost is_clone = { λ s n.
+        ⟦<RelocVec<E> as Writer>⟧.meaning n ≡ ⟦<RelocVec<E> as Writer>⟧.meaning s };
 
     fn clone(&self) -> std::result::Result<RelocVec<E>, AllocError> {
         Ok(RelocVec {

@@ -60,7 +60,8 @@ pub trait RelocateWriter {
 
     /// The writer of the bytes.
     fn writer_mut(&mut self) -> &mut Self::Writer
-        ensures* lends { sem 𝓛 (Lends Self.row Self.Writer.row self.entry result (λ w. with_inner self.old w)) }
+        ensures* lends { sem 𝓛
+            (Lends Self.row Self.Writer.row self.entry result (λ w. with_inner self.old w)) }
         ensures value { result.now ≡ inner self.old };
 
     /// Adds a relocation behind the others.
@@ -72,7 +73,8 @@ pub trait RelocateWriter {
 
     ghost inner_with: { (s : Self) (w : Self.Writer) → inner (with_inner s w) ≡ w };
 
-    ghost relocations_with: { (s : Self) (w : Self.Writer) → relocations (with_inner s w) ≡ relocations s };
+    ghost relocations_with: { (s : Self) (w : Self.Writer) →
+        relocations (with_inner s w) ≡ relocations s };
 }
 
 impl<T: RelocateWriter> Writer for T {
@@ -143,13 +145,15 @@ fn add_relocated<T: RelocateWriter>(
         (AddsWith (relocating (T.Writer.meaning (T.inner w.old)) (T.relocations w.old))
         (relocating (T.Writer.meaning (T.inner w.new)) (T.relocations w.new)) (zeros size)
         (record_at (T.Writer.meaning (T.inner w.old)).size size target addend)) }
-    ensures partly { AddsSomeWith (relocating (T.Writer.meaning (T.inner w.old)) (T.relocations w.old))
+    ensures partly { AddsSomeWith
+        (relocating (T.Writer.meaning (T.inner w.old)) (T.relocations w.old))
         (relocating (T.Writer.meaning (T.inner w.new)) (T.relocations w.new)) (zeros size)
         (record_at (T.Writer.meaning (T.inner w.old)).size size target addend) }
     ensures err { IfErr result
         (BytesRefused (relocating (T.Writer.meaning (T.inner w.old)) (T.relocations w.old))
         (relocating (T.Writer.meaning (T.inner w.new)) (T.relocations w.new))) }
-    ensures same { IsSameWriter (relocating (T.Writer.meaning (T.inner w.old)) (T.relocations w.old))
+    ensures same { IsSameWriter
+        (relocating (T.Writer.meaning (T.inner w.old)) (T.relocations w.old))
         (relocating (T.Writer.meaning (T.inner w.new)) (T.relocations w.new)) }
 {
     let offset = w.writer().len();
@@ -187,7 +191,8 @@ fn patch_relocated<T: RelocateWriter>(
     ensures outside { IfErr result
         (KeptOutside (relocating (T.Writer.meaning (T.inner w.old)) (T.relocations w.old))
         (relocating (T.Writer.meaning (T.inner w.new)) (T.relocations w.new))) }
-    ensures same { IsSameWriter (relocating (T.Writer.meaning (T.inner w.old)) (T.relocations w.old))
+    ensures same { IsSameWriter
+        (relocating (T.Writer.meaning (T.inner w.old)) (T.relocations w.old))
         (relocating (T.Writer.meaning (T.inner w.new)) (T.relocations w.new)) }
 {
     check_place(w.writer().len(), offset, size)?;

@@ -41,7 +41,8 @@ pub trait Section<W: Writer> {
 
     /// The writer of the section's bytes.
     fn section_mut(&mut self) -> &mut W
-        ensures* lends { sem 𝓛 (Lends Self.row W.row self.entry result (λ w. with_writer self.old w)) }
+        ensures* lends { sem 𝓛
+            (Lends Self.row W.row self.entry result (λ w. with_writer self.old w)) }
         ensures value { result.now ≡ writer self.old };
 
     ghost writer_with: { (s : Self) (w : W) → writer (with_writer s w) ≡ w };

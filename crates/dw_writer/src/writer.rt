@@ -90,7 +90,8 @@ pub trait Writer {
         ensures fits { OnOk result
             (IsTrue (is_width size) × IsTrue (offset_fits (meaning self.old).is_plain size val)) }
         ensures ok { OnOk result
-            (Patches (meaning self.old) (meaning self.new) offset size (offset_text size section val)) }
+            (Patches (meaning self.old) (meaning self.new) offset size
+            (offset_text size section val)) }
         ensures err { IfErr result
             (NumberRefused size (offset_fits (meaning self.old).is_plain size val)
             (PatchRefused (meaning self.old) (meaning self.new) offset size)) }
@@ -395,5 +396,6 @@ pub trait Writer {
     }
 
     // A writer that puts offsets as they are records nothing.
-    ghost plain_records_nothing: { (w : Self) → (meaning w).is_plain ≡ true → (meaning w).records ≡ [] };
+    ghost plain_records_nothing: { (w : Self) →
+        (meaning w).is_plain ≡ true → (meaning w).records ≡ [] };
 }

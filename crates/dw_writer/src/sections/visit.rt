@@ -31,7 +31,8 @@ impl<W: Writer> Sections<W> {
     where
         F: FnMut(SectionId, &'a W) -> std::result::Result<(), E>,
         requires { F.IsAlwaysCallable f }
-        ensures { (last : F) × Visits (λ id w. section_of self.now id ≡ Some w.now) F.step f written_ids result last }
+        ensures { (last : F) × Visits
+            (λ id w. section_of self.now id ≡ Some w.now) F.step f written_ids result last }
     {
         for id in WRITTEN {
             if let Some(section) = self.get(id) {
@@ -46,7 +47,8 @@ impl<W: Writer> Sections<W> {
     where
         F: FnMut(SectionId, &'a mut W) -> std::result::Result<(), E>,
         requires { F.IsAlwaysCallable f }
-        ensures { (last : F) × Visits (λ id w. section_of self.old id ≡ Some w.now) F.step f written_ids result last }
+        ensures { (last : F) × Visits
+            (λ id w. section_of self.old id ≡ Some w.now) F.step f written_ids result last }
     {
         let Sections {
             debug_abbrev,
