@@ -6,7 +6,7 @@ use dw_base::constants::{
 };
 use dw_base::{DwEhPe, Encoding, Error, Format, Result, RunTimeEndian, UnitEntryId, UnitId};
 use dw_unit::{AttributeValue, Bytes, LineProgram, Unit};
-use dw_writer::{DebugInfoFixup, EndianVec, Sections};
+use dw_writer::{DebugInfoFixup, EndianVec, FaultVec, Sections};
 use std::alloc::Global;
 use std::test::Fail;
 
@@ -77,6 +77,35 @@ fn writes_behind_what_stands(rt: HostRuntime) -> std::result::Result<(), Fail> {
     }
     assert_eq!(rt; sections.debug_info.0.slice(), BOTH_VERSIONS.as_slice());
     assert_eq!(rt; sections.debug_abbrev.0.slice(), BOTH_TABLES.as_slice());
+    Ok(())
+}
+
+/// Each section's writer fails at its call of this number, until there is none: each fault is told,
+/// and the unit isn't written.
+#[test]
+fn answers_each_fault(rt: HostRuntime) -> std::result::Result<(), Fail> {
+    let mut faults = 0;
+    for call in 0..20 {
+        let failing = vec![in rt.alloc(); call]?;
+        let mut dwarf = dwarf_of(rt.alloc(), encoding(5))?;
+        let writer = FaultVec::new(rt.alloc(), RunTimeEndian::Little, failing);
+        let mut sections = Sections::new(rt.alloc(), writer)?;
+        assert_eq!(rt; dwarf.units.count(), 1);
+        let answer = dwarf.write(&mut sections);
+        assert_eq!(rt; dwarf.units.count(), 1);
+        assert_eq!(rt;
+            dwarf.units.get(UnitId::new(0)).is_written(),
+            answer.is_ok()
+        );
+        match answer {
+            Ok(()) => assert_eq!(rt; sections.debug_info.0.slice(), VERSION_5.as_slice()),
+            Err(error) => {
+                assert_eq!(rt; error, Error::WriteFault);
+                faults += 1;
+            }
+        }
+    }
+    assert!(rt; faults > 0 && faults < 20);
     Ok(())
 }
 
