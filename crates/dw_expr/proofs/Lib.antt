@@ -1,0 +1,2 @@
+pub mod BranchLaws
+pub mod EqualityLaws

@@ -1,0 +1,9 @@
+//! DWARF expressions: lists of operations of a stack machine, by which debuggers find a variable's
+//! place or compute a value (DWARF 5, 2.5).
+#![tactic(auto)]
+
+mod op;
+#[cfg(test)]
+mod tests;
+
+pub use op::{Expression, Operation};

@@ -1,0 +1,110 @@
+//! Copies of expressions.
+
+ghost use Rattle.std.specs.Prelude.{◌≡◌, IfOk, IfErr};
+ghost use Rattle.dw_base.specs.declared.error.Error.TheVariants.{NoMemory};
+ghost use Rattle.dw_expr.specs.Views.{node_of, nodes_in};
+
+use super::{Expression, Operation};
+use dw_base::Result;
+use std::alloc::Global;
+
+impl Expression {
+    /// A second expression of the same operations.
+    pub fn try_clone(&self) -> Result<Expression>
+        ensures ok { IfOk result (λ e. e ≡ self.now) }
+        ensures memory { IfErr result (λ e. e ≡ NoMemory) }
+    {
+        let alloc = *self.operations.allocator();
+        let operations = copy_operations(alloc, self.operations.as_slice())?;
+        Ok(Expression { operations })
+    }
+}
+
+impl Operation {
+    /// A second operation of the same operands.
+    pub fn try_clone(&self, alloc: Global) -> Result<Operation>
+        ensures ok { IfOk result (λ o. node_of o ≡ node_of self.now) }
+        ensures memory { IfErr result (λ e. e ≡ NoMemory) }
+    {
+        copy_operation(alloc, self)
+    }
+}
+
+#[cycle(copy)]
+fn copy_operations(alloc: Global, operations: &[Operation]) -> Result<Vec<Operation>>
+    ensures ok { IfOk result (λ v. nodes_in v.items ≡ nodes_in operations.now) }
+    ensures memory { IfErr result (λ e. e ≡ NoMemory) }
+{
+    let mut copies = Vec::with_capacity(alloc, operations.len())?;
+    for operation in operations {
+        let copy = copy_operation(alloc, operation)?;
+        copies.push(copy)?;
+    }
+    Ok(copies)
+}
+
+#[cycle(copy)]
+fn copy_operation(alloc: Global, operation: &Operation) -> Result<Operation>
+    ensures ok { IfOk result (λ o. node_of o ≡ node_of operation.now) }
+    ensures memory { IfErr result (λ e. e ≡ NoMemory) }
+{
+    match operation {
+        Operation::Raw(bytecode) => Ok(Operation::Raw(bytecode.try_clone()?)),
+        Operation::Simple(opcode) => Ok(Operation::Simple(*opcode)),
+        Operation::Address(address) => Ok(Operation::Address(*address)),
+        Operation::UnsignedConstant(value) => Ok(Operation::UnsignedConstant(*value)),
+        Operation::SignedConstant(value) => Ok(Operation::SignedConstant(*value)),
+        Operation::ConstantType(base, value) => Ok(Operation::ConstantType(
+            *base,
+            value.try_clone()?,
+        )),
+        Operation::FrameOffset(offset) => Ok(Operation::FrameOffset(*offset)),
+        Operation::RegisterOffset(register, offset) => Ok(Operation::RegisterOffset(
+            *register, *offset,
+        )),
+        Operation::RegisterType(register, base) => Ok(Operation::RegisterType(*register, *base)),
+        Operation::Pick(index) => Ok(Operation::Pick(*index)),
+        Operation::Deref { space } => Ok(Operation::Deref { space: *space }),
+        Operation::DerefSize { space, size } => Ok(Operation::DerefSize {
+            space: *space,
+            size: *size,
+        }),
+        Operation::DerefType { space, size, base } => Ok(Operation::DerefType {
+            space: *space,
+            size: *size,
+            base: *base,
+        }),
+        Operation::PlusConstant(value) => Ok(Operation::PlusConstant(*value)),
+        Operation::Skip(target) => Ok(Operation::Skip(*target)),
+        Operation::Branch(target) => Ok(Operation::Branch(*target)),
+        Operation::Call(entry) => Ok(Operation::Call(*entry)),
+        Operation::CallRef(entry) => Ok(Operation::CallRef(*entry)),
+        Operation::VariableValue(entry) => Ok(Operation::VariableValue(*entry)),
+        Operation::Convert(base) => Ok(Operation::Convert(*base)),
+        Operation::Reinterpret(base) => Ok(Operation::Reinterpret(*base)),
+        Operation::Register(register) => Ok(Operation::Register(*register)),
+        Operation::ImplicitValue(bytes) => Ok(Operation::ImplicitValue(bytes.try_clone()?)),
+        Operation::ImplicitPointer { entry, byte_offset } => Ok(Operation::ImplicitPointer {
+            entry: *entry,
+            byte_offset: *byte_offset,
+        }),
+        Operation::Piece { size_in_bytes } => Ok(Operation::Piece {
+            size_in_bytes: *size_in_bytes,
+        }),
+        Operation::BitPiece {
+            size_in_bits,
+            bit_offset,
+        } => Ok(Operation::BitPiece {
+            size_in_bits: *size_in_bits,
+            bit_offset: *bit_offset,
+        }),
+        Operation::ParameterRef(entry) => Ok(Operation::ParameterRef(*entry)),
+        Operation::WasmLocal(index) => Ok(Operation::WasmLocal(*index)),
+        Operation::WasmGlobal(index) => Ok(Operation::WasmGlobal(*index)),
+        Operation::WasmStack(index) => Ok(Operation::WasmStack(*index)),
+        Operation::EntryValue(expression) => {
+            let operations = copy_operations(alloc, expression.operations.as_slice())?;
+            Ok(Operation::EntryValue(Expression { operations }))
+        }
+    }
+}

@@ -1,0 +1,86 @@
+use crate::{Expression, Operation};
+use dw_base::constants::{DW_OP_nop, DW_OP_stack_value};
+use dw_base::{Address, DebugInfoRef, Register, Result, UnitEntryId, UnitId};
+use dw_writer::Bytes;
+use std::alloc::Global;
+use std::hash::{DefaultHasher, Hash, Hasher};
+use std::test::Fail;
+
+mod calls;
+
+/// An entry of the unit.
+fn entry(index: usize) -> UnitEntryId {
+    UnitEntryId::new(index)
+}
+
+/// The second entry of the third unit, by its place in the section.
+fn far() -> DebugInfoRef {
+    DebugInfoRef::Entry(UnitId::new(2), UnitEntryId::new(1))
+}
+
+/// What a hasher makes of an expression.
+fn hash_of(expression: &Expression) -> u64 {
+    let mut state = DefaultHasher::new();
+    expression.hash(&mut state);
+    state.finish()
+}
+
+/// `DW_OP_fbreg -20` within an entry value, and a branch to its end.
+fn nested(alloc: Global) -> Result<Expression> {
+    let mut inner = Expression::new(alloc);
+    inner.op_fbreg(-20)?;
+    let mut outer = Expression::new(alloc);
+    outer.op_entry_value(inner)?;
+    let branch = outer.op_bra()?;
+    outer.set_target(branch, outer.next_index());
+    Ok(outer)
+}
+
+#[test]
+fn equal_expressions_have_equal_hashes(rt: HostRuntime) -> std::result::Result<(), Fail> {
+    let one = nested(rt.alloc())?;
+    let other = nested(rt.alloc())?;
+    assert!(rt; one == other);
+    assert_eq!(rt; hash_of(&one), hash_of(&other));
+    let copy = one.try_clone()?;
+    assert!(rt; copy == one);
+    let mut more = one.try_clone()?;
+    more.op(DW_OP_stack_value)?;
+    assert!(rt; more != one);
+    assert!(rt; hash_of(&more) != hash_of(&one));
+    Ok(())
+}
+
+#[test]
+fn only_one_raw_operation_is_raw(rt: HostRuntime) -> std::result::Result<(), Fail> {
+    let mut expression = Expression::raw(rt.alloc(), Bytes::new(rt.alloc(), &[0x12, 0x96])?)?;
+    assert_eq!(rt; expression.as_raw(), Some([0x12, 0x96].as_slice()));
+    assert_eq!(rt; expression.next_index(), 1);
+    expression.op(DW_OP_nop)?;
+    assert_eq!(rt; expression.as_raw(), None);
+    assert_eq!(rt; Expression::new(rt.alloc()).as_raw(), None);
+    Ok(())
+}
+
+#[test]
+fn only_branches_are_branches(rt: HostRuntime) -> std::result::Result<(), Fail> {
+    let mut expression = Expression::new(rt.alloc());
+    expression.op_addr(Address::Constant(1))?;
+    let skip = expression.op_skip()?;
+    let bra = expression.op_bra()?;
+    assert_eq!(rt; skip, 1);
+    assert_eq!(rt; bra, 2);
+    assert!(rt; !expression.is_branch(0));
+    assert!(rt; expression.is_branch(1));
+    assert!(rt; expression.is_branch(2));
+    assert!(rt; !expression.is_branch(3));
+    expression.set_target(skip, 0);
+    expression.set_target(bra, 3);
+    let operations = vec![in rt.alloc();
+        Operation::Address(Address::Constant(1)),
+        Operation::Skip(Some(0)),
+        Operation::Branch(Some(3)),
+    ]?;
+    assert!(rt; expression == Expression::from_operations(rt.alloc(), operations));
+    Ok(())
+}
