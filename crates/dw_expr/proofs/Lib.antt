@@ -1,2 +1,3 @@
 pub mod BranchLaws
 pub mod EqualityLaws
+pub mod SizeLaws

@@ -5,3 +5,8 @@ pub mod Views
 pub mod Falls
 pub mod Calls
 pub mod Equality
+pub mod Operands
+pub mod OperandViews
+pub mod Places
+pub mod Spelling
+pub mod Causes

@@ -3,7 +3,9 @@
 #![tactic(auto)]
 
 mod op;
+mod places;
 #[cfg(test)]
 mod tests;
 
 pub use op::{Expression, Operation};
+pub use places::EntryPlaces;

@@ -8,6 +8,8 @@ ghost use Rattle.dw_expr.specs.Calls.{Pushes, raw_in, is_branch, is_branch_at, l
 
 mod copy;
 mod equality;
+mod operands;
+mod size;
 
 use dw_base::{Address, DebugInfoRef, DwOp, Register, Result, UnitEntryId};
 use dw_writer::Bytes;
