@@ -1,3 +1,8 @@
 pub mod BranchLaws
 pub mod EqualityLaws
 pub mod SizeLaws
+pub mod WriteSteps
+pub mod PartLaws
+pub mod Kept
+pub mod Placing
+mod Worked

@@ -10,6 +10,7 @@ mod copy;
 mod equality;
 mod operands;
 mod size;
+mod write;
 
 use dw_base::{Address, DebugInfoRef, DwOp, Register, Result, UnitEntryId};
 use dw_writer::Bytes;
@@ -34,7 +35,8 @@ pub struct Expression {
 /// operations have codes of their own below version 5, as GNU extensions.
 ///
 /// ```
-/// let operations = vec![in alloc; Operation::Register(Register(5)), Operation::Piece { size_in_bytes: 4 }]?;
+/// let low = Operation::Register(Register(5));
+/// let operations = vec![in alloc; low, Operation::Piece { size_in_bytes: 4 }]?;
 /// let expression = Expression::from_operations(alloc, operations);
 /// ```
 #[cycle(expression)]
@@ -256,7 +258,8 @@ impl Expression {
 
     /// Adds `DW_OP_bregx`, or `DW_OP_breg0` to `DW_OP_breg31` for a register below 32.
     pub fn op_breg(&mut self, register: Register, offset: i64) -> Result<()>
-        ensures { Pushes result self.old self.new (node_of (Operation.RegisterOffset register offset)) }
+        ensures { Pushes result self.old self.new
+            (node_of (Operation.RegisterOffset register offset)) }
     {
         self.push(Operation::RegisterOffset(register, offset))
     }
@@ -412,7 +415,8 @@ impl Expression {
     /// Adds `DW_OP_implicit_pointer`. The entry's place in `.debug_info` takes a word, and in
     /// version 2 an address.
     pub fn op_implicit_pointer(&mut self, entry: DebugInfoRef, byte_offset: i64) -> Result<()>
-        ensures { Pushes result self.old self.new (node_of (Operation.ImplicitPointer entry byte_offset)) }
+        ensures { Pushes result self.old self.new
+            (node_of (Operation.ImplicitPointer entry byte_offset)) }
     {
         self.push(Operation::ImplicitPointer { entry, byte_offset })
     }
@@ -426,7 +430,8 @@ impl Expression {
 
     /// Adds `DW_OP_bit_piece`.
     pub fn op_bit_piece(&mut self, size_in_bits: u64, bit_offset: u64) -> Result<()>
-        ensures { Pushes result self.old self.new (node_of (Operation.BitPiece size_in_bits bit_offset)) }
+        ensures { Pushes result self.old self.new
+            (node_of (Operation.BitPiece size_in_bits bit_offset)) }
     {
         self.push(Operation::BitPiece {
             size_in_bits,
@@ -462,7 +467,8 @@ impl Expression {
         self.push(Operation::WasmStack(index))
     }
 
-    /// Lets the branch of this index lead to another operation, or behind the last. Takes no memory.
+    /// Lets the branch of this index lead to another operation, or behind the last. Takes no
+    /// memory.
     pub fn set_target(&mut self, operation: usize, new_target: usize)
         requires branch { IsTrue (is_branch_at self.old operation) }
         requires other { new_target ≢ operation }

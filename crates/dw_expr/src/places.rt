@@ -7,7 +7,17 @@ ghost use Rattle.dw_expr.specs.Places.{known_by, place_by};
 
 use dw_base::{Error, Result, UnitEntryId};
 
-/// Where the entries of a unit stand, counted from the begin of its header.
+/// Where the entries of a unit stand, in bytes from the begin of its header (2.5.1).
+///
+/// ```
+/// impl EntryPlaces for Places {
+///     ghost places = { λ p i. slice_get p.places.items i };
+///
+///     fn unit_place(&self, id: UnitEntryId) -> Option<u64> {
+///         self.places.get(id.index()).copied()
+///     }
+/// }
+/// ```
 pub trait EntryPlaces {
     ghost places: { Self → ℕ → Option ℕ };
 
@@ -18,11 +28,12 @@ pub trait EntryPlaces {
 
 /// The place of an entry that an expression names.
 pub fn entry_place<P: EntryPlaces>(places: Option<&P>, id: UnitEntryId) -> Result<u64>
-    ensures ok { IfOk result (λ n. place_by (known_by P.places places.entry) id.0 ≡ Some n) }
-    ensures sound { OnOk result
-        ((e : AnError) → IsFalse (entry_fails (known_by P.places places.entry) id.0 e)) }
-    ensures err { IfErr result
-        (λ e. IsTrue (entry_fails (known_by P.places places.entry) id.0 e)) }
+    ensures ok { let known = known_by P.places places.entry in
+        IfOk result (λ n. place_by known id.0 ≡ Some n) }
+    ensures sound { let known = known_by P.places places.entry in
+        OnOk result ((e : AnError) → IsFalse (entry_fails known id.0 e)) }
+    ensures err { let known = known_by P.places places.entry in
+        IfErr result (λ e. IsTrue (entry_fails known id.0 e)) }
 {
     let Some(known) = places else {
         return Err(Error::UnsupportedCfiExpressionReference);

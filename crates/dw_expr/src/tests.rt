@@ -1,12 +1,46 @@
-use crate::{Expression, Operation};
+use crate::{EntryPlaces, Expression, Operation};
 use dw_base::constants::{DW_OP_nop, DW_OP_stack_value};
-use dw_base::{Address, DebugInfoRef, Register, Result, UnitEntryId, UnitId};
-use dw_writer::Bytes;
+use dw_base::{Address, DebugInfoRef, Encoding, Format, LittleEndian, Result, UnitEntryId, UnitId};
+use dw_writer::{Bytes, DebugInfoFixup, EndianVec, FixupList};
 use std::alloc::Global;
 use std::hash::{DefaultHasher, Hash, Hasher};
 use std::test::Fail;
 
+mod branches;
+mod bytes;
 mod calls;
+mod refusals;
+
+/// The places of a unit's entries, by their index; a place of 0 is none.
+#[derive(Drop)]
+struct Places {
+    places: Vec<u64>,
+}
+
+impl EntryPlaces for Places {
+    ghost use Rattle.std.specs.Prelude.{slice_get};
+
+    ghost places = { λ p i. slice_get p.places.items i };
+
+    fn unit_place(&self, id: UnitEntryId) -> Option<u64> {
+        self.places.get(id.0).copied()
+    }
+}
+
+/// A unit in which entry 0 stands at 11, entry 1 at 127, entry 2 at 128 and entry 3 at 16384.
+fn unit_places(alloc: Global) -> Result<Places> {
+    let places = vec![in alloc; 0x0b, 0x7f, 0x80, 0x4000]?;
+    Ok(Places { places })
+}
+
+/// An encoding of the 32-bit format with addresses of four bytes, and of two in version 2.
+fn encoding(version: u16) -> Encoding {
+    Encoding {
+        address_size: if version == 2 { 2 } else { 4 },
+        format: Format::Dwarf32,
+        version,
+    }
+}
 
 /// An entry of the unit.
 fn entry(index: usize) -> UnitEntryId {
@@ -16,6 +50,19 @@ fn entry(index: usize) -> UnitEntryId {
 /// The second entry of the third unit, by its place in the section.
 fn far() -> DebugInfoRef {
     DebugInfoRef::Entry(UnitId::new(2), UnitEntryId::new(1))
+}
+
+/// The bytes of an expression, and its fixups.
+fn spelled(
+    alloc: Global,
+    expression: &Expression,
+    encoding: Encoding,
+) -> Result<(EndianVec<LittleEndian>, FixupList)> {
+    let places = unit_places(alloc)?;
+    let mut w = EndianVec::new(alloc, LittleEndian);
+    let mut fixups = FixupList::new(alloc);
+    expression.write(&mut w, Some(&mut fixups), encoding, Some(&places))?;
+    Ok((w, fixups))
 }
 
 /// What a hasher makes of an expression.
@@ -59,6 +106,31 @@ fn only_one_raw_operation_is_raw(rt: HostRuntime) -> std::result::Result<(), Fai
     expression.op(DW_OP_nop)?;
     assert_eq!(rt; expression.as_raw(), None);
     assert_eq!(rt; Expression::new(rt.alloc()).as_raw(), None);
+    Ok(())
+}
+
+#[test]
+fn places_are_left_open(rt: HostRuntime) -> std::result::Result<(), Fail> {
+    let mut inner = Expression::new(rt.alloc());
+    inner.op_call_ref(far())?;
+    let mut expression = Expression::new(rt.alloc());
+    expression.op(DW_OP_nop)?;
+    expression.op_entry_value(inner)?;
+    expression.op_implicit_pointer(far(), 1)?;
+    let (w, fixups) = spelled(rt.alloc(), &expression, encoding(5))?;
+    assert_eq!(rt;
+        w.slice(),
+        [0x96, 0xa3, 5, 0x9a, 0, 0, 0, 0, 0xa0, 0, 0, 0, 0, 1].as_slice()
+    );
+    let fixup = |offset| DebugInfoFixup {
+        offset,
+        size: 4,
+        unit: UnitId::new(2),
+        entry: UnitEntryId::new(1),
+    };
+    assert_eq!(rt; fixups.len(), 2);
+    assert_eq!(rt; fixups.get(0), Some(fixup(4)));
+    assert_eq!(rt; fixups.get(1), Some(fixup(9)));
     Ok(())
 }
 

@@ -20,16 +20,6 @@ impl Expression {
     }
 }
 
-impl Operation {
-    /// A second operation of the same operands.
-    pub fn try_clone(&self, alloc: Global) -> Result<Operation>
-        ensures ok { IfOk result (λ o. node_of o ≡ node_of self.now) }
-        ensures memory { IfErr result (λ e. e ≡ NoMemory) }
-    {
-        copy_operation(alloc, self)
-    }
-}
-
 #[cycle(copy)]
 fn copy_operations(alloc: Global, operations: &[Operation]) -> Result<Vec<Operation>>
     ensures ok { IfOk result (λ v. nodes_in v.items ≡ nodes_in operations.now) }

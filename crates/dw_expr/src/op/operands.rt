@@ -47,7 +47,8 @@ pub struct Operands<'a> {
 
 /// One operand alone.
 fn one<'a>(code: Operand<'a>) -> Operands<'a>
-    ensures { operands_in result ≡ dense (operand_in code.entry ∷ Nothing ∷ Nothing ∷ Nothing ∷ []) }
+    ensures { operands_in result
+        ≡ dense (operand_in code.entry ∷ Nothing ∷ Nothing ∷ Nothing ∷ []) }
 {
     two(code, Operand::Nothing)
 }
@@ -63,7 +64,8 @@ fn two<'a>(code: Operand<'a>, first: Operand<'a>) -> Operands<'a>
 /// Three of them.
 fn three<'a>(code: Operand<'a>, first: Operand<'a>, second: Operand<'a>) -> Operands<'a>
     ensures { operands_in result
-        ≡ dense (operand_in code.entry ∷ operand_in first.entry ∷ operand_in second.entry ∷ Nothing ∷ []) }
+        ≡ dense
+        (operand_in code.entry ∷ operand_in first.entry ∷ operand_in second.entry ∷ Nothing ∷ []) }
 {
     Operands {
         code,
@@ -83,7 +85,7 @@ fn code_by<'a>(encoding: Encoding, new: DwOp, old: DwOp) -> Operand<'a>
 
 /// A number below 32 in the code, or any other behind a code of its own; and an operand.
 fn short_or<'a>(short: DwOp, long: DwOp, number: u64, last: Operand<'a>) -> Operands<'a>
-    requires { short.0 ≤ 224 }
+    requires { short.0 ≤ 200 }
     ensures { operands_in result
         ≡ short_in short long number ++ dense (operand_in last.entry ∷ Nothing ∷ []) }
 {

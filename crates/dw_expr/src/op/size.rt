@@ -19,12 +19,12 @@ impl Expression {
     /// `UnsupportedCfiExpressionReference`, and one that has none as
     /// `UnsupportedExpressionForwardReference`. A size that is no `usize` is `ValueTooLarge`.
     pub fn size<P: EntryPlaces>(&self, encoding: Encoding, places: Option<&P>) -> Result<usize>
-        ensures ok { IfOk result
-            (λ n. n ≡ expression_size encoding (place_by (known_by P.places places.entry)) self.now) }
-        ensures sound { OnOk result
-            ((e : AnError) → IsFalse (size_fails encoding (known_by P.places places.entry) self.now e)) }
-        ensures err { IfErr result
-            (λ e. IsTrue (size_fails encoding (known_by P.places places.entry) self.now e)) }
+        ensures ok { let place = place_by (known_by P.places places.entry) in
+            IfOk result (λ n. n ≡ expression_size encoding place self.now) }
+        ensures sound { let known = known_by P.places places.entry in
+            OnOk result ((e : AnError) → IsFalse (size_fails encoding known self.now e)) }
+        ensures err { let known = known_by P.places places.entry in
+            IfErr result (λ e. IsTrue (size_fails encoding known self.now e)) }
     {
         operations_size(self.operations.as_slice(), encoding, places)
     }
@@ -47,9 +47,9 @@ pub fn operations_size<P: EntryPlaces>(
     encoding: Encoding,
     places: Option<&P>,
 ) -> Result<usize>
-    ensures { Sized result
-        (expression_size encoding (place_by (known_by P.places places.entry)) (nodes_in operations.now))
-        (size_fails encoding (known_by P.places places.entry) (nodes_in operations.now)) }
+    ensures { let known = known_by P.places places.entry in
+        Sized result (expression_size encoding (place_by known) (nodes_in operations.now))
+        (size_fails encoding known (nodes_in operations.now)) }
 {
     let mut size = 0;
     for operation in operations {
@@ -66,9 +66,9 @@ pub fn operation_size<P: EntryPlaces>(
     encoding: Encoding,
     places: Option<&P>,
 ) -> Result<usize>
-    ensures { Sized result
-        (node_part encoding (place_by (known_by P.places places.entry)) (node_of operation.now)).size
-        (node_size_fails encoding (known_by P.places places.entry) (node_of operation.now)) }
+    ensures { let known = known_by P.places places.entry in
+        Sized result (node_part encoding (place_by known) (node_of operation.now)).size
+        (node_size_fails encoding known (node_of operation.now)) }
 {
     if let Operation::EntryValue(expression) = operation {
         let inner = operations_size(expression.operations.as_slice(), encoding, places)?;
@@ -84,9 +84,9 @@ fn operands_bytes<P: EntryPlaces>(
     encoding: Encoding,
     places: Option<&P>,
 ) -> Result<usize>
-    ensures { Sized result
-        (operands_size encoding (place_by (known_by P.places places.entry)) (operands_in operands.now))
-        (operands_size_fails encoding (known_by P.places places.entry) (operands_in operands.now)) }
+    ensures { let known = known_by P.places places.entry in
+        Sized result (operands_size encoding (place_by known) (operands_in operands.now))
+        (operands_size_fails encoding known (operands_in operands.now)) }
 {
     let code = operand_bytes(&operands.code, encoding, places)?;
     let first = operand_bytes(&operands.first, encoding, places)?;
@@ -103,12 +103,13 @@ fn operand_bytes<P: EntryPlaces>(
     encoding: Encoding,
     places: Option<&P>,
 ) -> Result<usize>
-    ensures ok { IfOk result
-        (λ n. n ≡ operand_size encoding (place_by (known_by P.places places.entry)) (operand_in operand.now)) }
-    ensures sound { OnOk result
-        ((e : AnError) → IsFalse (base_fails encoding (known_by P.places places.entry) (operand_in operand.now) e)) }
-    ensures err { IfErr result
-        (λ e. IsTrue (base_fails encoding (known_by P.places places.entry) (operand_in operand.now) e)) }
+    ensures ok { let place = place_by (known_by P.places places.entry) in
+        IfOk result (λ n. n ≡ operand_size encoding place (operand_in operand.now)) }
+    ensures sound { let known = known_by P.places places.entry in
+        OnOk result ((e : AnError) → IsFalse
+        (base_fails encoding known (operand_in operand.now) e)) }
+    ensures err { let known = known_by P.places places.entry in
+        IfErr result (λ e. IsTrue (base_fails encoding known (operand_in operand.now) e)) }
 {
     match operand {
         Operand::Nothing => Ok(0),
