@@ -1,0 +1,10 @@
+use Rattle.dw_base.specs.Leb128.{uleb}
+use Rattle.dw_writer.proofs.Outcomes.{OnOk-map}
+use Rattle.dw_line.proofs.Steps.{needed, left_out}
+use Rattle.dw_line.proofs.file.write_needed.Goals as goal
+
+pub returns-then-is_needed-clause-ok : goal.returns-then-is_needed-clause-ok
+returns-then-is_needed-clause-ok g c = OnOk-map c.write_uleb128.result c.write_uleb128.ensures.ok (λ a. needed c.args.is_needed (uleb c.args.number) c.if-is_needed.true a)
+
+pub returns-clause-ok : goal.returns-clause-ok
+returns-clause-ok g c = left_out c.args.is_needed (uleb c.args.number) c.if-is_needed.false

@@ -1,0 +1,16 @@
+use Rattle.std.proofs.Common.{arith}
+use Rattle.dw_base.specs.Numbers.{word_of}
+use Rattle.dw_writer.proofs.Outcomes.{OnOk-map}
+use Rattle.dw_line.specs.Files.{source_of}
+use Rattle.dw_line.proofs.Steps.{Adds-byte}
+use Rattle.dw_line.proofs.FileSteps.{no_source, empty_source}
+use Rattle.dw_line.proofs.file.write_source.Goals as goal
+
+pub returns-then-not-is_needed-clause-ok : goal.returns-then-not-is_needed-clause-ok
+returns-then-not-is_needed-clause-ok g c =
+    no_source (word_of c.args.format) c.args.strings.now c.args.line_strings.now c.args.is_needed (source_of c.args.file.now) c.if-not-is_needed.true
+
+pub returns-in-None-clause-ok : goal.returns-in-None-clause-ok
+returns-in-None-clause-ok g c =
+    OnOk-map c.write_u8.result c.write_u8.ensures.ok
+    (λ zero. empty_source (word_of c.args.format) c.args.strings.now c.args.line_strings.now c.args.is_needed c.args.file.now.info.source c.if-not-is_needed.false c.in-None.is (Adds-byte 0 (omega arith) zero))

@@ -1,0 +1,6 @@
+use Rattle.dw_writer.proofs.Outcomes.{OnOk-map}
+use Rattle.dw_writer.proofs.Steps.{Adds-then}
+use Rattle.dw_line.proofs.header.write_version.Goals as goal
+
+pub returns-clause-ok : goal.returns-clause-ok
+returns-clause-ok g c = OnOk-map c.write_bytes.result c.write_bytes.ensures.ok (λ a. Adds-then c.in_ok-write_u16.ensures.ok a)

@@ -1,0 +1,27 @@
+use Rattle.std.proofs.Common.{◌≡◌, ◌∙◌, sym, ap, subst, true, false, IsFalse}
+use Rattle.std.proofs.lemmas.Result.{err_from_is_err_and}
+use Rattle.dw_base.specs.declared.error.Error.{Error}
+use Rattle.dw_base.specs.declared.error.Error.TheVariants as errors
+use Rattle.dw_line.specs.LinePrograms.{optional_fails}
+use Rattle.dw_line.specs.ProgramTexts.{program_fails}
+use Rattle.dw_line.proofs.PartSteps.{valid_refused}
+use Rattle.dw_line.proofs.line_program.LineProgram.write.Goals as goal
+
+pub returns-in_err-write-in-Some-clause-complete : goal.returns-in_err-write-in-Some-clause-complete
+returns-in_err-write-in-Some-clause-complete g c = λ valid.
+    let ss = c.args.strings.now in
+    let ls = c.args.line_strings.now in
+    let plain = (g.W.Writer.meaning c.args.w.now.0).is_plain in
+    let there = ap (λ v. v.program) (sym c.self.view_is) ∙ c.in-Some.is in
+    let own : (e : Error) → IsFalse (program_fails ss ls plain c.args.encoding c.in-Some.program e) = λ e. subst (λ q. IsFalse (optional_fails ss ls plain c.args.encoding q e)) there (valid e) in
+    let p = err_from_is_err_and c.from_residual.result c.from_residual.ensures.1 in
+    rw (p.1, p.2) (valid_refused (g.W.Writer.meaning c.args.w.now.0) (g.W.Writer.meaning c.write.new.w) (program_fails ss ls plain c.args.encoding c.in-Some.program) own c.in_err-write-in-Some.field-0.0 c.in_err-write-in-Some.ensures.err)
+
+pub returns-in-None-clause-complete : goal.returns-in-None-clause-complete
+returns-in-None-clause-complete g c = λ valid.
+    let ss = c.args.strings.now in
+    let ls = c.args.line_strings.now in
+    let plain = (g.W.Writer.meaning c.args.w.now.0).is_plain in
+    let none = ap (λ v. v.program) (sym c.self.view_is) ∙ c.in-None.is in
+    let never : true ≡ false = subst (λ q. IsFalse (optional_fails ss ls plain c.args.encoding q errors.IncompatibleLineProgramEncoding)) none (valid errors.IncompatibleLineProgramEncoding) in
+    cc

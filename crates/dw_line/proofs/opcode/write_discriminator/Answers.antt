@@ -1,0 +1,23 @@
+use Rattle.std.proofs.Common.{◌≡◌, suc, ◌+◌, ◌∷◌, length, not, ◌==◌, arith}
+use Rattle.dw_base.specs.Leb128.{uleb}
+use Rattle.dw_base.proofs.Leb128Laws.{uleb_short}
+use Rattle.dw_writer.proofs.Outcomes.{OnOk-map}
+use Rattle.dw_writer.proofs.Steps.{Adds-then}
+use Rattle.dw_line.specs.Instructions.{extended_bytes}
+use Rattle.dw_line.proofs.Steps.{Adds-byte, needed, left_out, other, equal}
+use Rattle.dw_line.proofs.opcode.write_discriminator.Goals as goal
+
+pub overflow_add-uleb128_size : goal.overflow_add-uleb128_size
+overflow_add-uleb128_size g c = omega (arith, c.uleb128_size.ensures.size, uleb_short c.args.discriminator)
+
+pub returns-then-discriminator-ne0-clause-ok : goal.returns-then-discriminator-ne0-clause-ok
+returns-then-discriminator-ne0-clause-ok g c =
+    let zero = Adds-byte 0 (omega arith) c.in_ok-write_u8.ensures.ok in
+    let one : 1 + length (uleb c.args.discriminator) ≡ suc (length (uleb c.args.discriminator)) = omega arith in
+    let size = rw (c.uleb128_size.ensures.size, one) at c.in_ok-write_uleb128.ensures.ok in
+    let code = Adds-byte 4 (omega arith) c.in_ok-write_u8-2.ensures.ok in
+    OnOk-map c.write_uleb128-then-discriminator-ne0.result c.write_uleb128-then-discriminator-ne0.ensures.ok
+    (λ a. needed _ (0 ∷ extended_bytes 4 (uleb c.args.discriminator)) (other c.args.discriminator 0 c.if-discriminator-ne0.true) (Adds-then zero (Adds-then size (Adds-then code a))))
+
+pub returns-clause-ok : goal.returns-clause-ok
+returns-clause-ok g c = left_out (not (c.args.discriminator == 0)) (0 ∷ extended_bytes 4 (uleb c.args.discriminator)) (equal c.args.discriminator 0 c.if-discriminator-ne0.false)

@@ -1,0 +1,11 @@
+use Rattle.std.proofs.Common.{[], ◌∷◌, arith}
+use Rattle.dw_writer.proofs.Outcomes.{OnOk-map}
+use Rattle.dw_line.proofs.Steps.{Adds-byte, needed, left_out}
+use Rattle.dw_line.proofs.opcode.write_mark.Goals as goal
+
+pub returns-then-is_needed-clause-ok : goal.returns-then-is_needed-clause-ok
+returns-then-is_needed-clause-ok g c =
+    OnOk-map c.write_u8.result c.write_u8.ensures.ok (λ a. needed c.args.is_needed (c.args.opcode ∷ []) c.if-is_needed.true (Adds-byte c.args.opcode (omega (arith, c.ranges.opcode.fits)) a))
+
+pub returns-clause-ok : goal.returns-clause-ok
+returns-clause-ok g c = left_out c.args.is_needed (c.args.opcode ∷ []) c.if-is_needed.false

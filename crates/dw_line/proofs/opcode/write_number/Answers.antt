@@ -1,0 +1,14 @@
+use Rattle.std.proofs.Common.{◌∷◌, arith}
+use Rattle.dw_base.specs.Leb128.{uleb}
+use Rattle.dw_writer.proofs.Outcomes.{OnOk-map}
+use Rattle.dw_writer.proofs.Steps.{Adds-then}
+use Rattle.dw_line.proofs.Steps.{Adds-byte, needed, left_out}
+use Rattle.dw_line.proofs.opcode.write_number.Goals as goal
+
+pub returns-then-is_needed-clause-ok : goal.returns-then-is_needed-clause-ok
+returns-then-is_needed-clause-ok g c =
+    let opcode = Adds-byte c.args.opcode (omega (arith, c.ranges.opcode.fits)) c.in_ok-write_u8.ensures.ok in
+    OnOk-map c.write_uleb128.result c.write_uleb128.ensures.ok (λ a. needed c.args.is_needed (c.args.opcode ∷ uleb c.args.number) c.if-is_needed.true (Adds-then opcode a))
+
+pub returns-clause-ok : goal.returns-clause-ok
+returns-clause-ok g c = left_out c.args.is_needed (c.args.opcode ∷ uleb c.args.number) c.if-is_needed.false

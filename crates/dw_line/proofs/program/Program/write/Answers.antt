@@ -1,0 +1,66 @@
+use Rattle.std.proofs.Common.{◌≡◌, ap, subst, Bool, ◌+◌, ◌-◌, ◌||◌, length, IsTrue, arith}
+use Rattle.std.specs.Prelude.{◌++◌}
+use Rattle.std.proofs.lemmas.Bool.{or_left, or_right}
+use Rattle.std.proofs.lemmas.Result.{err_from_is_err_and}
+use Rattle.dw_base.specs.Numbers.{num, word_of, escape_of}
+use Rattle.dw_base.specs.declared.error.Error.{Error}
+use Rattle.dw_writer.specs.Texts.{zeros}
+use Rattle.dw_writer.specs.Meaning.{Adds, Replaces}
+use Rattle.dw_base.specs.Numbers.{is_width, length_fits}
+use Rattle.dw_base.specs.declared.error.Error.TheVariants as errors
+use Rattle.dw_writer.proofs.Outcomes.{OnOk-map}
+use Rattle.dw_line.specs.Accepted.{is_line_version, encoding_fails, forms_fail}
+use Rattle.dw_line.specs.Headers.{header_length, length_fails}
+use Rattle.dw_line.specs.ProgramTexts.{IsLineEncoding, HeaderIsWide, program_sequences, program_length, contents_fail, program_fails}
+use Rattle.dw_line.specs.LineRows.{written_header}
+use Rattle.dw_line.specs.SequenceTexts.{AreBuilt}
+use Rattle.dw_line.proofs.PartSteps.{refused_after, or_false, not_false, OnOk-both}
+use Rattle.dw_line.proofs.ReaderLaws.{narrow_of, shows_sequences}
+use Rattle.dw_line.proofs.HeaderSteps.{first_filled}
+use Rattle.dw_line.proofs.program.Program.write.Goals as goal
+
+pub returns-in_err-write_contents-clause-err : goal.returns-in_err-write_contents-clause-err
+returns-in_err-write_contents-clause-err g c =
+    let p = c.args.self.now in
+    let ss = c.args.strings.now in
+    let ls = c.args.line_strings.now in
+    let plain = (g.W.Writer.meaning c.args.w.now).is_plain in
+    let same = c.in_ok-place.ensures.same in
+    let failed = err_from_is_err_and c.from_residual-in_err-write_contents.result c.from_residual-in_err-write_contents.ensures.1 in
+    let fails = λ (k : Bool) (e : Error). contents_fail ss ls k p e in
+    rw (failed.1, failed.2)
+    (refused_after (g.W.Writer.meaning c.write_contents.new.w) (fails (g.W.Writer.meaning c.write_initial_length.new.self).is_plain) (program_fails ss ls plain c.args.unit p) same
+    (λ e h. or_right (encoding_fails p.encoding c.args.unit e || forms_fail p.encoding.version p.directories p.files e) (fails plain e || length_fails p.encoding.format (program_length p) e)
+    (or_left (fails plain e) (length_fails p.encoding.format (program_length p) e) (subst (λ k. IsTrue (fails k e)) same.kind h)))
+    c.in_err-write_contents.field-0.0 c.in_err-write_contents.ensures.err)
+
+pub returns-clause-ok : goal.returns-clause-ok
+returns-clause-ok g c =
+    let p = c.args.self.now in
+    let format = ap (λ q. q.encoding.format) c.self.view_is in
+    let long : c.len.result - c.len-start.result ≡ program_length p = omega (arith, c.len.ensures, c.len-start.ensures, c.in_ok-write_contents.ensures.ok.size) in
+    let opened = subst (λ f. Adds (g.W.Writer.meaning c.args.w.now) (g.W.Writer.meaning c.write_initial_length.new.self) (escape_of f ++ zeros (word_of f))) format c.in_ok-place.ensures.ok in
+    let place = subst (λ f. c.in_ok-place.place ≡ (g.W.Writer.meaning c.args.w.now).size + length (escape_of f)) format c.in_ok-place.ensures.place in
+    let patch = rw long at c.write_initial_length_at.ensures.ok in
+    OnOk-map c.write_initial_length_at.result patch
+    (λ last. first_filled (escape_of p.encoding.format) (word_of p.encoding.format) (program_length p) c.in_ok-place.place opened c.in_ok-write_contents.ensures.ok
+    (subst (λ f. Replaces (g.W.Writer.meaning c.write_contents.new.w) (g.W.Writer.meaning c.write_initial_length_at.new.self) c.in_ok-place.place (num (g.W.Writer.meaning c.write_contents.new.w).is_big (word_of f) (program_length p))) format last) place)
+
+pub returns-clause-rows : goal.returns-clause-rows
+returns-clause-rows g c =
+    let p = c.args.self.now in
+    let ss = c.args.strings.now in
+    let ls = c.args.line_strings.now in
+    let a = g.W.Writer.meaning c.args.w.now in
+    let order = c.in_ok-place.ensures.same.order in
+    let long : c.len.result - c.len-start.result ≡ program_length p = omega (arith, c.len.ensures, c.len-start.ensures, c.in_ok-write_contents.ensures.ok.size) in
+    let is : IsLineEncoding p.line_encoding = subst (λ q. IsLineEncoding q.line_encoding) c.self.view_is c.self.invariant.encoding in
+    let version : IsTrue (is_line_version p.encoding.version) = subst (λ q. IsTrue (is_line_version q.encoding.version)) c.self.view_is c.in_ok-check_encoding.ensures.version in
+    let narrow = narrow_of p.encoding.address_size (subst (λ q. IsTrue (is_width q.encoding.address_size)) c.self.view_is c.in_ok-check_encoding.ensures.width) in
+    let none = c.in_ok-write_contents.ensures.sound errors.InitialLengthOverflow in
+    let header : IsTrue (length_fits p.encoding.format (header_length p.encoding p.line_encoding p.directories p.files)) = not_false _ (or_false _ _ (or_false _ _ none)) in
+    let wide : HeaderIsWide ss ls a.is_big p = subst (λ k. HeaderIsWide ss ls k p) order c.in_ok-write_contents.ensures.wide in
+    let built : AreBuilt (written_header a.is_big p.line_encoding) (program_sequences p) = subst (λ k. AreBuilt (written_header k p.line_encoding) (program_sequences p)) order c.in_ok-write_contents.ensures.built in
+    let fits = rw long at c.write_initial_length_at.ensures.fits in
+    OnOk-both c.write_initial_length_at.result fits (returns-clause-ok g c)
+    (λ fit added. shows_sequences ss ls p is version narrow (subst (λ q. IsTrue (length_fits q.encoding.format (program_length p))) c.self.view_is fit) header wide built added)

@@ -1,0 +1,17 @@
+use Rattle.std.proofs.Common.{◌≡◌, ◌+◌, suc, arith}
+use Rattle.dw_writer.proofs.Outcomes.{OnOk-map}
+use Rattle.dw_writer.proofs.Steps.{Adds-then}
+use Rattle.dw_line.proofs.Steps.{Adds-byte}
+use Rattle.dw_line.proofs.SequenceSteps.{set_none, set_some}
+use Rattle.dw_line.proofs.sequence.write_set_address.Goals as goal
+
+pub returns-in_ok-write_u8-in-Some-2-clause-ok : goal.returns-in_ok-write_u8-in-Some-2-clause-ok
+returns-in_ok-write_u8-in-Some-2-clause-ok g c =
+    let one : 1 + c.args.size ≡ suc c.args.size = omega arith in
+    let zero = Adds-byte 0 (omega arith) c.in_ok-write_u8-in-Some.ensures.ok in
+    let size = rw one at c.in_ok-write_uleb128-in-Some.ensures.ok in
+    let code = Adds-byte 2 (omega arith) c.in_ok-write_u8-in-Some-2.ensures.ok in
+    rw c.in-Some.is (OnOk-map c.write_address.result c.write_address.ensures.ok (λ q. set_some c.args.size c.in-Some.address (Adds-then zero (Adds-then size code)) q))
+
+pub returns-in-None-clause-ok : goal.returns-in-None-clause-ok
+returns-in-None-clause-ok g c = rw c.in-None.is (set_none _ c.args.size)

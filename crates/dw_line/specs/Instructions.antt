@@ -1,0 +1,118 @@
+-- How the instructions of the line machine are read and spelled (DWARF 5, 6.2.5 and 7.22).
+use Rattle.std.specs.Prelude.{◌≡◌, ℕ, zero, suc, ◌+◌, ◌-◌, ◌^◌, ◌<◌, ◌==◌, nat_le, List, [], ◌∷◌, ◌++◌, length, Option, Some, None, IsTrue, slice_index, if◌then◌else◌}
+use Rattle.dw_base.specs.Numbers.{Parser, ◌>>=◌, bytes_at, number_at, num, fits}
+use Rattle.dw_base.specs.Leb128.{uleb_at, sleb_at, uleb, sleb, fits_i64}
+use Rattle.dw_line.specs.LineMachine.{LineHeader, Instruction, Copy, AdvancePc, AdvanceLine, SetFile, SetColumn, NegateStatement, SetBasicBlock, ConstAddPc, FixedAdvancePc, SetPrologueEnd, SetEpilogueBegin, SetIsa, Special, EndSequence, SetAddress, SetDiscriminator, Passed, Shown, begin, run}
+
+-- an instruction of an operand that was read
+abbrev pub with : {A : Type 0} → (A → Instruction) → Option (A × List ℕ) → Option (Instruction × List ℕ)
+with make r = r >>= λ x. Some (make x.0, x.1)
+
+-- so many operands of an opcode that isn't known
+unfoldable pub passed_at : ℕ → Parser Instruction
+passed_at zero bytes = Some (Passed, bytes)
+passed_at (suc n) bytes = uleb_at bytes >>= λ x. passed_at n x.1
+
+-- a standard instruction, after its opcode
+unfoldable pub standard_at : LineHeader → ℕ → Parser Instruction
+standard_at h opcode bytes =
+    if opcode == 0x01 then Some (Copy, bytes)
+    else if opcode == 0x02 then with AdvancePc (uleb_at bytes)
+    else if opcode == 0x03 then with AdvanceLine (sleb_at bytes)
+    else if opcode == 0x04 then with SetFile (uleb_at bytes)
+    else if opcode == 0x05 then with SetColumn (uleb_at bytes)
+    else if opcode == 0x06 then Some (NegateStatement, bytes)
+    else if opcode == 0x07 then Some (SetBasicBlock, bytes)
+    else if opcode == 0x08 then Some (ConstAddPc, bytes)
+    else if opcode == 0x09 then with FixedAdvancePc (number_at h.is_big 2 bytes)
+    else if opcode == 0x0a then Some (SetPrologueEnd, bytes)
+    else if opcode == 0x0b then Some (SetEpilogueBegin, bytes)
+    else if opcode == 0x0c then with SetIsa (uleb_at bytes)
+    else passed_at (slice_index h.operand_counts (opcode - 1)) bytes
+
+-- an extended instruction, of all its bytes from the code on
+unfoldable pub extended_of : LineHeader → List ℕ → Option Instruction
+extended_of h [] = None
+extended_of h (code ∷ bytes) =
+    if code == 0x01 then Some EndSequence
+    else if code == 0x02 then (number_at h.is_big (length bytes) bytes >>= λ x. Some (SetAddress (length bytes) x.0))
+    else if code == 0x04 then (uleb_at bytes >>= λ x. Some (SetDiscriminator x.0))
+    else Some Passed
+
+-- the same after the zero that marks it: its length, and so many bytes
+unfoldable pub extended_at : LineHeader → Parser Instruction
+extended_at h bytes =
+    uleb_at bytes >>= λ n. bytes_at n.0 n.1 >>= λ body. extended_of h body.0 >>= λ i. Some (i, body.1)
+
+-- one instruction; from the header's base on, opcodes are special
+unfoldable pub instruction_at : LineHeader → Parser Instruction
+instruction_at h [] = None
+instruction_at h (opcode ∷ bytes) =
+    if opcode == 0 then extended_at h bytes
+    else if nat_le h.opcode_base opcode then Some (Special (opcode - h.opcode_base), bytes)
+    else standard_at h opcode bytes
+
+-- instructions up to the end of the bytes
+unfoldable pub instructions_at : ℕ → LineHeader → List ℕ → Option (List Instruction)
+instructions_at fuel h [] = Some []
+instructions_at zero h (b ∷ bs) = None
+instructions_at (suc fuel) h (b ∷ bs) =
+    instruction_at h (b ∷ bs) >>= λ x. instructions_at fuel h x.1 >>= λ more. Some (x.0 ∷ more)
+
+-- what the line machine shows for the bytes after a header
+unfoldable pub rows_of : LineHeader → List ℕ → Option (List Shown)
+rows_of h bytes = instructions_at (length bytes) h bytes >>= λ is. run h is (begin h)
+
+-- an extended instruction after its zero
+abbrev pub extended_bytes : ℕ → List ℕ → List ℕ
+extended_bytes code operand = uleb (suc (length operand)) ++ code ∷ operand
+
+abbrev pub opcode_of : LineHeader → Instruction → ℕ
+opcode_of h Copy = 0x01
+opcode_of h (AdvancePc n) = 0x02
+opcode_of h (AdvanceLine z) = 0x03
+opcode_of h (SetFile n) = 0x04
+opcode_of h (SetColumn n) = 0x05
+opcode_of h NegateStatement = 0x06
+opcode_of h SetBasicBlock = 0x07
+opcode_of h ConstAddPc = 0x08
+opcode_of h (FixedAdvancePc n) = 0x09
+opcode_of h SetPrologueEnd = 0x0a
+opcode_of h SetEpilogueBegin = 0x0b
+opcode_of h (SetIsa n) = 0x0c
+opcode_of h (Special n) = h.opcode_base + n
+opcode_of h _ = 0x00
+
+abbrev pub operand_bytes : LineHeader → Instruction → List ℕ
+operand_bytes h (AdvancePc n) = uleb n
+operand_bytes h (AdvanceLine z) = sleb z
+operand_bytes h (SetFile n) = uleb n
+operand_bytes h (SetColumn n) = uleb n
+operand_bytes h (FixedAdvancePc n) = num h.is_big 2 n
+operand_bytes h (SetIsa n) = uleb n
+operand_bytes h EndSequence = extended_bytes 0x01 []
+operand_bytes h (SetAddress w n) = extended_bytes 0x02 (num h.is_big w n)
+operand_bytes h (SetDiscriminator n) = extended_bytes 0x04 (uleb n)
+operand_bytes h _ = []
+
+-- the shortest spelling of an instruction
+abbrev pub instruction_bytes : LineHeader → Instruction → List ℕ
+instruction_bytes h i = opcode_of h i ∷ operand_bytes h i
+
+-- an operand fits its place
+abbrev pub IsSpellable : LineHeader → Instruction → Type 0
+IsSpellable h (AdvancePc n) = n < 2 ^ 64
+IsSpellable h (AdvanceLine z) = IsTrue (fits_i64 z)
+IsSpellable h (SetFile n) = n < 2 ^ 64
+IsSpellable h (SetColumn n) = n < 2 ^ 64
+IsSpellable h (FixedAdvancePc n) = IsTrue (fits 2 n)
+IsSpellable h (SetIsa n) = n < 2 ^ 64
+IsSpellable h (SetAddress w n) = (w < 256) × IsTrue (fits w n)
+IsSpellable h (SetDiscriminator n) = n < 2 ^ 64
+IsSpellable h Passed = ⊥
+IsSpellable h _ = Unit {0}
+
+-- the header of a program that is written
+pub record IsWrittenHeader (h : LineHeader) : Type 0 where
+  pub opcode_base : h.opcode_base ≡ 13
+  pub minimum_length : 0 < h.minimum_length

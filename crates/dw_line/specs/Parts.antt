@@ -1,0 +1,21 @@
+-- Texts of several things, one after another, and what calls that write them refuse.
+use Rattle.std.specs.Prelude.{ℕ, ◌+◌, Bool, List, [], ◌∷◌, Some, IsTrue}
+use Rattle.dw_base.specs.declared.error.Error.{Error}
+use Rattle.dw_base.specs.declared.error.Error.TheVariants.{NoMemory, WriteFault}
+use Rattle.dw_writer.specs.Texts.{followed}
+use Rattle.dw_writer.specs.Meaning.{Meaning, Model}
+use Rattle.dw_writer.specs.Causes.{HasRisen}
+
+abbrev pub sizes : {X : Type 0} → (X → ℕ) → List X → ℕ
+sizes size [] = 0
+sizes size (x ∷ xs) = size x + sizes size xs
+
+abbrev pub texts : {X : Type 0} → (X → Model) → List X → Model
+texts text [] big l = Some []
+texts text (x ∷ xs) big l = followed (text x big l) (texts text xs big l)
+
+-- for want of memory, by a fault of the writer, or for a cause that stands
+abbrev pub Refused : Meaning → Meaning → (Error → Bool) → Error → Type 0
+Refused old new fails NoMemory = Unit {0}
+Refused old new fails WriteFault = HasRisen old new
+Refused old new fails e = IsTrue (fails e)
