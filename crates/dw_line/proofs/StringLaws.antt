@@ -1,11 +1,11 @@
 -- Strings of a section are read again, and those of a table differ.
-use Rattle.std.specs.Prelude.{◌≡◌, ◌≢◌, ℕ, zero, suc, ◌<◌, false, List, [], ◌∷◌, ◌++◌, length, take, Some, slice_get, refl}
-use Rattle.std.specs.List.{All, IsDistinct}
+use Rattle.std.specs.Prelude.{◌≡◌, ◌≢◌, ℕ, zero, suc, ◌==◌, ◌<◌, Bool, true, false, ◌||◌, List, [], ◌∷◌, ◌++◌, length, take, Some, slice_get, refl}
+use Rattle.std.specs.List.{All, IsDistinct, list_any}
 use Rattle.std.specs.Cmp.{unsigned_Decides}
 use Rattle.std.specs.Cmp.Lexicographic.{pointwise_decides}
 use Rattle.std.proofs.Common.{sym, ◌∙◌, ap, arith, true≢false, append_assoc, length-append}
 use Rattle.std.proofs.Math.Seq.{drop-append-add}
-use Rattle.std.proofs.lemmas.List.Elements.{All-head, All-tail, All-from_recursion, All-weaker}
+use Rattle.std.proofs.lemmas.List.Elements.{All-nil, All-cons, All-head, All-tail, All-from_recursion, All-weaker}
 use Rattle.std.proofs.lemmas.List.Kept.{AllPairs-cons}
 use Rattle.dw_base.specs.Numbers.{◌>>=◌}
 use Rattle.dw_base.specs.Forms.{text_at}
@@ -40,3 +40,13 @@ distinct_differ (s ∷ ss) h =
     AllPairs-cons (λ a b. a ≢ b) s ss
     (All-weaker (λ t. is_same_string s t ≡ false) (λ t. s ≢ t) apart ss (All-from_recursion (λ t. is_same_string s t ≡ false) ss h.0))
     (distinct_differ ss h.1)
+
+or_rest : (a b : Bool) → (a || b) ≡ false → b ≡ false
+or_rest true b h = absurd (true≢false h)
+or_rest false b h = h
+
+-- a string in which no zero was found
+pub text_of : (s : List ℕ) → list_any (λ b. b == 0) s ≡ false → IsText s
+text_of [] e = All-nil (λ b. 0 < b)
+text_of (zero ∷ bs) e = absurd (true≢false e)
+text_of (suc b ∷ bs) e = All-cons (λ b. 0 < b) (suc b) bs (omega arith) (text_of bs (or_rest (suc b == 0) (list_any (λ c. c == 0) bs) e))

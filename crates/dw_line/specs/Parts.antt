@@ -1,5 +1,5 @@
 -- Texts of several things, one after another, and what calls that write them refuse.
-use Rattle.std.specs.Prelude.{ℕ, ◌+◌, Bool, List, [], ◌∷◌, Some, IsTrue}
+use Rattle.std.specs.Prelude.{ℕ, ◌+◌, Bool, List, [], ◌∷◌, Some, IsTrue, IsFalse}
 use Rattle.dw_base.specs.declared.error.Error.{Error}
 use Rattle.dw_base.specs.declared.error.Error.TheVariants.{NoMemory, WriteFault}
 use Rattle.dw_writer.specs.Texts.{followed}
@@ -13,6 +13,10 @@ sizes size (x ∷ xs) = size x + sizes size xs
 abbrev pub texts : {X : Type 0} → (X → Model) → List X → Model
 texts text [] big l = Some []
 texts text (x ∷ xs) big l = followed (text x big l) (texts text xs big l)
+
+-- no cause stands
+abbrev pub NoCause : (Error → Bool) → Type 0
+NoCause fails = (e : Error) → IsFalse (fails e)
 
 -- for want of memory, by a fault of the writer, or for a cause that stands
 abbrev pub Refused : Meaning → Meaning → (Error → Bool) → Error → Type 0

@@ -212,12 +212,15 @@ fn write_source<W: Writer>(
     ensures ok { OnOk result
         (Appends (W.meaning w.old) (W.meaning w.new)
         (source_size (word_of format) is_needed (source_of file.now))
-        (source_text (word_of format) strings.now line_strings.now is_needed (source_of file.now))) }
+        (source_text (word_of format) strings.now line_strings.now is_needed
+        (source_of file.now))) }
     ensures sound { OnOk result
-        ((e : AnError) → IsFalse (source_fails (word_of format) strings.now line_strings.now (W.meaning w.old).is_plain is_needed (source_of file.now) e)) }
+        ((e : AnError) → IsFalse (source_fails (word_of format) strings.now line_strings.now
+        (W.meaning w.old).is_plain is_needed (source_of file.now) e)) }
     ensures err { IfErr result
         (Refused (W.meaning w.old) (W.meaning w.new)
-        (source_fails (word_of format) strings.now line_strings.now (W.meaning w.old).is_plain is_needed (source_of file.now))) }
+        (source_fails (word_of format) strings.now line_strings.now
+        (W.meaning w.old).is_plain is_needed (source_of file.now))) }
     ensures same { IsSameWriter (W.meaning w.old) (W.meaning w.new) }
 {
     if !is_needed {
@@ -242,10 +245,12 @@ fn write_file<W: Writer>(
         (Appends (W.meaning w.old) (W.meaning w.new) (file_size (word_of format) columns file.now)
         (file_text (word_of format) strings.now line_strings.now columns file.now)) }
     ensures sound { OnOk result
-        ((e : AnError) → IsFalse (file_fails (word_of format) strings.now line_strings.now (W.meaning w.old).is_plain columns file.now e)) }
+        ((e : AnError) → IsFalse (file_fails (word_of format) strings.now line_strings.now
+        (W.meaning w.old).is_plain columns file.now e)) }
     ensures err { IfErr result
         (Refused (W.meaning w.old) (W.meaning w.new)
-        (file_fails (word_of format) strings.now line_strings.now (W.meaning w.old).is_plain columns file.now)) }
+        (file_fails (word_of format) strings.now line_strings.now
+        (W.meaning w.old).is_plain columns file.now)) }
     ensures same { IsSameWriter (W.meaning w.old) (W.meaning w.new) }
 {
     write_name(format, strings, line_strings, &file.name, w)?;
@@ -270,13 +275,17 @@ pub(crate) fn write_files<W: Writer>(
     w: &mut W,
 ) -> Result<()>
     ensures ok { OnOk result
-        (Appends (W.meaning w.old) (W.meaning w.new) (sizes (file_size (word_of format) columns) files.now)
+        (Appends (W.meaning w.old) (W.meaning w.new) (sizes (file_size
+        (word_of format) columns) files.now)
         (texts (file_text (word_of format) strings.now line_strings.now columns) files.now)) }
     ensures sound { OnOk result
-        ((e : AnError) → IsFalse (list_any (λ f. file_fails (word_of format) strings.now line_strings.now (W.meaning w.old).is_plain columns f e) files.now)) }
+        ((e : AnError) → IsFalse (list_any (λ f. file_fails
+        (word_of format) strings.now line_strings.now
+        (W.meaning w.old).is_plain columns f e) files.now)) }
     ensures err { IfErr result
         (Refused (W.meaning w.old) (W.meaning w.new)
-        (λ e. list_any (λ f. file_fails (word_of format) strings.now line_strings.now (W.meaning w.old).is_plain columns f e) files.now)) }
+        (λ e. list_any (λ f. file_fails (word_of format) strings.now line_strings.now
+        (W.meaning w.old).is_plain columns f e) files.now)) }
     ensures same { IsSameWriter (W.meaning w.old) (W.meaning w.new) }
 {
     for file in files {

@@ -31,7 +31,8 @@ const OPCODE_BASE: u8 = 13;
 /// Adds the version, and in version 5 the widths of an address and of a segment's number.
 fn write_version<W: Writer>(encoding: Encoding, w: &mut W) -> Result<()>
     ensures ok { OnOk result
-        (Adds (W.meaning w.old) (W.meaning w.new) (version_bytes (W.meaning w.old).is_big encoding)) }
+        (Adds (W.meaning w.old) (W.meaning w.new) (version_bytes
+        (W.meaning w.old).is_big encoding)) }
     ensures err { IfErr result (BytesRefused (W.meaning w.old) (W.meaning w.new)) }
     ensures same { IsSameWriter (W.meaning w.old) (W.meaning w.new) }
 {
@@ -214,7 +215,8 @@ fn write_old_tables<W: Writer>(
         (old_tables_size (word_of format) directories.now files.now)
         (old_tables_text (word_of format) strings.now line_strings.now directories.now files.now)) }
     ensures sound { OnOk result
-        ((e : AnError) → IsFalse (entries_fail (word_of format) strings.now line_strings.now (W.meaning w.old).is_plain
+        ((e : AnError) → IsFalse (entries_fail (word_of format) strings.now line_strings.now
+        (W.meaning w.old).is_plain
         (drop 1 directories.now) old_columns files.now e)) }
     ensures err { IfErr result
         (Refused (W.meaning w.old) (W.meaning w.new)
@@ -244,7 +246,8 @@ fn write_new_tables<W: Writer>(
         (new_tables_size (word_of format) directories.now files.now)
         (new_tables_text (word_of format) strings.now line_strings.now directories.now files.now)) }
     ensures sound { OnOk result
-        ((e : AnError) → IsFalse (entries_fail (word_of format) strings.now line_strings.now (W.meaning w.old).is_plain
+        ((e : AnError) → IsFalse (entries_fail (word_of format) strings.now line_strings.now
+        (W.meaning w.old).is_plain
         directories.now (columns_of files.now) files.now e)) }
     ensures err { IfErr result
         (Refused (W.meaning w.old) (W.meaning w.new)
@@ -273,14 +276,18 @@ fn write_tables<W: Writer>(
     requires { 0 < length directories.now }
     ensures ok { OnOk result
         (Appends (W.meaning w.old) (W.meaning w.new)
-        (tables_size (word_of encoding.format) (nat_le encoding.version 4) directories.now files.now)
-        (tables_text (word_of encoding.format) strings.now line_strings.now (nat_le encoding.version 4) directories.now files.now)) }
+        (tables_size (word_of encoding.format)
+        (nat_le encoding.version 4) directories.now files.now)
+        (tables_text (word_of encoding.format) strings.now line_strings.now
+        (nat_le encoding.version 4) directories.now files.now)) }
     ensures sound { OnOk result
-        ((e : AnError) → IsFalse (tables_fail (word_of encoding.format) strings.now line_strings.now (W.meaning w.old).is_plain
+        ((e : AnError) → IsFalse (tables_fail
+        (word_of encoding.format) strings.now line_strings.now (W.meaning w.old).is_plain
         (nat_le encoding.version 4) directories.now files.now e)) }
     ensures err { IfErr result
         (Refused (W.meaning w.old) (W.meaning w.new)
-        (tables_fail (word_of encoding.format) strings.now line_strings.now (W.meaning w.old).is_plain
+        (tables_fail (word_of encoding.format) strings.now line_strings.now
+        (W.meaning w.old).is_plain
         (nat_le encoding.version 4) directories.now files.now)) }
     ensures same { IsSameWriter (W.meaning w.old) (W.meaning w.new) }
 {
@@ -335,13 +342,16 @@ pub(crate) fn write_header<W: Writer>(
     requires base { line.line_base ≤ℤ pos 0 }
     requires rooted { 0 < length directories.now }
     ensures ok { OnOk result
-        (Appends (W.meaning w.old) (W.meaning w.new) (header_size encoding line directories.now files.now)
+        (Appends (W.meaning w.old) (W.meaning w.new)
+        (header_size encoding line directories.now files.now)
         (header_text strings.now line_strings.now encoding line directories.now files.now)) }
     ensures sound { OnOk result
-        ((e : AnError) → IsFalse (header_fails strings.now line_strings.now (W.meaning w.old).is_plain encoding line directories.now files.now e)) }
+        ((e : AnError) → IsFalse (header_fails strings.now line_strings.now
+        (W.meaning w.old).is_plain encoding line directories.now files.now e)) }
     ensures err { IfErr result
         (Refused (W.meaning w.old) (W.meaning w.new)
-        (header_fails strings.now line_strings.now (W.meaning w.old).is_plain encoding line directories.now files.now)) }
+        (header_fails strings.now line_strings.now
+        (W.meaning w.old).is_plain encoding line directories.now files.now)) }
     ensures same { IsSameWriter (W.meaning w.old) (W.meaning w.new) }
 {
     write_version(encoding, w)?;

@@ -2,7 +2,6 @@
 
 ghost use Rattle.std.specs.Prelude.{◌≡◌, ◌≢◌, ◌<◌, ◌≤◌, ◌%◌, ◌≤ℤ◌, ◌<ℤ◌, ◌+ℤ◌, pos, [], length, is_none, Some, IsSome, IsOk, OnOk, OnErr, IfOk, IfErr, IsTrue, IsFalse, ◌↔◌};
 ghost use Rattle.std.specs.Borrow.{sem};
-ghost use Rattle.dw_base.specs.declared.error.Error.{Error as AnError};
 ghost use Rattle.dw_base.specs.declared.error.Error.TheVariants.{NoMemory};
 ghost use Rattle.dw_writer.specs.Meaning.{IsSameWriter, Appends};
 ghost use Rattle.dw_writer.specs.Causes.{BytesRefused};
@@ -11,7 +10,7 @@ ghost use Rattle.dw_line.specs.LineReader.{ShowsSequences};
 ghost use Rattle.dw_line.specs.LinePrograms.{no_line_program, encoding_of, line_encoding_of, is_in_sequence, directories_of, files_of, file_count_of, last_offset_of, sequences_of, IsName, changed, begun, generated, line_program_size, line_program_text, line_program_fails};
 ghost use Rattle.dw_line.specs.LineRows.{first_line_row};
 ghost use Rattle.dw_line.specs.Names.{no_info};
-ghost use Rattle.dw_line.specs.Parts.{Refused};
+ghost use Rattle.dw_line.specs.Parts.{NoCause, Refused};
 ghost use Rattle.dw_line.specs.ProgramTexts.{directory_index, with_directory, entry_of, file_index, with_file, with_end};
 ghost use Rattle.dw_line.specs.declared.line_string.LineString.TheVariants.{String};
 
@@ -120,7 +119,7 @@ impl LineProgram {
         }
     }
 
-    /// The encoding; where there is no program one that no unit has.
+    /// The encoding; where there is no program, one that no unit has.
     pub fn encoding(&self) -> Encoding
         ensures { result ≡ encoding_of self.now.program }
     {
@@ -216,7 +215,8 @@ impl LineProgram {
         requires named { (encoding_of self.old.program).version ≤ 4 → file ≢ String [] }
         requires directory { directory.0 < length (directories_of self.old.program) }
         ensures ok { OnOk result (self.new ≡ changed (with_file file directory info) self.old) }
-        ensures id { IfOk result (λ id. id.0 ≡ file_index (files_of self.old.program) (entry_of file directory no_info)) }
+        ensures id { IfOk result (λ id. id.0 ≡ file_index (files_of self.old.program)
+            (entry_of file directory no_info)) }
         ensures err { IfErr result (λ e. e ≡ NoMemory) }
         ensures kept { OnErr result (self.new ≡ self.old) }
     {
@@ -307,14 +307,18 @@ impl LineProgram {
         ensures place { IfOk result (λ p. p.0 ≡ (W.meaning w.old.0).size) }
         // A reader of these bytes sees the sequences and their rows.
         ensures rows { OnOk result
-            (ShowsSequences (W.meaning w.old.0) (W.meaning w.new.0) (sequences_of self.now.program)) }
+            (ShowsSequences (W.meaning w.old.0) (W.meaning w.new.0)
+            (sequences_of self.now.program)) }
         ensures sound { OnOk result
-            ((e : AnError) → IsFalse (line_program_fails strings.now line_strings.now (W.meaning w.old.0).is_plain encoding self.now e)) }
+            (NoCause (line_program_fails strings.now line_strings.now
+            (W.meaning w.old.0).is_plain encoding self.now)) }
         ensures err { IfErr result
             (Refused (W.meaning w.old.0) (W.meaning w.new.0)
-            (line_program_fails strings.now line_strings.now (W.meaning w.old.0).is_plain encoding self.now)) }
+            (line_program_fails strings.now line_strings.now
+            (W.meaning w.old.0).is_plain encoding self.now)) }
         // What can be written is refused for want of memory or by the writer alone.
-        ensures complete { ((e : AnError) → IsFalse (line_program_fails strings.now line_strings.now (W.meaning w.old.0).is_plain encoding self.now e))
+        ensures complete { (NoCause (line_program_fails strings.now line_strings.now
+            (W.meaning w.old.0).is_plain encoding self.now))
             → IfErr result (BytesRefused (W.meaning w.old.0) (W.meaning w.new.0)) }
         ensures same { IsSameWriter (W.meaning w.old.0) (W.meaning w.new.0) }
     {

@@ -26,7 +26,8 @@ fn write_string_ref<W: Writer>(
         (Appends (W.meaning w.old) (W.meaning w.new) (word_of format)
         (name_text (word_of format) strings.now [] (StringRef id))) }
     ensures sound { OnOk result
-        ((e : AnError) → IsFalse (name_fails (word_of format) strings.now [] (W.meaning w.old).is_plain (StringRef id) e)) }
+        ((e : AnError) → IsFalse (name_fails (word_of format) strings.now []
+        (W.meaning w.old).is_plain (StringRef id) e)) }
     ensures err { IfErr result
         (Refused (W.meaning w.old) (W.meaning w.new)
         (name_fails (word_of format) strings.now [] (W.meaning w.old).is_plain (StringRef id))) }
@@ -53,10 +54,12 @@ fn write_line_string_ref<W: Writer>(
         (Appends (W.meaning w.old) (W.meaning w.new) (word_of format)
         (name_text (word_of format) [] line_strings.now (LineStringRef id))) }
     ensures sound { OnOk result
-        ((e : AnError) → IsFalse (name_fails (word_of format) [] line_strings.now (W.meaning w.old).is_plain (LineStringRef id) e)) }
+        ((e : AnError) → IsFalse (name_fails (word_of format) [] line_strings.now
+        (W.meaning w.old).is_plain (LineStringRef id) e)) }
     ensures err { IfErr result
         (Refused (W.meaning w.old) (W.meaning w.new)
-        (name_fails (word_of format) [] line_strings.now (W.meaning w.old).is_plain (LineStringRef id))) }
+        (name_fails (word_of format) [] line_strings.now (W.meaning w.old).is_plain
+        (LineStringRef id))) }
     ensures same { IsSameWriter (W.meaning w.old) (W.meaning w.new) }
 {
     if id.index() >= line_strings.count() {
@@ -81,10 +84,12 @@ pub(crate) fn write_name<W: Writer>(
         (Appends (W.meaning w.old) (W.meaning w.new) (name_size (word_of format) name.now)
         (name_text (word_of format) strings.now line_strings.now name.now)) }
     ensures sound { OnOk result
-        ((e : AnError) → IsFalse (name_fails (word_of format) strings.now line_strings.now (W.meaning w.old).is_plain name.now e)) }
+        ((e : AnError) → IsFalse (name_fails (word_of format) strings.now line_strings.now
+        (W.meaning w.old).is_plain name.now e)) }
     ensures err { IfErr result
         (Refused (W.meaning w.old) (W.meaning w.new)
-        (name_fails (word_of format) strings.now line_strings.now (W.meaning w.old).is_plain name.now)) }
+        (name_fails (word_of format) strings.now line_strings.now
+        (W.meaning w.old).is_plain name.now)) }
     ensures same { IsSameWriter (W.meaning w.old) (W.meaning w.new) }
 {
     match name {
@@ -109,10 +114,12 @@ pub(crate) fn write_names<W: Writer>(
         (Appends (W.meaning w.old) (W.meaning w.new) (sizes (name_size (word_of format)) names.now)
         (texts (name_text (word_of format) strings.now line_strings.now) names.now)) }
     ensures sound { OnOk result
-        ((e : AnError) → IsFalse (list_any (λ n. name_fails (word_of format) strings.now line_strings.now (W.meaning w.old).is_plain n e) names.now)) }
+        ((e : AnError) → IsFalse (list_any (λ n. name_fails
+        (word_of format) strings.now line_strings.now (W.meaning w.old).is_plain n e) names.now)) }
     ensures err { IfErr result
         (Refused (W.meaning w.old) (W.meaning w.new)
-        (λ e. list_any (λ n. name_fails (word_of format) strings.now line_strings.now (W.meaning w.old).is_plain n e) names.now)) }
+        (λ e. list_any (λ n. name_fails (word_of format) strings.now line_strings.now
+        (W.meaning w.old).is_plain n e) names.now)) }
     ensures same { IsSameWriter (W.meaning w.old) (W.meaning w.new) }
 {
     for name in names {

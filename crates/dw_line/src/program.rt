@@ -58,7 +58,8 @@ impl Model for Program {
       rows = p.rows.items;
     } };
 
-    ghost invariant = { λ p. IsProgram p.line_encoding p.directories.keys p.sequences.items p.rows.items };
+    ghost invariant = { λ p. IsProgram p.line_encoding p.directories.keys p.sequences.items
+        p.rows.items };
 }
 
 impl Program {
@@ -222,11 +223,13 @@ impl Program {
     fn write_sequences<W: Writer>(&self, w: &mut W) -> Result<()>
         requires { IsTrue (is_width self.now.encoding.address_size) }
         ensures ok { OnOk result
-            (Appends (W.meaning w.old) (W.meaning w.new) (sequences_size self.now) (sequences_text self.now)) }
+            (Appends (W.meaning w.old) (W.meaning w.new) (sequences_size self.now)
+            (sequences_text self.now)) }
         ensures sound { OnOk result
             ((e : AnError) → IsFalse (sequences_fail (W.meaning w.old).is_plain self.now e)) }
         ensures built { OnOk result
-            (AreBuilt (written_header (W.meaning w.old).is_big self.now.line_encoding) (program_sequences self.now)) }
+            (AreBuilt (written_header (W.meaning w.old).is_big self.now.line_encoding)
+            (program_sequences self.now)) }
         ensures err { IfErr result
             (Refused (W.meaning w.old) (W.meaning w.new)
             (sequences_fail (W.meaning w.old).is_plain self.now)) }
@@ -260,9 +263,11 @@ impl Program {
             (Appends (W.meaning w.old) (W.meaning w.new) (program_length self.now)
             (contents_text strings.now line_strings.now self.now)) }
         ensures sound { OnOk result
-            ((e : AnError) → IsFalse (contents_fail strings.now line_strings.now (W.meaning w.old).is_plain self.now e)) }
+            ((e : AnError) → IsFalse (contents_fail strings.now line_strings.now
+            (W.meaning w.old).is_plain self.now e)) }
         ensures built { OnOk result
-            (AreBuilt (written_header (W.meaning w.old).is_big self.now.line_encoding) (program_sequences self.now)) }
+            (AreBuilt (written_header (W.meaning w.old).is_big self.now.line_encoding)
+            (program_sequences self.now)) }
         ensures wide { OnOk result
             (HeaderIsWide strings.now line_strings.now (W.meaning w.old).is_big self.now) }
         ensures err { IfErr result
@@ -296,7 +301,8 @@ impl Program {
             (Appends (W.meaning w.old) (W.meaning w.new) (program_size self.now)
             (program_text strings.now line_strings.now self.now)) }
         ensures sound { OnOk result
-            ((e : AnError) → IsFalse (program_fails strings.now line_strings.now (W.meaning w.old).is_plain unit self.now e)) }
+            ((e : AnError) → IsFalse (program_fails strings.now line_strings.now
+            (W.meaning w.old).is_plain unit self.now e)) }
         ensures rows { OnOk result
             (ShowsSequences (W.meaning w.old) (W.meaning w.new) (program_sequences self.now)) }
         ensures err { IfErr result

@@ -149,7 +149,8 @@ pub(crate) fn write_rows<W: Writer>(
         (Adds (W.meaning w.old) (W.meaning w.new)
         (rows_text minimum_length (raw_row version first) (map (raw_row version) rows.now))) }
     ensures last { IfOk result
-        (λ r. raw_row version r ≡ last_row (raw_row version first) (map (raw_row version) rows.now)) }
+        (λ r. raw_row version r ≡ last_row (raw_row version first) (map
+        (raw_row version) rows.now)) }
     ensures offset { IfOk result
         (λ r. r.address_offset ≡ last_offset first.address_offset rows.now) }
     ensures lines { OnOk result

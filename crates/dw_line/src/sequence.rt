@@ -54,10 +54,13 @@ impl LineSequence {
         requires order { IsTrue (is_in_order line_encoding.minimum_instruction_length self.now) }
         ensures ok { OnOk result
             (Appends (W.meaning w.old) (W.meaning w.new)
-            (ended_size encoding line_encoding self.now) (ended_text encoding line_encoding self.now)) }
+            (ended_size encoding line_encoding self.now)
+            (ended_text encoding line_encoding self.now)) }
         ensures sound { OnOk result
-            ((e : AnError) → IsFalse (ended_fails (W.meaning w.old).is_plain encoding line_encoding self.now e)) }
-        ensures after { OnOk result (IsEndedAfter (W.meaning w.old).is_big encoding line_encoding self.now) }
+            ((e : AnError) → IsFalse (ended_fails
+            (W.meaning w.old).is_plain encoding line_encoding self.now e)) }
+        ensures after { OnOk result (IsEndedAfter
+            (W.meaning w.old).is_big encoding line_encoding self.now) }
         ensures err { IfErr result
             (Refused (W.meaning w.old) (W.meaning w.new)
             (ended_fails (W.meaning w.old).is_plain encoding line_encoding self.now)) }
@@ -162,12 +165,14 @@ pub(crate) fn write_sequences<W: Writer>(
         (sizes (ended_size encoding line_encoding) sequences.now)
         (texts (ended_text encoding line_encoding) sequences.now)) }
     ensures sound { OnOk result
-        ((e : AnError) → IsFalse (list_any (λ s. ended_fails (W.meaning w.old).is_plain encoding line_encoding s e) sequences.now)) }
+        ((e : AnError) → IsFalse (list_any (λ s. ended_fails
+        (W.meaning w.old).is_plain encoding line_encoding s e) sequences.now)) }
     ensures after { OnOk result
         (All (IsEndedAfter (W.meaning w.old).is_big encoding line_encoding) sequences.now) }
     ensures err { IfErr result
         (Refused (W.meaning w.old) (W.meaning w.new)
-        (λ e. list_any (λ s. ended_fails (W.meaning w.old).is_plain encoding line_encoding s e) sequences.now)) }
+        (λ e. list_any (λ s. ended_fails
+        (W.meaning w.old).is_plain encoding line_encoding s e) sequences.now)) }
     ensures same { IsSameWriter (W.meaning w.old) (W.meaning w.new) }
 {
     for sequence in sequences {
