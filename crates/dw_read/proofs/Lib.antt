@@ -1,0 +1,5 @@
+pub mod Numbers
+pub mod Groups
+pub mod Lefts
+pub mod Laws
+pub mod Reasoned

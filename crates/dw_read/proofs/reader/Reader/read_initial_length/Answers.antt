@@ -1,0 +1,23 @@
+use Rattle.std.proofs.Common.{arith}
+use Rattle.std.proofs.lemmas.Result.{err_from_is_err_and}
+use Rattle.dw_read.proofs.Reasoned.{refuses_length, reads_short_length, refuses_reserved, refuses_long_length, reads_long_length}
+use Rattle.dw_read.proofs.reader.Reader.read_initial_length.Goals as goal
+
+pub returns-in_err-first-clause-err : goal.returns-in_err-first-clause-err
+returns-in_err-first-clause-err g c =
+    let p = err_from_is_err_and c.from_residual.result c.from_residual.ensures.1 in
+    rw (p.1, p.2) (refuses_length _ _ _ c.duplicate-after.ensures c.in_err-first.ensures.err)
+
+pub returns-then-first-lt4294967280-clause-ok : goal.returns-then-first-lt4294967280-clause-ok
+returns-then-first-lt4294967280-clause-ok g c = reads_short_length _ _ _ _ c.duplicate-after.ensures c.in_ok-first.ensures.ok (omega arith)
+
+pub returns-then-first-clause-err : goal.returns-then-first-clause-err
+returns-then-first-clause-err g c = refuses_reserved _ _ _ _ c.duplicate-after.ensures c.in_ok-first.ensures.ok (omega arith) (omega arith)
+
+pub returns-in_err-length-clause-err : goal.returns-in_err-length-clause-err
+returns-in_err-length-clause-err g c =
+    let p = err_from_is_err_and c.from_residual-in_err-length.result c.from_residual-in_err-length.ensures.1 in
+    rw (p.1, p.2) (refuses_long_length _ _ _ _ _ c.duplicate-after.ensures c.in_ok-first.ensures.ok (omega arith) c.in_err-length.ensures.err)
+
+pub returns-clause-ok : goal.returns-clause-ok
+returns-clause-ok g c = reads_long_length _ _ _ _ _ _ c.duplicate-after.ensures c.in_ok-first.ensures.ok (omega arith) c.in_ok-length.ensures.ok

@@ -1,0 +1,27 @@
+use Rattle.std.proofs.Common.{◌≡◌, subst, ℕ, ℤ, ◌≤◌, List, length, drop, Ok, Err, rules}
+use Rattle.std.proofs.lemmas.Result.{err_from_is_err_and}
+use mir.Val.{SFits}
+use mir.Syntax.{w64}
+use Rattle.std.proofs.lemmas.Int.{to_z-of_z}
+use Rattle.dw_base.specs.Leb128.{sleb_at}
+use Rattle.dw_read.specs.Reasons.{sleb_read}
+use Rattle.dw_read.proofs.Laws.{refuses, sleb_law}
+use Rattle.dw_read.proofs.Reasoned.{enough, reads_passed}
+use Rattle.dw_read.proofs.reader.Reader.read_sleb128.Goals as goal
+
+pub returns-in_err-value-clause-err : goal.returns-in_err-value-clause-err
+returns-in_err-value-clause-err g c =
+    let p = err_from_is_err_and c.from_residual.result c.from_residual.ensures.1 in
+    let h : sleb_read c.to_slice.result.now ≡ Err c.in_err-value.field-0.0 = c.in_err-value.ensures.err in
+    rw (p.1, p.2) (refuses ℤ sleb_at sleb_read _ _ sleb_law (subst (λ (l : List ℕ). sleb_read l ≡ Err c.in_err-value.field-0.0) c.to_slice.ensures h))
+
+pub returns-in_err-skip-clause-err : goal.returns-in_err-skip-clause-err
+returns-in_err-skip-clause-err g c =
+    absurd (enough c.in_ok-value.size _ _ (subst (λ (l : List ℕ). c.in_ok-value.size ≤ length l) c.to_slice.ensures c.in_ok-value.ensures.within) c.in_err-skip.ensures.err)
+
+pub returns-clause-ok : goal.returns-clause-ok
+returns-clause-ok g c =
+    let fits : SFits w64 c.in_ok-value.value = search rules in
+    rw (to_z-of_z w64 c.in_ok-value.value fits)
+    (reads_passed ℤ sleb_at sleb_read c.in_ok-value.size _ _ _ sleb_law c.in_ok-skip.ensures.ok
+    (subst (λ (l : List ℕ). sleb_read l ≡ Ok (c.in_ok-value.value, drop c.in_ok-value.size l)) c.to_slice.ensures c.in_ok-value.ensures.ok))

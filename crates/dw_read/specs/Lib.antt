@@ -1,0 +1,3 @@
+pub mod ErrorName
+pub mod Reading
+pub mod Reasons

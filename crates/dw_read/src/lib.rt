@@ -1,0 +1,16 @@
+//! Reads `.debug_info` and the sections beside it: numbers, texts and parts of a section, by the
+//! grammar of `dw_base`. Readers hand out parts of the section without copying them.
+#![tactic(auto)]
+
+mod endian_slice;
+mod error;
+mod leb128;
+mod number;
+mod reader;
+#[cfg(test)]
+mod tests;
+mod text;
+
+pub use endian_slice::EndianSlice;
+pub use error::{ReadError, ReadResult};
+pub use reader::Reader;

@@ -1,0 +1,46 @@
+//! Numbers of several bytes in either order (DWARF 5, 7.26 has none of its own: the target's).
+
+ghost use Rattle.std.specs.Prelude.{◌≡◌, ◌≤◌, ◌<◌, ◌^◌, length};
+ghost use Rattle.dw_base.specs.Numbers.{value_of};
+
+/// The number of at most 8 bytes; `big` tells that the highest stands first.
+pub(crate) fn number_of(bytes: &[u8], big: bool) -> u64
+    requires { length bytes.now ≤ 8 }
+    ensures value { result ≡ value_of big bytes.now }
+    ensures fits { result < 256 ^ length bytes.now }
+{
+    let mut value = 0u64;
+    if big {
+        'high: for byte in bytes {
+            value = value * 256 + *byte as u64;
+        }
+        return value;
+    }
+    let mut index = bytes.len();
+    'low: while index > 0 {
+        index -= 1;
+        value = value * 256 + bytes[index] as u64;
+    }
+    value
+}
+
+/// The number of at most 16 bytes; `big` tells that the highest stands first.
+pub(crate) fn wide_number_of(bytes: &[u8], big: bool) -> u128
+    requires { length bytes.now ≤ 16 }
+    ensures value { result ≡ value_of big bytes.now }
+    ensures fits { result < 256 ^ length bytes.now }
+{
+    let mut value = 0u128;
+    if big {
+        'high: for byte in bytes {
+            value = value * 256 + *byte as u128;
+        }
+        return value;
+    }
+    let mut index = bytes.len();
+    'low: while index > 0 {
+        index -= 1;
+        value = value * 256 + bytes[index] as u128;
+    }
+    value
+}
