@@ -1,11 +1,13 @@
 -- LEB128 numbers at the front of bytes, read from the last group back; and the bytes before a zero.
-use Rattle.std.proofs.Common.{◌≡◌, ◌∙◌, sym, ℕ, zero, suc, ◌+◌, ◌-◌, ◌*◌, ◌^◌, ◌<◌, ◌≤◌, List, [], ◌∷◌, length, take, drop, get_or, Some, None, Bool, true, false, Ok, Err, pos, negsuc, refl, arith, add-one, subst, nat_lt, nat_le}
+use Rattle.std.proofs.Common.{◌≡◌, ◌∙◌, sym, ℕ, zero, suc, ◌+◌, ◌-◌, ◌*◌, ◌^◌, ◌<◌, ◌≤◌, List, [], ◌∷◌, length, take, drop, get_or, Some, None, Bool, true, false, Ok, Err, pos, negsuc, refl, arith, add-one, subst, nat_lt, nat_le, if◌then◌else◌, ap, ℤ}
 use Rattle.std.proofs.Math.Seq.{drop-cons}
 use Rattle.std.proofs.lemmas.Bool.{lt-ltb, le-ltb, leb-true, leb-false}
 use mir.Val.{to_z, of_z}
 use mir.Syntax.{w64}
 use Rattle.std.proofs.lemmas.Int.{to_z-of_z}
 use Rattle.dw_base.specs.Leb128.{groups_at, signed_seven, above_seven, signed_groups_at, fits_i64}
+use Rattle.dw_base.specs.Numbers.{◌>>=◌}
+use Rattle.dw_base.proofs.NumberLaws.{bind_parts}
 use Rattle.dw_base.specs.Forms.{text_at}
 use Rattle.dw_read.specs.Reasons.{uleb_read, sleb_read, digit, signed}
 use Rattle.dw_read.specs.declared.error.ReadError.TheVariants.{UnexpectedEof, BadLeb128}
@@ -121,3 +123,36 @@ text_found zero (zero ∷ bs) l z h = refl
 text_found zero (suc b ∷ bs) l z h = absurd (omega arith)
 text_found (suc n) (zero ∷ bs) l z h = absurd (let q : 0 < 0 = h 0 (omega arith) in omega arith)
 text_found (suc n) (suc b ∷ bs) l z h = rw (text_found n bs (omega arith) z (λ k q. h (suc k) (omega arith))) refl
+
+-- a number takes a byte at least
+first_shorter : (t : Bool) (b : ℕ) (bs : List ℕ) (x : ℕ × List ℕ) → ((y : ℕ × List ℕ) → groups_at bs ≡ Some y → length y.1 < length bs)
+    → (if t then Some (b, bs) else (groups_at bs >>= λ y. Some (b - 128 + 128 * y.0, y.1))) ≡ Some x → length x.1 < suc (length bs)
+first_shorter true b bs x h e = let r : (b, bs) ≡ x = cc in
+    let q : bs ≡ x.1 = ap (λ (y : ℕ × List ℕ). y.1) r in omega (arith, ap length q)
+first_shorter false b bs x h e =
+    let p = bind_parts (groups_at bs) (λ (y : ℕ × List ℕ). Some (b - 128 + 128 * y.0, y.1)) x e in
+    let f : Some (b - 128 + 128 * p.0.0, p.0.1) ≡ Some x = p.2 in
+    let r : (b - 128 + 128 * p.0.0, p.0.1) ≡ x = cc f in
+    let q : p.0.1 ≡ x.1 = ap (λ (y : ℕ × List ℕ). y.1) r in
+    omega (arith, ap length q, h p.0 p.1)
+
+pub groups_shorter : (bs : List ℕ) (x : ℕ × List ℕ) → groups_at bs ≡ Some x → length x.1 < length bs
+unfolding groups_at
+groups_shorter [] x e = cc
+groups_shorter (b ∷ bs) x e = first_shorter (nat_lt b 128) b bs x (groups_shorter bs) e
+
+signed_first_shorter : (t : Bool) (b : ℕ) (bs : List ℕ) (x : ℤ × List ℕ) → ((y : ℤ × List ℕ) → signed_groups_at bs ≡ Some y → length y.1 < length bs)
+    → (if t then Some (signed_seven b, bs) else (signed_groups_at bs >>= λ y. Some (above_seven (b - 128) y.0, y.1))) ≡ Some x → length x.1 < suc (length bs)
+signed_first_shorter true b bs x h e = let r : (signed_seven b, bs) ≡ x = cc in
+    let q : bs ≡ x.1 = ap (λ (y : ℤ × List ℕ). y.1) r in omega (arith, ap length q)
+signed_first_shorter false b bs x h e =
+    let p = bind_parts (signed_groups_at bs) (λ (y : ℤ × List ℕ). Some (above_seven (b - 128) y.0, y.1)) x e in
+    let f : Some (above_seven (b - 128) p.0.0, p.0.1) ≡ Some x = p.2 in
+    let r : (above_seven (b - 128) p.0.0, p.0.1) ≡ x = cc f in
+    let q : p.0.1 ≡ x.1 = ap (λ (y : ℤ × List ℕ). y.1) r in
+    omega (arith, ap length q, h p.0 p.1)
+
+pub signed_groups_shorter : (bs : List ℕ) (x : ℤ × List ℕ) → signed_groups_at bs ≡ Some x → length x.1 < length bs
+unfolding signed_groups_at
+signed_groups_shorter [] x e = cc
+signed_groups_shorter (b ∷ bs) x e = signed_first_shorter (nat_lt b 128) b bs x (signed_groups_shorter bs) e

@@ -3,3 +3,8 @@ pub mod Groups
 pub mod Lefts
 pub mod Laws
 pub mod Reasoned
+pub mod Chain
+pub mod Items
+pub mod Declared
+pub mod Indexed
+pub mod TableLaws

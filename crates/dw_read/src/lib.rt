@@ -2,6 +2,9 @@
 //! grammar of `dw_base`. Readers hand out parts of the section without copying them.
 #![tactic(auto)]
 
+mod abbreviation;
+mod abbreviations;
+mod declaration;
 mod endian_slice;
 mod error;
 mod leb128;
@@ -11,6 +14,8 @@ mod reader;
 mod tests;
 mod text;
 
+pub use abbreviation::{Abbreviation, AttributeSpecification};
+pub use abbreviations::Abbreviations;
 pub use endian_slice::EndianSlice;
 pub use error::{ReadError, ReadResult};
 pub use reader::Reader;

@@ -1,0 +1,55 @@
+use Rattle.std.proofs.Common.{◌≡◌, ◌∙◌, sym, ap, subst, ℕ, ℤ, ◌+◌, ◌≤◌, ◌<◌, ◌++◌, ◌∷◌, [], map, Option, List, length, drop, Bool, Some, None, Ok, Err, refl, arith, rules, inl, inr}
+use Rattle.std.proofs.lemmas.Result.{err_from_is_err_and}
+use Rattle.dw_base.specs.Numbers.{number_at}
+use Rattle.dw_base.specs.Leb128.{uleb_at, sleb_at}
+use Rattle.dw_base.specs.Abbreviations.{Specification, Shape, Declaration}
+use Rattle.dw_read.specs.Reading.{Reading, left}
+use Rattle.dw_read.specs.Took.{Took, RefusesOrFull, option_of}
+use Rattle.dw_read.specs.Reasons.{uleb_read, uleb16_read, sleb_read, number_read}
+use Rattle.dw_read.specs.Declarations.{constant_read, specification_read, specifications_read, children_read, shape_read, declaration_read, table_read}
+use Rattle.dw_read.specs.Specifications.{specification_of}
+use Rattle.dw_read.proofs.Laws.{uleb_law, sleb_law}
+use Rattle.dw_read.proofs.Chain.{took_of, took, Went, went, went_none, went_then, number_took, number_not, reason, full, refused_of}
+use Rattle.dw_read.proofs.Items.{Collects, collects_none, collects_more, collects_end, collects_err}
+use Rattle.dw_read.proofs.Declared.{uleb16_is, uleb16_big, uleb16_err, no_code, table_end, no_shape, doubled, one_declaration, one_is_declaration, constant_none, constant_some, constant_err, no_name, no_form, name_zero, two_zeros, no_constant, one_specification, no_children_byte, children_false, children_true, children_bad, one_is_specification, no_tag, tag_zero, no_children, no_attributes, one_shape}
+use Rattle.std.specs.Prelude.{is_some}
+use Rattle.std.specs.Borrow.{Bor}
+use Rattle.dw_base.specs.Abbreviations.{table_at}
+use Rattle.dw_read.specs.Reading.{Refuses}
+use Rattle.dw_read.specs.declared.error.ReadError.{ReadError}
+use Rattle.dw_read.specs.declared.error.ReadError.TheVariants.{NoMemory}
+use Rattle.dw_read.proofs.Chain.{reads_of}
+use Rattle.dw_read.proofs.TableLaws.{table_law, refuses_table}
+use Rattle.dw_read.proofs.Indexed.{found_some, found_none, indexed_same, indexed_other, not_there}
+use Rattle.dw_read.proofs.abbreviations.read_declaration.Goals as goal
+
+pub returns-in_err-code-clause-err : goal.returns-in_err-code-clause-err
+returns-in_err-code-clause-err g c =
+    let p = err_from_is_err_and c.from_residual.result c.from_residual.ensures.1 in
+    rw (p.1, p.2) (reason (Option Declaration) (declaration_read c.args.before.now) (g.R.Reader.reading c.args.input.now) _ (no_code c.args.before.now _ _ c.in_err-code.ensures.err.reason))
+
+pub returns-then-code-eq0-clause-ok : goal.returns-then-code-eq0-clause-ok
+returns-then-code-eq0-clause-ok g c =
+    let t = took_of ℕ uleb_at uleb_read _ _ _ uleb_law c.in_ok-code.ensures.ok in
+    took (Option Declaration) (declaration_read c.args.before.now) _ _ _ (went ℕ uleb_read _ _ _ t) (table_end c.args.before.now _ _ _ t.value c.if-code-eq0.true)
+
+pub returns-in_err-abbreviation-clause-err : goal.returns-in_err-abbreviation-clause-err
+returns-in_err-abbreviation-clause-err g c =
+    let t = took_of ℕ uleb_at uleb_read _ _ _ uleb_law c.in_ok-code.ensures.ok in
+    let p = err_from_is_err_and c.from_residual-in_err-abbreviation.result c.from_residual-in_err-abbreviation.ensures.1 in
+    rw (p.1, p.2) (refused_of Shape (Option Declaration) shape_read (declaration_read c.args.before.now) (g.R.Reader.reading c.read_uleb128.new.self) (g.R.Reader.reading c.args.input.now) _ (no_shape c.args.before.now _ _ _ _ t.value (omega arith)) c.in_err-abbreviation.ensures.err)
+
+pub returns-then-is_some-clause-err : goal.returns-then-is_some-clause-err
+returns-then-is_some-clause-err g c =
+    let t = took_of ℕ uleb_at uleb_read _ _ _ uleb_law c.in_ok-code.ensures.ok in
+    let f = found_some c.args.before.now c.in_ok-code.code c.get.result c.get.ensures (sym c.is_some.ensures ∙ c.if-is_some.true) in
+    reason (Option Declaration) (declaration_read c.args.before.now) (g.R.Reader.reading c.args.input.now) _ (doubled c.args.before.now _ _ f.0 _ _ _ t.value (omega arith) c.in_ok-abbreviation.ensures.ok.value f.1)
+
+pub returns-clause-ok : goal.returns-clause-ok
+returns-clause-ok g c =
+    let t = took_of ℕ uleb_at uleb_read _ _ _ uleb_law c.in_ok-code.ensures.ok in
+    let f = found_none c.args.before.now c.in_ok-code.code c.get.result c.get.ensures (sym c.is_some.ensures ∙ c.if-is_some.false) in
+    let o = c.in_ok-abbreviation.ensures.ok in
+    took (Option Declaration) (declaration_read c.args.before.now) _ _ _ (went_then _ _ _ (went ℕ uleb_read _ _ _ t) (went Shape shape_read _ _ _ o))
+    (one_declaration c.args.before.now _ _ _ _ _ t.value (omega arith) o.value f
+    ∙ ap (λ (k : ℕ). Ok (Some (record { code = k; shape = c.in_ok-abbreviation.abbreviation.shape }), left (g.R.Reader.reading c.read_shape.new.input))) (sym c.in_ok-abbreviation.ensures.code))

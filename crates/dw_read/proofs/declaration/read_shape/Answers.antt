@@ -1,0 +1,39 @@
+use Rattle.std.proofs.Common.{◌≡◌, ◌∙◌, sym, ap, subst, ℕ, ℤ, ◌+◌, ◌≤◌, ◌<◌, ◌++◌, ◌∷◌, [], map, Option, List, length, drop, Bool, Some, None, Ok, Err, refl, arith, rules, inl, inr}
+use Rattle.std.proofs.lemmas.Result.{err_from_is_err_and}
+use Rattle.dw_base.specs.Numbers.{number_at}
+use Rattle.dw_base.specs.Leb128.{uleb_at, sleb_at}
+use Rattle.dw_base.specs.Abbreviations.{Specification, Shape, Declaration}
+use Rattle.dw_read.specs.Reading.{Reading, left}
+use Rattle.dw_read.specs.Took.{Took, RefusesOrFull, option_of}
+use Rattle.dw_read.specs.Reasons.{uleb_read, uleb16_read, sleb_read, number_read}
+use Rattle.dw_read.specs.Declarations.{constant_read, specification_read, specifications_read, children_read, shape_read}
+use Rattle.dw_read.specs.Specifications.{specification_of}
+use Rattle.dw_read.proofs.Laws.{uleb_law, sleb_law}
+use Rattle.dw_read.proofs.Chain.{took_of, took, Went, went, went_none, went_then, number_took, number_not, reason, full, refused_of}
+use Rattle.dw_read.proofs.Items.{Collects, collects_none, collects_more, collects_end, collects_err}
+use Rattle.dw_read.proofs.Declared.{uleb16_is, uleb16_big, uleb16_err, constant_none, constant_some, constant_err, no_name, no_form, name_zero, two_zeros, no_constant, one_specification, no_children_byte, children_false, children_true, children_bad, one_is_specification, no_tag, tag_zero, no_children, no_attributes, one_shape}
+use Rattle.dw_read.proofs.declaration.read_shape.Goals as goal
+
+pub returns-in_err-tag-clause-err : goal.returns-in_err-tag-clause-err
+returns-in_err-tag-clause-err g c =
+    let p = err_from_is_err_and c.from_residual.result c.from_residual.ensures.1 in
+    rw (p.1, p.2) (reason Shape shape_read (g.R.Reader.reading c.args.input.now) _ (no_tag _ _ c.in_err-tag.ensures.err))
+
+pub returns-then-tag-eq0-clause-err : goal.returns-then-tag-eq0-clause-err
+returns-then-tag-eq0-clause-err g c = reason Shape shape_read (g.R.Reader.reading c.args.input.now) _ (tag_zero _ _ _ c.in_ok-tag.ensures.ok.value (omega arith))
+
+pub returns-in_err-has_children-clause-err : goal.returns-in_err-has_children-clause-err
+returns-in_err-has_children-clause-err g c =
+    let p = err_from_is_err_and c.from_residual-in_err-has_children.result c.from_residual-in_err-has_children.ensures.1 in
+    rw (p.1, p.2) (reason Shape shape_read (g.R.Reader.reading c.args.input.now) _ (no_children _ _ _ _ c.in_ok-tag.ensures.ok.value (omega arith) c.in_err-has_children.ensures.err))
+
+pub returns-in_err-attributes-clause-err : goal.returns-in_err-attributes-clause-err
+returns-in_err-attributes-clause-err g c =
+    let p = err_from_is_err_and c.from_residual-in_err-attributes.result c.from_residual-in_err-attributes.ensures.1 in
+    rw (p.1, p.2) (refused_of (List Specification) Shape specifications_read shape_read (g.R.Reader.reading c.read_has_children.new.input) (g.R.Reader.reading c.args.input.now) _ (no_attributes _ _ _ _ _ _ c.in_ok-tag.ensures.ok.value (omega arith) c.in_ok-has_children.ensures.ok.value) c.in_err-attributes.ensures.err)
+
+pub returns-clause-ok : goal.returns-clause-ok
+returns-clause-ok g c =
+    took Shape shape_read _ _ _
+    (went_then _ _ _ (went_then _ _ _ (went ℕ uleb16_read _ _ _ c.in_ok-tag.ensures.ok) (went Bool children_read _ _ _ c.in_ok-has_children.ensures.ok)) (went (List Specification) specifications_read _ _ _ c.in_ok-attributes.ensures.ok))
+    (one_shape _ _ _ _ _ _ _ c.in_ok-tag.ensures.ok.value (omega arith) c.in_ok-has_children.ensures.ok.value c.in_ok-attributes.ensures.ok.value)
