@@ -20,6 +20,9 @@ pub record Went (old new : Reading) : Type 0 where
   pub count : ℕ
   pub passes : Passes count old new
 
+pub went_of : (n : ℕ) (old new : Reading) → Passes n old new → Went old new
+went_of n old new h = record { count = n; passes = h }
+
 pub went_none : (r : Reading) → IsReading r → Went r r
 went_none r h = record { count = 0; passes = passes_none r h }
 

@@ -8,3 +8,5 @@ pub mod Items
 pub mod Declared
 pub mod Indexed
 pub mod TableLaws
+pub mod HeaderRead
+pub mod HeaderParts

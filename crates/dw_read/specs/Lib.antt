@@ -6,3 +6,6 @@ pub mod Specifications
 pub mod Declarations
 pub mod Tables
 pub mod Index
+pub mod Headers
+pub mod Fields
+pub mod UnitHeaders

@@ -7,15 +7,18 @@ mod abbreviations;
 mod declaration;
 mod endian_slice;
 mod error;
+mod header;
 mod leb128;
 mod number;
 mod reader;
 #[cfg(test)]
 mod tests;
 mod text;
+mod unit_header;
 
 pub use abbreviation::{Abbreviation, AttributeSpecification};
 pub use abbreviations::Abbreviations;
 pub use endian_slice::EndianSlice;
 pub use error::{ReadError, ReadResult};
 pub use reader::Reader;
+pub use unit_header::{UnitHeader, UnitHeadersIter};

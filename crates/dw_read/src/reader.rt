@@ -1,7 +1,7 @@
 //! What every reader of a section does.
 
 ghost use Rattle.std.specs.Prelude.{◌≡◌, ◌≤◌, ◌<◌, ◌^◌, length, OnOk, OnErr, IfOk, IfErr};
-ghost use Rattle.dw_base.specs.Numbers.{bytes_at, number_at, initial_length_at, word_of, is_width};
+ghost use Rattle.dw_base.specs.Numbers.{bytes_at, number_at, initial_length_at, length_size, word_of, is_width};
 ghost use Rattle.dw_base.specs.Leb128.{uleb_at, sleb_at};
 ghost use Rattle.dw_base.specs.Forms.{text_at};
 ghost use Rattle.dw_read.specs.Reading.{Reading, IsReading, IsPart, left, part, Passes, Reads, Refuses};
@@ -192,6 +192,7 @@ pub trait Reader: Sized + Drop {
 
     /// A length that tells its format, the length first (DWARF 5, 7.4).
     final fn read_initial_length(&mut self) -> ReadResult<(usize, Format)>
+        ensures passes { IfOk result (λ x. Passes (length_size x.1) (reading self.old) (reading self.new)) }
         ensures ok { IfOk result (λ x. Reads _ (initial_length_at (reading self.old).is_big)
             (reading self.old) (reading self.new) (x.1, x.0)) }
         ensures err { IfErr result (Refuses _ (initial_length_at (reading self.old).is_big)

@@ -1,2 +1,3 @@
+mod headers;
 mod numbers;
 mod tables;

@@ -1,5 +1,7 @@
-use Rattle.std.proofs.Common.{arith}
+use Rattle.std.proofs.Common.{subst, arith}
 use Rattle.std.proofs.lemmas.Result.{err_from_is_err_and}
+use Rattle.dw_read.specs.Reading.{Reading, Passes}
+use Rattle.dw_read.proofs.Lefts.{passes_then}
 use Rattle.dw_read.proofs.Reasoned.{refuses_length, reads_short_length, refuses_reserved, refuses_long_length, reads_long_length}
 use Rattle.dw_read.proofs.reader.Reader.read_initial_length.Goals as goal
 
@@ -21,3 +23,9 @@ returns-in_err-length-clause-err g c =
 
 pub returns-clause-ok : goal.returns-clause-ok
 returns-clause-ok g c = reads_long_length _ _ _ _ _ _ c.duplicate-after.ensures c.in_ok-first.ensures.ok (omega arith) c.in_ok-length.ensures.ok
+
+pub returns-then-first-lt4294967280-clause-passes : goal.returns-then-first-lt4294967280-clause-passes
+returns-then-first-lt4294967280-clause-passes g c = subst (λ (r : Reading). Passes 4 r (g.Self.Reader.reading c.read_u32.new.self)) c.duplicate-after.ensures c.in_ok-first.ensures.passes
+
+pub returns-clause-passes : goal.returns-clause-passes
+returns-clause-passes g c = subst (λ (r : Reading). Passes 12 r (g.Self.Reader.reading c.read_word.new.self)) c.duplicate-after.ensures (passes_then 4 8 _ _ _ c.in_ok-first.ensures.passes c.in_ok-length.ensures.passes)

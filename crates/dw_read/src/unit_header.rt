@@ -1,0 +1,100 @@
+//! The headers of a section's units, one after the other (DWARF 5, 7.5.1).
+
+ghost use Rattle.std.specs.Prelude.{◌≡◌, IfOk, IfErr, Err, unwrap_or};
+ghost use Rattle.dw_base.specs.declared.constants.TheConstants.{DW_UT_compile};
+ghost use Rattle.dw_read.specs.Reading.{left};
+ghost use Rattle.dw_read.specs.Headers.{header_read};
+ghost use Rattle.dw_read.specs.UnitHeaders.{IsHeaderRead, ReadsHeader, starts_at};
+
+use crate::error::{ReadError, ReadResult};
+use crate::header::{Fields, read_fields};
+use crate::reader::Reader;
+use dw_base::constants::DW_UT_compile;
+use dw_base::{DebugInfoOffset, DwUt, Encoding};
+
+/// The header of a unit, with what follows it in the unit.
+#[derive(Drop)]
+pub struct UnitHeader<R: Reader> {
+    pub(crate) offset: DebugInfoOffset,
+    pub(crate) fields: Fields,
+    pub(crate) body: R,
+}
+
+impl<R: Reader> UnitHeader<R> {
+    /// The place of the unit in `.debug_info`.
+    pub fn offset(&self) -> DebugInfoOffset
+        ensures { result ≡ self.now.offset }
+    {
+        self.offset
+    }
+
+    /// How the unit's values are encoded.
+    pub fn encoding(&self) -> Encoding
+        ensures { result ≡ self.now.fields.encoding }
+    {
+        self.fields.encoding
+    }
+
+    /// The unit's type. Below version 5 a header tells none, and it is compile.
+    pub fn unit_type(&self) -> DwUt
+        ensures { result ≡ unwrap_or self.now.fields.unit_type DW_UT_compile }
+    {
+        self.fields.unit_type.unwrap_or(DW_UT_compile)
+    }
+}
+
+/// The headers of the units of `.debug_info`, without their entries.
+#[derive(Drop)]
+pub struct UnitHeadersIter<R: Reader> {
+    pub(crate) input: R,
+    pub(crate) has_failed: bool,
+}
+
+impl<R: Reader> UnitHeadersIter<R> {
+    /// The headers of the units of a section, from the reader's place on.
+    pub fn new(section: R) -> UnitHeadersIter<R>
+        ensures { result ≡ starts_at section }
+    {
+        UnitHeadersIter {
+            input: section,
+            has_failed: false,
+        }
+    }
+
+    /// The next header. None comes at the section's end, and once an error was answered.
+    pub fn next(&mut self) -> ReadResult<Option<UnitHeader<R>>>
+        ensures { ReadsHeader R.reading self.old self.new result }
+    {
+        if self.has_failed || self.input.len() == 0 {
+            return Ok(None);
+        }
+        let mut after = self.input.duplicate();
+        match read_header(&mut after) {
+            Ok(header) => {
+                self.input = after;
+                Ok(Some(header))
+            }
+            Err(error) => {
+                self.has_failed = true;
+                Err(error)
+            }
+        }
+    }
+}
+
+/// Reads the header of the unit at the reader's place, and passes the unit.
+fn read_header<R: Reader>(input: &mut R) -> ReadResult<UnitHeader<R>>
+    ensures ok { IfOk result (IsHeaderRead R.reading (R.reading input.old) (R.reading input.new)) }
+    ensures err { IfErr result (λ e. header_read (R.reading input.old).is_big
+        (left (R.reading input.old)) ≡ Err e) }
+{
+    let offset = DebugInfoOffset(input.place());
+    let (length, format) = input.read_initial_length()?;
+    let mut body = input.split(length)?;
+    let fields = read_fields(&mut body, format)?;
+    Ok(UnitHeader {
+        offset,
+        fields,
+        body,
+    })
+}
