@@ -1,12 +1,12 @@
 -- Readings inside the crate, one after the other.
-use Rattle.std.proofs.Common.{◌≡◌, ◌∙◌, sym, ap, subst, ℕ, ◌+◌, ◌-◌, ◌<◌, ◌≤◌, List, length, Some, None, Ok, Err, Bool, arith, ◌⊎◌, inl, inr}
+use Rattle.std.proofs.Common.{◌≡◌, subst, ℕ, ◌+◌, Some, Ok, Err, Bool, inl, inr}
 use Rattle.dw_base.specs.Numbers.{Parser, number_at}
 use Rattle.dw_read.specs.Reading.{Reading, IsReading, Passes, Reads, Read, Refuses, left}
 use Rattle.dw_read.specs.Took.{Took, RefusesOrFull}
 use Rattle.dw_read.specs.Reasons.{number_read}
 use Rattle.dw_read.specs.declared.error.ReadError.{ReadError}
 use Rattle.dw_read.specs.declared.error.ReadError.TheVariants.{NoMemory}
-use Rattle.dw_read.proofs.Laws.{IsReadOf, read_is, grammar_is, refuses, number_law}
+use Rattle.dw_read.proofs.Laws.{IsReadOf, read_is, grammar_is, number_law}
 use Rattle.dw_read.proofs.Lefts.{passes_none, passes_then, same_order}
 
 pub took_of : (A : Type 0) (grammar : Parser A) (read : Read A) (old new : Reading) (x : A) → IsReadOf A grammar read → Reads A grammar old new x → Took A read old new x

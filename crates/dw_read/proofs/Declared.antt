@@ -1,8 +1,8 @@
 -- The parts of a declaration, from what was read of it.
-use Rattle.std.proofs.Common.{◌≡◌, ◌∙◌, sym, ap, subst, ℕ, zero, suc, ◌+◌, ◌-◌, ◌*◌, ◌<◌, ◌≤◌, ◌^◌, List, [], ◌∷◌, ◌++◌, length, Option, Some, None, Ok, Err, Result, Bool, true, false, not, ◌&&◌, ℤ, refl, arith, nat_lt, nat_eq, if◌then◌else◌, ap₂}
+use Rattle.std.proofs.Common.{◌≡◌, ◌∙◌, ap, ℕ, zero, suc, ◌<◌, ◌≤◌, ◌^◌, List, [], ◌∷◌, length, Option, Some, None, Ok, Err, Result, Bool, true, false, not, ◌&&◌, ℤ, refl, arith, nat_lt, nat_eq, if◌then◌else◌, ap₂}
 use Rattle.std.proofs.lemmas.Bool.{lt-ltb, le-ltb}
 use borrow.Author.Tests.{ne_eqb, eq-eqb}
-use Rattle.dw_base.specs.Numbers.{◌>>=◌, when, number_at, bytes_at}
+use Rattle.dw_base.specs.Numbers.{when, number_at, bytes_at}
 use Rattle.dw_base.proofs.NumberLaws.{bind_parts, when_same}
 use Rattle.dw_base.proofs.HeaderLaws.{byte-again}
 use Rattle.dw_read.proofs.Laws.{grammar_is, uleb_law, sleb_law}
@@ -11,7 +11,6 @@ use Rattle.dw_read.proofs.Items.{IsOne, Collects, collects_err, collects_end, th
 use Rattle.dw_base.specs.Forms.{implicit_const}
 use Rattle.dw_base.specs.Leb128.{groups_at, uleb_at, signed_groups_at, fits_i64, sleb_at}
 use Rattle.dw_base.specs.Abbreviations.{Specification, Shape, Declaration, is_new_code, shape_of_code}
-use Rattle.dw_read.specs.Reading.{Read}
 use Rattle.dw_read.specs.Reasons.{◌=>>◌, or_refuse, if_so, uleb_read, uleb16_read, sleb_read, number_read}
 use Rattle.dw_read.specs.Declarations.{constant_read, specification_read, specifications_read, children_read, shape_read, declaration_read, table_read}
 use Rattle.dw_read.specs.declared.error.ReadError.{ReadError}

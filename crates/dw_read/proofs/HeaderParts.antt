@@ -1,15 +1,15 @@
 -- A unit's header, from the calls that read its parts.
-use Rattle.std.proofs.Common.{◌≡◌, ◌∙◌, sym, ap, ap₂, subst, ℕ, ◌+◌, ◌-◌, ◌<◌, ◌≤◌, List, length, take, drop, Option, Some, None, Ok, Err, Bool, refl, arith}
+use Rattle.std.proofs.Common.{◌≡◌, ◌∙◌, sym, ap, ap₂, subst, ℕ, ◌+◌, ◌-◌, ◌≤◌, List, length, take, drop, Ok, Err, Bool, refl, arith}
 use Rattle.std.proofs.lemmas.Bool.{le-leb}
 use Rattle.dw_base.specs.Numbers.{bytes_at, initial_length_at, length_size}
-use Rattle.dw_base.specs.Headers.{Header, HeaderRead}
+use Rattle.dw_base.specs.Headers.{Header}
 use Rattle.dw_base.specs.declared.common.Format.{Format}
 use Rattle.dw_read.specs.Reading.{Reading, IsReading, Passes, Reads, left, part}
 use Rattle.dw_read.specs.Took.{Took}
-use Rattle.dw_read.specs.Reasons.{◌=>>◌, or_refuse, bytes_read, initial_length_read}
+use Rattle.dw_read.specs.Reasons.{bytes_read, initial_length_read}
 use Rattle.dw_read.specs.Headers.{fields_read, header_read}
 use Rattle.dw_read.specs.declared.error.ReadError.{ReadError}
-use Rattle.dw_read.proofs.Laws.{read_is, bytes_law, initial_length_law}
+use Rattle.dw_read.proofs.Laws.{read_is, initial_length_law}
 use Rattle.dw_read.proofs.Lefts.{length-left, left_part, left_passed, passes_then, same_order, shorter}
 
 enough_bytes : (n : ℕ) (bytes : List ℕ) → n ≤ length bytes → bytes_read n bytes ≡ Ok (take n bytes, drop n bytes)

@@ -1,13 +1,10 @@
 -- The parts of a unit's header, from what was read of it.
-use Rattle.std.proofs.Common.{◌≡◌, ◌∙◌, sym, ap, subst, ℕ, ◌+◌, ◌-◌, ◌<◌, ◌≤◌, List, length, Option, Some, None, Ok, Err, Result, Bool, true, false, ◌&&◌, refl, arith, nat_eq, nat_le, if◌then◌else◌, IfOk, IfErr}
-use Rattle.std.proofs.lemmas.Bool.{le-leb, leb-true}
+use Rattle.std.proofs.Common.{◌≡◌, ◌∙◌, subst, ℕ, List, Option, Some, None, Ok, Err, Result, Bool, true, false, ◌&&◌, refl, nat_eq, nat_le, if◌then◌else◌}
 use borrow.Author.Tests.{ne_eqb, eq-eqb}
 use Rattle.std.specs.Result.{result_ok}
-use Rattle.dw_base.specs.Numbers.{◌>>=◌, when, bytes_at, number_at, initial_length_at, word_of, length_size, is_width}
-use Rattle.dw_base.specs.Headers.{Header, HeaderRead, is_unit_type, has_identity, has_type_offset, identity_at, type_offset_at, old_fields_at, new_fields_at, fields_at, header_at}
-use Rattle.dw_base.specs.declared.common.Encoding.{Encoding}
+use Rattle.dw_base.specs.Numbers.{◌>>=◌, when, bytes_at, number_at, initial_length_at, word_of, is_width}
+use Rattle.dw_base.specs.Headers.{Header, is_unit_type, has_identity, has_type_offset, identity_at, type_offset_at, old_fields_at, new_fields_at, fields_at, header_at}
 use Rattle.dw_base.specs.declared.common.Format.{Format}
-use Rattle.dw_read.specs.Reading.{Read}
 use Rattle.dw_read.specs.Reasons.{◌=>>◌, if_so, bytes_read, number_read, initial_length_read}
 use Rattle.dw_read.specs.Headers.{optional_read, old_fields_read, new_fields_read, fields_read, header_read}
 use Rattle.dw_read.specs.declared.error.ReadError.{ReadError}

@@ -14,7 +14,7 @@ use Rattle.dw_read.specs.Tables.{RefusesTable}
 use Rattle.dw_read.specs.Reasons.{◌=>>◌, if_so, uleb_read, uleb16_read, sleb_read}
 use Rattle.dw_read.specs.Declarations.{items_after, items_read, constant_read, specification_read, specifications_read, children_read, shape_read, declaration_read, table_read}
 use Rattle.dw_read.specs.declared.error.ReadError.{ReadError}
-use Rattle.dw_read.specs.declared.error.ReadError.TheVariants.{UnexpectedEof, AbbreviationTagZero, AttributeNameZero, BadHasChildren, DuplicateAbbreviationCode}
+use Rattle.dw_read.specs.declared.error.ReadError.TheVariants.{AbbreviationTagZero, AttributeNameZero, DuplicateAbbreviationCode}
 use Rattle.dw_read.proofs.Laws.{IsReadOf, refuses, then_ok, if_so_ok, uleb_law, uleb16_law, sleb_law}
 
 -- a value, a step and one more

@@ -1,5 +1,4 @@
 -- What a header says, as the grammar has it.
-use Rattle.std.specs.Prelude.{Option, Some, None}
 use Rattle.dw_base.specs.Headers.{Header}
 use Rattle.dw_read.specs.Took.{option_of}
 use Rattle.dw_read.specs.declared.header.Fields.{Fields}

@@ -1,8 +1,7 @@
 -- Unit headers as dw_base's grammar has them, with the reason where it reads nothing (DWARF 5, 7.5.1).
-use Rattle.std.specs.Prelude.{ℕ, ◌+◌, ◌-◌, List, length, Option, Some, None, Bool, ◌&&◌, ◌==◌, nat_le, Result, Ok, Err, if◌then◌else◌}
+use Rattle.std.specs.Prelude.{ℕ, ◌+◌, ◌-◌, List, length, Option, Some, None, Bool, ◌&&◌, ◌==◌, nat_le, Result, Ok, if◌then◌else◌}
 use Rattle.dw_base.specs.Numbers.{word_of, length_size, is_width}
 use Rattle.dw_base.specs.Headers.{Header, HeaderRead, is_unit_type, has_identity, has_type_offset}
-use Rattle.dw_base.specs.declared.common.Encoding.{Encoding}
 use Rattle.dw_base.specs.declared.common.Format.{Format}
 use Rattle.dw_read.specs.Reading.{Read}
 use Rattle.dw_read.specs.Reasons.{◌=>>◌, if_so, bytes_read, number_read, initial_length_read}

@@ -1,5 +1,5 @@
 -- What the walk over the headers of units answers.
-use Rattle.std.specs.Prelude.{◌≡◌, ◌⊎◌, ℕ, ◌+◌, length, Bool, true, false, Option, Some, None, Result, Ok, Err}
+use Rattle.std.specs.Prelude.{◌≡◌, ◌⊎◌, ℕ, ◌+◌, length, true, false, Option, Some, None, Result, Ok, Err}
 use Rattle.dw_base.specs.Headers.{HeaderRead, header_at}
 use Rattle.dw_read.specs.Reading.{Reading, Passes, left}
 use Rattle.dw_read.specs.Headers.{header_read}

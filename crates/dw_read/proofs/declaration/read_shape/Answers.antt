@@ -1,17 +1,10 @@
-use Rattle.std.proofs.Common.{◌≡◌, ◌∙◌, sym, ap, subst, ℕ, ℤ, ◌+◌, ◌≤◌, ◌<◌, ◌++◌, ◌∷◌, [], map, Option, List, length, drop, Bool, Some, None, Ok, Err, refl, arith, rules, inl, inr}
+use Rattle.std.proofs.Common.{ℕ, List, Bool, arith}
 use Rattle.std.proofs.lemmas.Result.{err_from_is_err_and}
-use Rattle.dw_base.specs.Numbers.{number_at}
-use Rattle.dw_base.specs.Leb128.{uleb_at, sleb_at}
-use Rattle.dw_base.specs.Abbreviations.{Specification, Shape, Declaration}
-use Rattle.dw_read.specs.Reading.{Reading, left}
-use Rattle.dw_read.specs.Took.{Took, RefusesOrFull, option_of}
-use Rattle.dw_read.specs.Reasons.{uleb_read, uleb16_read, sleb_read, number_read}
-use Rattle.dw_read.specs.Declarations.{constant_read, specification_read, specifications_read, children_read, shape_read}
-use Rattle.dw_read.specs.Specifications.{specification_of}
-use Rattle.dw_read.proofs.Laws.{uleb_law, sleb_law}
-use Rattle.dw_read.proofs.Chain.{took_of, took, Went, went, went_none, went_then, number_took, number_not, reason, full, refused_of}
-use Rattle.dw_read.proofs.Items.{Collects, collects_none, collects_more, collects_end, collects_err}
-use Rattle.dw_read.proofs.Declared.{uleb16_is, uleb16_big, uleb16_err, constant_none, constant_some, constant_err, no_name, no_form, name_zero, two_zeros, no_constant, one_specification, no_children_byte, children_false, children_true, children_bad, one_is_specification, no_tag, tag_zero, no_children, no_attributes, one_shape}
+use Rattle.dw_base.specs.Abbreviations.{Specification, Shape}
+use Rattle.dw_read.specs.Reasons.{uleb16_read}
+use Rattle.dw_read.specs.Declarations.{specifications_read, children_read, shape_read}
+use Rattle.dw_read.proofs.Chain.{took, went, went_then, reason, refused_of}
+use Rattle.dw_read.proofs.Declared.{no_tag, tag_zero, no_children, no_attributes, one_shape}
 use Rattle.dw_read.proofs.declaration.read_shape.Goals as goal
 
 pub returns-in_err-tag-clause-err : goal.returns-in_err-tag-clause-err

@@ -1,14 +1,10 @@
-use Rattle.std.proofs.Common.{◌≡◌, ◌∙◌, sym, ap, subst, ℕ, ◌+◌, ◌≤◌, ◌<◌, Option, List, length, Bool, true, false, Some, None, Ok, Err, refl, arith, rules, inl, inr}
+use Rattle.std.proofs.Common.{ℕ, Option, refl, rules}
 use Rattle.std.proofs.lemmas.Result.{err_from_is_err_and}
-use Rattle.dw_base.specs.Numbers.{number_at, word_of}
+use Rattle.dw_base.specs.Numbers.{word_of}
 use Rattle.dw_base.specs.Headers.{Header}
-use Rattle.dw_read.specs.Reading.{Reading, left}
-use Rattle.dw_read.specs.Took.{Took}
-use Rattle.dw_read.specs.Reasons.{number_read}
-use Rattle.dw_read.specs.Headers.{optional_read, old_fields_read, new_fields_read, fields_read, header_read}
-use Rattle.dw_read.proofs.Chain.{took, Went, went, went_then, went_order, number_took, number_not, went_of}
-use Rattle.dw_read.proofs.HeaderRead.{optional_none, optional_some, optional_err, old_no_table, old_no_size, old_bad_size, old_whole, new_no_type, new_no_size, new_no_table, Begins, new_begins, new_bad_type, new_bad_size, new_no_identity, new_no_place, new_whole, no_version, version_5, version_2_to_4, unknown_version, optional_at}
-use Rattle.dw_base.specs.Headers.{has_identity, has_type_offset}
+use Rattle.dw_read.specs.Headers.{optional_read, new_fields_read}
+use Rattle.dw_read.proofs.Chain.{took, went, went_then, went_order, number_took, number_not, went_of}
+use Rattle.dw_read.proofs.HeaderRead.{new_no_type, new_no_size, new_no_table, new_begins, new_bad_type, new_bad_size, new_no_identity, new_no_place, new_whole, optional_at}
 use Rattle.dw_read.proofs.header.read_new_fields.Goals as goal
 
 pub returns-in_err-unit_type-clause-err : goal.returns-in_err-unit_type-clause-err

@@ -1,15 +1,7 @@
-use Rattle.std.proofs.Common.{◌≡◌, ◌∙◌, sym, ap, subst, ℕ, ◌+◌, ◌≤◌, ◌<◌, Option, List, length, Bool, true, false, Some, None, Ok, Err, refl, arith, rules, inl, inr}
+use Rattle.std.proofs.Common.{refl}
 use Rattle.std.proofs.lemmas.Result.{err_from_is_err_and}
-use Rattle.dw_base.specs.Numbers.{number_at, word_of}
-use Rattle.dw_base.specs.Headers.{Header}
-use Rattle.dw_read.specs.Reading.{Reading, left}
-use Rattle.dw_read.specs.Took.{Took}
-use Rattle.dw_read.specs.Reasons.{number_read}
-use Rattle.dw_read.specs.Headers.{optional_read, old_fields_read, new_fields_read, fields_read, header_read}
-use Rattle.dw_read.proofs.Chain.{took, Went, went, went_then, went_order, number_took, number_not, went_of}
+use Rattle.dw_read.specs.Reading.{left}
 use Rattle.dw_read.specs.Fields.{header_of}
-use Rattle.dw_read.proofs.HeaderRead.{optional_none, optional_some, optional_err, old_no_table, old_no_size, old_bad_size, old_whole, new_no_type, new_no_size, new_no_table, Begins, new_begins, new_bad_type, new_bad_size, new_no_identity, new_no_place, new_whole, no_version, version_5, version_2_to_4, unknown_version}
-use Rattle.dw_read.proofs.Laws.{initial_length_law}
 use Rattle.dw_read.proofs.HeaderParts.{header_no_length, refused_cut, refused_fields, has_header}
 use Rattle.dw_read.proofs.unit_header.read_header.Goals as goal
 

@@ -1,7 +1,3 @@
-use Rattle.std.proofs.Common.{◌≡◌, sym, subst, Option}
-use Rattle.std.specs.Borrow.{Bor}
-use Rattle.dw_base.specs.Abbreviations.{Declaration}
-use Rattle.dw_read.specs.Tables.{Finds}
 use Rattle.dw_read.proofs.Indexed.{finds, shape_none}
 use Rattle.dw_read.proofs.abbreviations.Abbreviations.get.Goals as goal
 
