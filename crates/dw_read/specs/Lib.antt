@@ -1,6 +1,7 @@
 pub mod ErrorName
 pub mod Reading
 pub mod Reasons
+pub mod Numbers
 pub mod Took
 pub mod Specifications
 pub mod Declarations

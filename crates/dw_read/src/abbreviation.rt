@@ -53,7 +53,14 @@ impl Model for Abbreviation {
 
     ghost Value = { Declaration };
 
-    ghost view = { λ a. record { code = a.code; shape = record { tag = a.tag.0; has_children = a.has_children; attributes = map specification_of a.attributes.items } } };
+    ghost view = { λ a. record {
+      code = a.code;
+      shape = record {
+        tag = a.tag.0;
+        has_children = a.has_children;
+        attributes = map specification_of a.attributes.items;
+      };
+    } };
 }
 
 impl Abbreviation {

@@ -1,6 +1,7 @@
 //! Abbreviation tables, as they are read (DWARF 5, 7.5.3).
 
-ghost use Rattle.std.specs.Prelude.{◌≡◌, ◌↔◌, ℕ, [], ◌∷◌, ◌++◌, IsTrue, IfSome, IfNone, IfOk, IfErr, OnErr, None};
+ghost use Rattle.std.specs.Prelude.{◌≡◌, ◌↔◌, ℕ, [], ◌∷◌, ◌++◌, IsTrue};
+ghost use Rattle.std.specs.Prelude.{IfSome, IfNone, IfOk, IfErr, OnErr, None};
 ghost use Rattle.dw_base.specs.Abbreviations.{table_at, shape_of_code};
 ghost use Rattle.dw_read.specs.declared.error.ReadError.TheVariants.{NoMemory};
 ghost use Rattle.dw_read.specs.Declarations.{declaration_read, table_read};
@@ -133,9 +134,11 @@ fn read_declaration<R: Reader>(
     input: &mut R,
     before: &Abbreviations,
 ) -> ReadResult<Option<Abbreviation>>
-    ensures ok { IfOk result (Took _ (declaration_read before.now) (R.reading input.old) (R.reading input.new)) }
+    ensures ok { IfOk result (Took _ (declaration_read before.now)
+        (R.reading input.old) (R.reading input.new)) }
     ensures new { IfOk result (λ a. IfSome a (λ d. shape_of_code before.now d.code ≡ None)) }
-    ensures err { IfErr result (RefusesOrFull _ (declaration_read before.now) (R.reading input.old)) }
+    ensures err { IfErr result (RefusesOrFull _ (declaration_read before.now)
+        (R.reading input.old)) }
 {
     let code = input.read_uleb128()?;
     if code == 0 {

@@ -5,7 +5,8 @@ ghost use Rattle.dw_base.specs.Abbreviations.{Declaration, Shape, Specification}
 ghost use Rattle.dw_read.specs.Reading.{left};
 ghost use Rattle.dw_read.specs.Took.{Took, RefusesOrFull, option_of};
 ghost use Rattle.dw_read.specs.Reasons.{uleb16_read};
-ghost use Rattle.dw_read.specs.Declarations.{constant_read, specification_read, specifications_read};
+ghost use Rattle.dw_read.specs.Declarations.{constant_read, specification_read};
+ghost use Rattle.dw_read.specs.Declarations.{specifications_read};
 ghost use Rattle.dw_read.specs.Declarations.{children_read, shape_read};
 ghost use Rattle.dw_read.specs.Specifications.{specification_of};
 
@@ -18,7 +19,8 @@ use std::alloc::Global;
 
 /// Reads a number of 16 bits: a tag, a name or a form.
 pub(crate) fn read_uleb16<R: Reader>(input: &mut R) -> ReadResult<u16>
-    ensures ok { IfOk result (Took _ uleb16_read (R.reading input.old) (R.reading input.new)) }
+    ensures ok { IfOk result (Took _ uleb16_read
+        (R.reading input.old) (R.reading input.new)) }
     ensures err { IfErr result (λ e. uleb16_read (left (R.reading input.old)) ≡ Err e) }
 {
     let value = input.read_uleb128()?;
@@ -30,7 +32,8 @@ pub(crate) fn read_uleb16<R: Reader>(input: &mut R) -> ReadResult<u16>
 
 /// Reads the constant that the form implicit_const alone has.
 fn read_constant<R: Reader>(input: &mut R, form: DwForm) -> ReadResult<Option<i64>>
-    ensures ok { IfOk result (Took _ (constant_read form.0) (R.reading input.old) (R.reading input.new)) }
+    ensures ok { IfOk result (Took _ (constant_read form.0)
+        (R.reading input.old) (R.reading input.new)) }
     ensures err { IfErr result (λ e. constant_read form.0 (left (R.reading input.old)) ≡ Err e) }
 {
     if form.0 != DW_FORM_implicit_const.0 {
@@ -42,7 +45,8 @@ fn read_constant<R: Reader>(input: &mut R, form: DwForm) -> ReadResult<Option<i6
 
 /// Reads an attribute of a declaration, or None for the two zeros that close it.
 fn read_specification<R: Reader>(input: &mut R) -> ReadResult<Option<AttributeSpecification>>
-    ensures ok { IfOk result (λ s. Took _ specification_read (R.reading input.old) (R.reading input.new) (option_of specification_of s)) }
+    ensures ok { IfOk result (λ s. Took _ specification_read
+        (R.reading input.old) (R.reading input.new) (option_of specification_of s)) }
     ensures err { IfErr result (λ e. specification_read (left (R.reading input.old)) ≡ Err e) }
 {
     let name = read_uleb16(input)?;
@@ -66,7 +70,8 @@ fn read_specifications<R: Reader>(
     alloc: Global,
     input: &mut R,
 ) -> ReadResult<Vec<AttributeSpecification>>
-    ensures ok { IfOk result (λ s. Took _ specifications_read (R.reading input.old) (R.reading input.new) (map specification_of s.items)) }
+    ensures ok { IfOk result (λ s. Took _ specifications_read
+        (R.reading input.old) (R.reading input.new) (map specification_of s.items)) }
     ensures err { IfErr result (RefusesOrFull _ specifications_read (R.reading input.old)) }
 {
     let mut specifications = Vec::new(alloc);
@@ -80,7 +85,8 @@ fn read_specifications<R: Reader>(
 
 /// Reads the byte that says whether entries have children.
 fn read_has_children<R: Reader>(input: &mut R) -> ReadResult<bool>
-    ensures ok { IfOk result (Took _ children_read (R.reading input.old) (R.reading input.new)) }
+    ensures ok { IfOk result (Took _ children_read
+        (R.reading input.old) (R.reading input.new)) }
     ensures err { IfErr result (λ e. children_read (left (R.reading input.old)) ≡ Err e) }
 {
     let byte = input.read_u8()?;
@@ -97,7 +103,8 @@ pub(crate) fn read_shape<R: Reader>(
     input: &mut R,
     code: u64,
 ) -> ReadResult<Abbreviation>
-    ensures ok { IfOk result (λ a. Took _ shape_read (R.reading input.old) (R.reading input.new) a.shape) }
+    ensures ok { IfOk result (λ a. Took _ shape_read
+        (R.reading input.old) (R.reading input.new) a.shape) }
     ensures code { IfOk result (λ a. a.code ≡ code) }
     ensures err { IfErr result (RefusesOrFull _ shape_read (R.reading input.old)) }
 {

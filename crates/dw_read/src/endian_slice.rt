@@ -24,7 +24,8 @@ pub struct EndianSlice<'a, E: Endianity> {
 impl<'a, E: Endianity> EndianSlice<'a, E> {
     /// A reader of a whole section.
     pub fn new(bytes: &'a [u8], endian: E) -> EndianSlice<'a, E>
-        ensures { ⟦<EndianSlice<'a, E> as Reader>⟧.reading result ≡ whole bytes.now (E.is_big endian) }
+        ensures { ⟦<EndianSlice<'a, E> as Reader>⟧.reading result
+            ≡ whole bytes.now (E.is_big endian) }
     {
         let end = bytes.len();
         EndianSlice {
@@ -39,7 +40,12 @@ impl<'a, E: Endianity> EndianSlice<'a, E> {
 impl<'a, E: Endianity> Reader for EndianSlice<'a, E> {
     type Endian = E;
 
-    ghost reading = { λ s. record { section = s.section.now; place = s.place; end = s.end; is_big = E.is_big s.endian } };
+    ghost reading = { λ s. record {
+      section = s.section.now;
+      place = s.place;
+      end = s.end;
+      is_big = E.is_big s.endian;
+    } };
 
     fn endian(&self) -> E {
         self.endian
@@ -88,5 +94,9 @@ impl<'a, E: Endianity> Reader for EndianSlice<'a, E> {
         })
     }
 
-    ghost is_reading = { λ s. record { place = s.place_within; end = s.end_within; small = s.small } };
+    ghost is_reading = { λ s. record {
+      place = s.place_within;
+      end = s.end_within;
+      small = s.small;
+    } };
 }

@@ -5,7 +5,8 @@ ghost use Rattle.dw_base.specs.Numbers.{is_width, word_of};
 ghost use Rattle.dw_base.specs.Headers.{is_unit_type, has_identity, has_type_offset};
 ghost use Rattle.dw_read.specs.Reading.{left};
 ghost use Rattle.dw_read.specs.Took.{Took};
-ghost use Rattle.dw_read.specs.Headers.{fields_read, new_fields_read, old_fields_read, optional_read};
+ghost use Rattle.dw_read.specs.Headers.{fields_read, new_fields_read, old_fields_read};
+ghost use Rattle.dw_read.specs.Headers.{optional_read};
 ghost use Rattle.dw_read.specs.Fields.{header_of};
 
 use crate::error::{ReadError, ReadResult};
@@ -53,7 +54,8 @@ fn is_old_version(version: u16) -> bool
 
 /// Reads what follows the version in versions 2 to 4.
 fn read_old_fields<R: Reader>(input: &mut R, format: Format, version: u16) -> ReadResult<Fields>
-    ensures ok { IfOk result (λ f. Took _ (old_fields_read (R.reading input.old).is_big format version)
+    ensures ok { IfOk result (λ f. Took _
+        (old_fields_read (R.reading input.old).is_big format version)
         (R.reading input.old) (R.reading input.new) (header_of f)) }
     ensures err { IfErr result (λ e. old_fields_read (R.reading input.old).is_big format version
         (left (R.reading input.old)) ≡ Err e) }
@@ -127,9 +129,11 @@ fn read_type_offset<R: Reader>(
     format: Format,
     is_there: bool,
 ) -> ReadResult<Option<usize>>
-    ensures ok { IfOk result (Took _ (optional_read is_there (R.reading input.old).is_big (word_of format))
+    ensures ok { IfOk result (Took _
+        (optional_read is_there (R.reading input.old).is_big (word_of format))
         (R.reading input.old) (R.reading input.new)) }
-    ensures err { IfErr result (λ e. optional_read is_there (R.reading input.old).is_big (word_of format)
+    ensures err { IfErr result (λ e. optional_read is_there
+        (R.reading input.old).is_big (word_of format)
         (left (R.reading input.old)) ≡ Err e) }
 {
     if is_there {

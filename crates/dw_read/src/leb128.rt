@@ -1,7 +1,8 @@
 //! LEB128 numbers at the front of bytes (DWARF 5, 7.6). A number may be padded as far as its value
 //! fits 64 bits: its groups are added from the last one back, so no group is lost.
 
-ghost use Rattle.std.specs.Prelude.{◌≡◌, ◌≤◌, ◌<◌, ◌^◌, length, drop, ℕ, slice_index, IfOk, IfErr, IfSome, IfNone, Ok, Err};
+ghost use Rattle.std.specs.Prelude.{◌≡◌, ◌≤◌, ◌<◌, ◌^◌, length, drop, ℕ, slice_index};
+ghost use Rattle.std.specs.Prelude.{IfOk, IfErr, IfSome, IfNone, Ok, Err};
 ghost use Rattle.dw_read.specs.Reasons.{uleb_read, sleb_read, digit, signed};
 
 use crate::error::{ReadError, ReadResult};

@@ -1,4 +1,4 @@
-//! Numbers of several bytes in either order (DWARF 5, 7.26 has none of its own: the target's).
+//! Numbers of several bytes in either order : the target's.
 
 ghost use Rattle.std.specs.Prelude.{◌≡◌, ◌≤◌, ◌<◌, ◌^◌, length};
 ghost use Rattle.dw_base.specs.Numbers.{value_of};

@@ -1,12 +1,16 @@
 //! What every reader of a section does.
 
 ghost use Rattle.std.specs.Prelude.{◌≡◌, ◌≤◌, ◌<◌, ◌^◌, length, OnOk, OnErr, IfOk, IfErr};
-ghost use Rattle.dw_base.specs.Numbers.{bytes_at, number_at, initial_length_at, length_size, word_of, is_width};
+ghost use Rattle.dw_base.specs.Numbers.{bytes_at, initial_length_at, length_size, word_of};
+ghost use Rattle.dw_base.specs.Numbers.{is_width};
 ghost use Rattle.dw_base.specs.Leb128.{uleb_at, sleb_at};
 ghost use Rattle.dw_base.specs.Forms.{text_at};
-ghost use Rattle.dw_read.specs.Reading.{Reading, IsReading, IsPart, left, part, Passes, Reads, Refuses};
-ghost use Rattle.dw_read.specs.Reasons.{bytes_read, number_read, uleb_read, sleb_read, text_read};
-ghost use Rattle.dw_read.specs.Reasons.{address_at, address_read, initial_length_read};
+ghost use Rattle.dw_read.specs.Reading.{Reading, IsReading, IsPart, left, part};
+ghost use Rattle.dw_read.specs.Reading.{Passes, Reads, Refuses};
+ghost use Rattle.dw_read.specs.Numbers.{ReadsNumber, RefusesNumber};
+ghost use Rattle.dw_read.specs.Numbers.{ReadsAddress, RefusesAddress};
+ghost use Rattle.dw_read.specs.Reasons.{bytes_read, uleb_read, sleb_read, text_read};
+ghost use Rattle.dw_read.specs.Reasons.{initial_length_read};
 
 use crate::error::{ReadError, ReadResult};
 use crate::leb128::{sleb_of, uleb_of};
@@ -60,10 +64,8 @@ pub trait Reader: Sized + Drop {
         requires { n ≤ 8 }
         ensures fits { IfOk result (λ value. value < 256 ^ n) }
         ensures passes { OnOk result (Passes n (reading self.old) (reading self.new)) }
-        ensures ok { IfOk result (Reads _ (number_at (reading self.old).is_big n)
-            (reading self.old) (reading self.new)) }
-        ensures err { IfErr result (Refuses _ (number_at (reading self.old).is_big n)
-            (number_read (reading self.old).is_big n) (reading self.old)) }
+        ensures ok { IfOk result (ReadsNumber n (reading self.old) (reading self.new)) }
+        ensures err { IfErr result (RefusesNumber n (reading self.old)) }
         ensures kept { OnErr result (reading self.new ≡ reading self.old) }
     {
         let big = self.endian().is_big_endian();
@@ -74,10 +76,8 @@ pub trait Reader: Sized + Drop {
     /// A number of one byte.
     final fn read_u8(&mut self) -> ReadResult<u8>
         ensures passes { OnOk result (Passes 1 (reading self.old) (reading self.new)) }
-        ensures ok { IfOk result (Reads _ (number_at (reading self.old).is_big 1)
-            (reading self.old) (reading self.new)) }
-        ensures err { IfErr result (Refuses _ (number_at (reading self.old).is_big 1) (number_read (reading self.old).is_big 1)
-            (reading self.old)) }
+        ensures ok { IfOk result (ReadsNumber 1 (reading self.old) (reading self.new)) }
+        ensures err { IfErr result (RefusesNumber 1 (reading self.old)) }
         ensures kept { OnErr result (reading self.new ≡ reading self.old) }
     {
         let value = self.read_uint(1)?;
@@ -87,10 +87,8 @@ pub trait Reader: Sized + Drop {
     /// A number of two bytes.
     final fn read_u16(&mut self) -> ReadResult<u16>
         ensures passes { OnOk result (Passes 2 (reading self.old) (reading self.new)) }
-        ensures ok { IfOk result (Reads _ (number_at (reading self.old).is_big 2)
-            (reading self.old) (reading self.new)) }
-        ensures err { IfErr result (Refuses _ (number_at (reading self.old).is_big 2) (number_read (reading self.old).is_big 2)
-            (reading self.old)) }
+        ensures ok { IfOk result (ReadsNumber 2 (reading self.old) (reading self.new)) }
+        ensures err { IfErr result (RefusesNumber 2 (reading self.old)) }
         ensures kept { OnErr result (reading self.new ≡ reading self.old) }
     {
         let value = self.read_uint(2)?;
@@ -100,10 +98,8 @@ pub trait Reader: Sized + Drop {
     /// A number of four bytes.
     final fn read_u32(&mut self) -> ReadResult<u32>
         ensures passes { OnOk result (Passes 4 (reading self.old) (reading self.new)) }
-        ensures ok { IfOk result (Reads _ (number_at (reading self.old).is_big 4)
-            (reading self.old) (reading self.new)) }
-        ensures err { IfErr result (Refuses _ (number_at (reading self.old).is_big 4) (number_read (reading self.old).is_big 4)
-            (reading self.old)) }
+        ensures ok { IfOk result (ReadsNumber 4 (reading self.old) (reading self.new)) }
+        ensures err { IfErr result (RefusesNumber 4 (reading self.old)) }
         ensures kept { OnErr result (reading self.new ≡ reading self.old) }
     {
         let value = self.read_uint(4)?;
@@ -113,10 +109,8 @@ pub trait Reader: Sized + Drop {
     /// A number of eight bytes.
     final fn read_u64(&mut self) -> ReadResult<u64>
         ensures passes { OnOk result (Passes 8 (reading self.old) (reading self.new)) }
-        ensures ok { IfOk result (Reads _ (number_at (reading self.old).is_big 8)
-            (reading self.old) (reading self.new)) }
-        ensures err { IfErr result (Refuses _ (number_at (reading self.old).is_big 8) (number_read (reading self.old).is_big 8)
-            (reading self.old)) }
+        ensures ok { IfOk result (ReadsNumber 8 (reading self.old) (reading self.new)) }
+        ensures err { IfErr result (RefusesNumber 8 (reading self.old)) }
         ensures kept { OnErr result (reading self.new ≡ reading self.old) }
     {
         self.read_uint(8)
@@ -125,10 +119,8 @@ pub trait Reader: Sized + Drop {
     /// A number of sixteen bytes.
     final fn read_u128(&mut self) -> ReadResult<u128>
         ensures passes { OnOk result (Passes 16 (reading self.old) (reading self.new)) }
-        ensures ok { IfOk result (Reads _ (number_at (reading self.old).is_big 16)
-            (reading self.old) (reading self.new)) }
-        ensures err { IfErr result (Refuses _ (number_at (reading self.old).is_big 16) (number_read (reading self.old).is_big 16)
-            (reading self.old)) }
+        ensures ok { IfOk result (ReadsNumber 16 (reading self.old) (reading self.new)) }
+        ensures err { IfErr result (RefusesNumber 16 (reading self.old)) }
         ensures kept { OnErr result (reading self.new ≡ reading self.old) }
     {
         let big = self.endian().is_big_endian();
@@ -164,10 +156,8 @@ pub trait Reader: Sized + Drop {
 
     /// An address of so many bytes, which are 1, 2, 4 or 8.
     final fn read_address(&mut self, size: u8) -> ReadResult<u64>
-        ensures ok { IfOk result (Reads _ (address_at (reading self.old).is_big size)
-            (reading self.old) (reading self.new)) }
-        ensures err { IfErr result (Refuses _ (address_at (reading self.old).is_big size) (address_read (reading self.old).is_big size)
-            (reading self.old)) }
+        ensures ok { IfOk result (ReadsAddress size (reading self.old) (reading self.new)) }
+        ensures err { IfErr result (RefusesAddress size (reading self.old)) }
         ensures kept { OnErr result (reading self.new ≡ reading self.old) }
     {
         if !is_address_size(size) {
@@ -179,11 +169,11 @@ pub trait Reader: Sized + Drop {
 
     /// A word of a format: a length or an offset into a section.
     final fn read_word(&mut self, format: Format) -> ReadResult<usize>
-        ensures passes { OnOk result (Passes (word_of format) (reading self.old) (reading self.new)) }
-        ensures ok { IfOk result (Reads _ (number_at (reading self.old).is_big (word_of format))
-            (reading self.old) (reading self.new)) }
-        ensures err { IfErr result (Refuses _ (number_at (reading self.old).is_big (word_of format)) (number_read (reading self.old).is_big (word_of format))
-            (reading self.old)) }
+        ensures passes { OnOk result
+            (Passes (word_of format) (reading self.old) (reading self.new)) }
+        ensures ok { IfOk result
+            (ReadsNumber (word_of format) (reading self.old) (reading self.new)) }
+        ensures err { IfErr result (RefusesNumber (word_of format) (reading self.old)) }
         ensures kept { OnErr result (reading self.new ≡ reading self.old) }
     {
         let value = self.read_uint(format.word_size() as usize)?;
@@ -192,7 +182,8 @@ pub trait Reader: Sized + Drop {
 
     /// A length that tells its format, the length first (DWARF 5, 7.4).
     final fn read_initial_length(&mut self) -> ReadResult<(usize, Format)>
-        ensures passes { IfOk result (λ x. Passes (length_size x.1) (reading self.old) (reading self.new)) }
+        ensures passes { IfOk result
+            (λ x. Passes (length_size x.1) (reading self.old) (reading self.new)) }
         ensures ok { IfOk result (λ x. Reads _ (initial_length_at (reading self.old).is_big)
             (reading self.old) (reading self.new) (x.1, x.0)) }
         ensures err { IfErr result (Refuses _ (initial_length_at (reading self.old).is_big)
