@@ -1,1 +1,10 @@
 pub mod Differ
+pub mod Pieces
+pub mod Again
+pub mod Tables
+pub mod TableAgain
+pub mod Refusals
+pub mod Forms
+pub mod TableCauses
+pub mod Versions
+pub mod Numbered

@@ -2,10 +2,17 @@
 //! list, up to version 4 as the lists alone.
 #![tactic(auto)]
 
+mod address;
+mod item;
+mod list;
+mod lists;
+mod offset_table;
+mod offsets;
 mod range;
 mod table;
 #[cfg(test)]
 mod tests;
 
+pub use offsets::RangeListOffsets;
 pub use range::{Range, RangeList};
 pub use table::RangeListTable;

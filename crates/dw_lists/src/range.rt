@@ -123,6 +123,13 @@ impl Model for RangeList {
 }
 
 impl RangeList {
+    /// The items, in order.
+    pub(crate) fn items(&self) -> &[Range]
+        ensures { result.now ≡ self.now }
+    {
+        self.0.as_slice()
+    }
+
     /// A second list that equals this one.
     pub fn try_clone(&self) -> Result<RangeList>
         ensures ok { IfOk result (λ copy. copy ≡ self.now) }

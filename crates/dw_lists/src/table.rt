@@ -1,11 +1,18 @@
 //! The range lists of a unit.
 
-ghost use Rattle.std.specs.Prelude.{◌≡◌, ◌<◌, [], length, Some, slice_get, OnOk, OnErr, IfOk, IfErr};
+ghost use Rattle.std.specs.Prelude.{All, true, ◌≡◌, ◌<◌, [], length, Some, slice_get, OnOk, OnErr, IfOk, IfErr};
 ghost use Rattle.dw_base.specs.declared.error.Error.TheVariants.{NoMemory};
 ghost use Rattle.dw_lists.specs.Lists.{list_index, with_list, AllDiffer};
+ghost use Rattle.dw_lists.specs.Items.{is_five};
+ghost use Rattle.dw_lists.specs.Pieces.{IsWritten};
+ghost use Rattle.dw_lists.specs.Tables.{table_piece, offsets_from, lists_of, AreNumbered, OthersStay, IsReadAgain};
+ghost use Rattle.dw_lists.specs.Causes.{Refused, Is, IsNone, table_fails};
 
+use crate::lists::{write_ranges, write_rnglists};
+use crate::offsets::RangeListOffsets;
 use crate::range::RangeList;
-use dw_base::{RangeListId, Result};
+use dw_base::{Encoding, Error, RangeListId, Result};
+use dw_writer::{Sections, Writer};
 use indexmap::IndexSet;
 use std::alloc::Global;
 use std::marker::Model;
@@ -67,5 +74,66 @@ impl RangeListTable {
         ensures { slice_get self.now id.0 ≡ Some result.now }
     {
         &self.lists.as_slice()[id.index()]
+    }
+
+    /// Writes the table: in version 5 to `.debug_rnglists`, with an entry for each list (DWARF 5,
+    /// 7.28), and up to version 4 to `.debug_ranges` (DWARF 4, 7.23). A table without lists writes
+    /// nothing. `have_base_address` tells that the unit has a base address, so that offset pairs
+    /// up to version 4 count from it; such a list has pairs where a base is in force, and
+    /// addresses where none is (`MissingBaseAddress`, `UnexpectedBaseAddress`). There, equal ends
+    /// and a begin of all ones would be read as the close and as a base, and are refused
+    /// (`InvalidRange`).
+    pub fn write<W: Writer>(
+        &self,
+        sections: &mut Sections<W>,
+        encoding: Encoding,
+        have_base_address: bool,
+    ) -> Result<RangeListOffsets>
+        ensures ok { OnOk result
+            (IsWritten (lists_of W.meaning encoding sections.old)
+            (lists_of W.meaning encoding sections.new) (table_piece encoding self.now)) }
+        ensures offsets { IfOk result
+            (λ r. r ≡ offsets_from encoding
+            (lists_of W.meaning encoding sections.old).size self.now) }
+        ensures again { OnOk result (IsReadAgain encoding self.now) }
+        // A plain writer takes no symbols, so there each list is found.
+        ensures numbered { OnOk result
+            ((lists_of W.meaning encoding sections.old).is_plain ≡ true →
+            All AreNumbered self.now) }
+        ensures others { OthersStay (is_five encoding) sections.old sections.new }
+        ensures sound { OnOk result
+            (IsNone (table_fails encoding have_base_address
+            (lists_of W.meaning encoding sections.old).is_plain self.now)) }
+        ensures err { IfErr result
+            (Refused (lists_of W.meaning encoding sections.old)
+            (lists_of W.meaning encoding sections.new)
+            (Is (table_fails encoding have_base_address
+            (lists_of W.meaning encoding sections.old).is_plain self.now))) }
+    {
+        let alloc = *self.lists.allocator();
+        let lists = self.lists.as_slice();
+        if lists.is_empty() {
+            return Ok(RangeListOffsets {
+                base: None,
+                places: Vec::new(alloc),
+            });
+        }
+        match encoding.version {
+            2..=4 => write_ranges(
+                alloc,
+                lists,
+                encoding,
+                have_base_address,
+                &mut sections.debug_ranges.0,
+            ),
+            5 => write_rnglists(
+                alloc,
+                lists,
+                encoding,
+                have_base_address,
+                &mut sections.debug_rnglists.0,
+            ),
+            version => Err(Error::UnsupportedVersion(version)),
+        }
     }
 }
