@@ -84,7 +84,8 @@ fn writes_behind_what_stands(rt: HostRuntime) -> std::result::Result<(), Fail> {
 /// and the unit isn't written.
 #[test]
 fn answers_each_fault(rt: HostRuntime) -> std::result::Result<(), Fail> {
-    let mut faults = 0;
+    let mut failed = false;
+    let mut written = false;
     for call in 0..20 {
         let failing = vec![in rt.alloc(); call]?;
         let mut dwarf = dwarf_of(rt.alloc(), encoding(5))?;
@@ -98,14 +99,17 @@ fn answers_each_fault(rt: HostRuntime) -> std::result::Result<(), Fail> {
             answer.is_ok()
         );
         match answer {
-            Ok(()) => assert_eq!(rt; sections.debug_info.0.slice(), VERSION_5.as_slice()),
+            Ok(()) => {
+                assert_eq!(rt; sections.debug_info.0.slice(), VERSION_5.as_slice());
+                written = true;
+            }
             Err(error) => {
                 assert_eq!(rt; error, Error::WriteFault);
-                faults += 1;
+                failed = true;
             }
         }
     }
-    assert!(rt; faults > 0 && faults < 20);
+    assert!(rt; failed && written);
     Ok(())
 }
 
