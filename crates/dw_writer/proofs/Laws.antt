@@ -64,7 +64,7 @@ when_some : (b : Bool) (t : Text) (xs : List ℕ) → when b t ≡ Some xs → t
 when_some true t xs e = e
 when_some false t xs e = cc
 
-length-signed_text : (big : Bool) (w : ℕ) (z : ℤ) (xs : List ℕ) → signed_text big w z ≡ Some xs → length xs ≡ w
+pub length-signed_text : (big : Bool) (w : ℕ) (z : ℤ) (xs : List ℕ) → signed_text big w z ≡ Some xs → length xs ≡ w
 unfolding signed_text signed_num
 length-signed_text big w z xs e =
     sym (ap length (some_if (is_width w && signed_fits w z) (num big w (twos_complement w z)) xs e)) ∙ length-num big w (twos_complement w z)
@@ -74,7 +74,7 @@ length-either : (b : Bool) (t u : Text) (xs : List ℕ) (w : ℕ) → (t ≡ Som
 length-either true t u xs w f g e = f e
 length-either false t u xs w f g e = g e
 
-length-bound : {A : Type 0} (o : Option A) (f : A → Text) (xs : List ℕ) (w : ℕ) → ((x : A) → f x ≡ Some xs → length xs ≡ w) →
+pub length-bound : {A : Type 0} (o : Option A) (f : A → Text) (xs : List ℕ) (w : ℕ) → ((x : A) → f x ≡ Some xs → length xs ≡ w) →
     ◌≡◌ {A = Text} (o >>= f) (Some xs) → length xs ≡ w
 length-bound None f xs w h e = cc
 length-bound (Some x) f xs w h e = h x e

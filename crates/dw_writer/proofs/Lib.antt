@@ -12,4 +12,5 @@ pub mod DraftLaws
 pub mod WriteLaws
 pub mod FaultLaws
 pub mod Relocating
+pub mod PointerSteps
 pub mod Worked

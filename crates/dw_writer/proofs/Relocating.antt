@@ -1,16 +1,20 @@
 -- What the calls of relocating writers come to, and those of writers that fail at chosen calls.
-use Rattle.std.specs.Prelude.{◌≡◌, ℕ, ◌+◌, Bool, true, List, [], ◌∷◌, ◌++◌, Option, Some, None, refl, slice_get, ℤ, pos, ◌+ℤ◌, IsTrue, Result, Ok, Err, OnOk, OnErr}
+use Rattle.std.specs.Option.{unwrap_or}
+use Rattle.std.specs.Prelude.{◌≡◌, ℕ, ◌+◌, Bool, true, false, List, [], ◌∷◌, ◌++◌, Option, Some, None, refl, slice_get, ℤ, pos, ◌+ℤ◌, IsTrue, if◌then◌else◌, Result, Ok, Err, OnOk, OnErr}
 use Rattle.std.proofs.Common.{sym, ◌∙◌, ap, subst, inl, arith, append_assoc, append-nil, zero-add}
 use Rattle.std.proofs.Math.IntN.{+ℤ_idl}
 use Rattle.dw_base.specs.Numbers.{◌>>=◌, num, is_width, fits}
+use Rattle.dw_base.specs.Pointers.{format_of, pointer_width}
+use Rattle.dw_base.specs.declared.constants.DwEhPe.{DwEhPe}
 use Rattle.dw_base.specs.declared.error.Error.{Error}
 use Rattle.dw_base.specs.declared.section_id.SectionId.{SectionId}
 use Rattle.dw_base.specs.declared.address.Address.TheVariants.{Constant, Symbol}
 use Rattle.dw_writer.specs.Texts.{Text, zeros, num_text, int_text}
 use Rattle.dw_writer.specs.Resolved.{sum_text, record_text}
-use Rattle.dw_writer.specs.SectionTexts.{offset_text, address_text}
-use Rattle.dw_writer.specs.Meaning.{Layout, Meaning, Records, Adds, AddsWith, AddsSome, AddsSomeWith, Replaces, ReplacesWith, ReplacesSome, ReplacesSomeWith, Appends, Patches, start_of, spelled_num}
-use Rattle.dw_writer.specs.Relocating.{relocating, record_at}
+use Rattle.dw_writer.specs.Pointers.{address_of, pointer_text}
+use Rattle.dw_writer.specs.SectionTexts.{offset_text, address_text, eh_pointer_text, eh_pointer_size}
+use Rattle.dw_writer.specs.Meaning.{Layout, Meaning, Records, Adds, AddsWith, AddsSome, AddsSomeWith, Replaces, ReplacesWith, ReplacesSome, ReplacesSomeWith, Appends, Patches, start_of, spelled_num, pointer_bytes, pointer_records, pointer_zeros, pointer_record}
+use Rattle.dw_writer.specs.Relocating.{relocating, record_at, record_by}
 use Rattle.dw_writer.specs.declared.relocate.Relocation.{Relocation}
 use Rattle.dw_writer.specs.declared.relocate.RelocationTarget.{RelocationTarget}
 use Rattle.dw_writer.specs.declared.relocate.RelocationTarget.TheVariants as to
@@ -54,10 +58,10 @@ relocated_patch (Err x) a b rs qs more p xs h e = record {
 
 -- Zeros behind a record resolve to the record's text.
 
-AddsWith-appends : {a c : Meaning} (w : ℕ) (target : RelocationTarget) (addend : ℤ) → AddsWith a c (zeros w) (record_at a.size w target addend) → IsTrue (is_width w) →
-    Appends a c w (λ big l. record_text big l (record { offset = a.size; size = w; target = target; addend = addend; eh_pe = None }) 0)
-AddsWith-appends {a} {c} w target addend p width =
-    let r : Relocation = record { offset = a.size; size = w; target = target; addend = addend; eh_pe = None } in
+AddsWith-appends : {a c : Meaning} (o : Option DwEhPe) (w : ℕ) (target : RelocationTarget) (addend : ℤ) → AddsWith a c (zeros w) (record_by o a.size w target addend) → IsTrue (is_width w) →
+    Appends a c w (λ big l. record_text big l (record { offset = a.size; size = w; target = target; addend = addend; eh_pe = o }) 0)
+AddsWith-appends {a} {c} o w target addend p width =
+    let r : Relocation = record { offset = a.size; size = w; target = target; addend = addend; eh_pe = o } in
     let b : Meaning = record a { records = a.records ++ r ∷ [] } in
     let first : Records a b r = record { same = record { order = refl; kind = refl; faults = omega arith }; size = refl; told = refl; records = refl } in
     let second : Adds b c (zeros w) = record { same = record { order = p.same.order; kind = p.same.kind; faults = p.same.faults }; size = p.size; told = p.told; records = p.records } in
@@ -89,12 +93,52 @@ symbol_record : (big : Bool) (l : Layout) (p w s : ℕ) (addend : ℤ) →
 unfolding record_text address_text
 symbol_record big l p w s addend = symbol_value big w (l.own_start + p) addend (slice_get l.symbols s)
 
+pointer_value : (big : Bool) (w place : ℕ) (encoding : DwEhPe) (addend : ℤ) (v : Option ℕ) →
+    ◌≡◌ {A = Text} (v >>= λ n. sum_text big w place true (Some encoding) (pos 0 +ℤ addend +ℤ pos n))
+    (v >>= λ n. address_of (addend +ℤ pos n) >>= pointer_text big w encoding.0 place)
+unfolding sum_text
+pointer_value big w place encoding addend None = refl
+pointer_value big w place encoding addend (Some n) = ap (λ z. address_of (z +ℤ pos n) >>= pointer_text big w encoding.0 place) (+ℤ_idl addend)
+
+-- the record of a pointer gives the pointer's text
+pointer_record_text : (big : Bool) (l : Layout) (size p w s : ℕ) (encoding : DwEhPe) (addend : ℤ) → pointer_width size (format_of encoding.0) ≡ Some w →
+    record_text big l (record { offset = p; size = w; target = to.Symbol s; addend = addend; eh_pe = Some encoding }) 0 ≡ eh_pointer_text size encoding.0 p (Symbol s addend) big l
+unfolding record_text eh_pointer_text
+pointer_record_text big l size p w s encoding addend e =
+    pointer_value big w (l.own_start + p) encoding addend (slice_get l.symbols s)
+    ∙ sym (ap (λ o. o >>= λ k. slice_get l.symbols s >>= λ v. address_of (addend +ℤ pos v) >>= pointer_text big k encoding.0 (l.own_start + p)) e)
+
 -- The calls of a relocating writer, from what its two steps ensure.
+
+pub pointer_added : {T : Type 0} (r : Result T Error) (a b : Meaning) (size w s : ℕ) (encoding : DwEhPe) (addend z : ℤ) →
+    OnOk r (AddsWith a b (zeros w) (record_by (Some encoding) a.size w (to.Symbol s) z)) → z ≡ addend → IsTrue (is_width w) → pointer_width size (format_of encoding.0) ≡ Some w →
+    OnOk r (Appends a b (eh_pointer_size size encoding.0 a.size (Symbol s addend)) (eh_pointer_text size encoding.0 a.size (Symbol s addend)))
+unfolding eh_pointer_size
+pointer_added (Ok x) a b size w s encoding addend z p e width k =
+    Appends-as (AddsWith-appends (Some encoding) w (to.Symbol s) addend (subst (λ y. AddsWith a b (zeros w) (record_by (Some encoding) a.size w (to.Symbol s) y)) e p) width) (sym (ap (λ o. unwrap_or o 0) k))
+    (λ big l. pointer_record_text big l size a.size w s encoding addend k)
+pointer_added (Err x) a b size w s encoding addend z p e width k = tt
+
+if_width : (b : Bool) (xs : List ℕ) → IsTrue b → xs ≡ (if b then xs else [])
+if_width true xs h = refl
+if_width false xs h = cc
+
+-- what such a pointer puts in its place
+pub pointer_zeros-are : (size place w s : ℕ) (big : Bool) (encoding : DwEhPe) (addend : ℤ) → IsTrue (is_width w) → pointer_width size (format_of encoding.0) ≡ Some w →
+    zeros w ≡ pointer_bytes false big size encoding.0 place (Symbol s addend)
+unfolding pointer_bytes
+pointer_zeros-are size place w s big encoding addend width k = if_width (is_width w) (zeros w) width ∙ sym (ap pointer_zeros k)
+
+pub pointer_record-is : (size place w s : ℕ) (encoding : DwEhPe) (addend z : ℤ) → z ≡ addend → pointer_width size (format_of encoding.0) ≡ Some w →
+    record_by (Some encoding) place w (to.Symbol s) z ≡ pointer_records false size encoding place (Symbol s addend)
+unfolding pointer_records
+pointer_record-is size place w s encoding addend z e k =
+    ap (λ y. record_by (Some encoding) place w (to.Symbol s) y) e ∙ sym (ap (λ o. pointer_record o encoding place s addend) k)
 
 pub offset_added : {T : Type 0} (r : Result T Error) (a b : Meaning) (w n : ℕ) (section : SectionId) (addend : ℤ) →
     OnOk r (AddsWith a b (zeros w) (record_at a.size w (to.Section section) addend)) → addend ≡ pos n → IsTrue (is_width w) → OnOk r (Appends a b w (offset_text w section n))
 offset_added (Ok x) a b w n section addend p e width =
-    Appends-as (AddsWith-appends w (to.Section section) (pos n) (subst (λ z. AddsWith a b (zeros w) (record_at a.size w (to.Section section) z)) e p) width) refl
+    Appends-as (AddsWith-appends None w (to.Section section) (pos n) (subst (λ z. AddsWith a b (zeros w) (record_at a.size w (to.Section section) z)) e p) width) refl
     (λ big l. offset_record big l a.size w n section)
 offset_added (Err x) a b w n section addend p e width = tt
 
@@ -109,7 +153,7 @@ offset_patched (Err x) a b place w n section addend p e width = tt
 pub symbol_added : {T : Type 0} (r : Result T Error) (a b : Meaning) (w s : ℕ) (addend z : ℤ) →
     OnOk r (AddsWith a b (zeros w) (record_at a.size w (to.Symbol s) z)) → z ≡ addend → IsTrue (is_width w) → OnOk r (Appends a b w (address_text w (Symbol s addend)))
 symbol_added (Ok x) a b w s addend z p e width =
-    Appends-as (AddsWith-appends w (to.Symbol s) addend (subst (λ k. AddsWith a b (zeros w) (record_at a.size w (to.Symbol s) k)) e p) width) refl
+    Appends-as (AddsWith-appends None w (to.Symbol s) addend (subst (λ k. AddsWith a b (zeros w) (record_at a.size w (to.Symbol s) k)) e p) width) refl
     (λ big l. symbol_record big l a.size w s addend)
 symbol_added (Err x) a b w s addend z p e width = tt
 
@@ -139,3 +183,9 @@ AddsSome-faulty big size xs a b bytes = record { count = 0; size = omega arith; 
 
 pub ReplacesSome-faulty : (big : Bool) (size : ℕ) (xs : List ℕ) (a b p : ℕ) (bytes : List ℕ) → ReplacesSome (counting big size xs a) (counting big size xs b) p bytes
 ReplacesSome-faulty big size xs a b p bytes = record { count = 0; size = refl; told = sym (patched-nothing p (Some xs)); records = refl }
+
+pub AddsWith-is : {T : Type 0} (r : Result T Error) (a b : Meaning) (xs ys : List ℕ) (rs qs : List Relocation) → OnOk r (AddsWith a b xs rs) → xs ≡ ys → rs ≡ qs → OnOk r (AddsWith a b ys qs)
+AddsWith-is r a b xs ys rs qs p e f = subst (λ k. OnOk r (AddsWith a b k qs)) e (subst (λ k. OnOk r (AddsWith a b xs k)) f p)
+
+pub AddsSomeWith-is : (a b : Meaning) (xs ys : List ℕ) (rs qs : List Relocation) → AddsSomeWith a b xs rs → xs ≡ ys → rs ≡ qs → AddsSomeWith a b ys qs
+AddsSomeWith-is a b xs ys rs qs p e f = subst (λ k. AddsSomeWith a b k qs) e (subst (λ k. AddsSomeWith a b xs k) f p)

@@ -1,12 +1,17 @@
 -- Why writers' calls refuse.
-use Rattle.std.specs.Prelude.{◌≡◌, ℕ, ◌+◌, ◌^◌, ◌≤◌, ◌<◌, Bool, true, false, ◌&&◌, nat_lt, IsTrue, IsFalse, if◌then◌else◌}
+use Rattle.std.specs.Prelude.{◌≡◌, ℕ, ◌+◌, ◌^◌, ◌≤◌, ◌<◌, Bool, true, false, ◌&&◌, nat_lt, Option, Some, None, IsTrue, IsFalse, if◌then◌else◌}
 use Rattle.dw_base.specs.Faults as counts
 use Rattle.dw_base.specs.Numbers.{is_width, fits, length_fits}
 use Rattle.dw_base.specs.declared.error.Error.{Error}
-use Rattle.dw_base.specs.declared.error.Error.TheVariants.{NoMemory, WriteFault, OffsetOutOfBounds, LengthOutOfBounds, ValueTooLarge, UnsupportedWordSize, InitialLengthOverflow, InvalidAddress}
+use Rattle.dw_base.specs.declared.error.Error.TheVariants.{NoMemory, WriteFault, OffsetOutOfBounds, LengthOutOfBounds, ValueTooLarge, UnsupportedWordSize, InitialLengthOverflow, InvalidAddress, UnsupportedPointerEncoding}
 use Rattle.dw_base.specs.declared.address.Address.{Address}
 use Rattle.dw_base.specs.declared.address.Address.TheVariants.{Constant, Symbol}
 use Rattle.dw_base.specs.declared.common.Format.{Format}
+use Rattle.dw_base.specs.Pointers.{format_of, pointer_width, signed_of}
+use Rattle.dw_writer.specs.SignedNumbers.{signed_fits}
+use Rattle.dw_writer.specs.Pointers.{layout_by, counted}
+use Rattle.dw_writer.specs.declared.pointer.PointerLayout.{PointerLayout}
+use Rattle.dw_writer.specs.declared.pointer.PointerLayout.TheVariants.{Uleb128, Sleb128, Unsigned, Signed}
 use Rattle.dw_writer.specs.Contents.{Meaning}
 
 -- the writer failed and counted that
@@ -78,3 +83,36 @@ AddressRefused false w (Symbol s a) more e = NumberRefused w true more e
 abbrev pub LengthRefused : Format → ℕ → (Error → Type 0) → Error → Type 0
 LengthRefused format n more InitialLengthOverflow = IsFalse (length_fits format n)
 LengthRefused format n more e = IsTrue (length_fits format n) × more e
+
+-- an encoding that has no meaning here
+abbrev pub EncodingRefused : ℕ → Error → Type 0
+EncodingRefused encoding (UnsupportedPointerEncoding e) = e.0 ≡ encoding
+EncodingRefused encoding _ = ⊥
+
+-- a number is refused as its layout has it, which the format may not have
+abbrev pub LaidRefused : Option PointerLayout → ℕ → ℕ → (Error → Type 0) → Error → Type 0
+LaidRefused None format n more e = EncodingRefused format e
+LaidRefused (Some Uleb128) format n more e = more e
+LaidRefused (Some Sleb128) format n more e = more e
+LaidRefused (Some (Unsigned w)) format n more e = NumberRefused w (fits w n) more e
+LaidRefused (Some (Signed w)) format n more e = NumberRefused w (signed_fits w (signed_of n)) more e
+
+abbrev pub DataRefused : ℕ → ℕ → ℕ → (Error → Type 0) → Error → Type 0
+DataRefused size format n more e = LaidRefused (layout_by size format) format n more e
+
+-- first it is asked what the encoding counts from
+abbrev pub CountedRefused : Option ℕ → ℕ → ℕ → (Error → Type 0) → Error → Type 0
+CountedRefused None size encoding more e = EncodingRefused encoding e
+CountedRefused (Some n) size encoding more e = DataRefused size (format_of encoding) n more e
+
+-- a record of a pointer has a width, which two formats haven't
+abbrev pub RecordRefused : Option ℕ → ℕ → (Error → Type 0) → Error → Type 0
+RecordRefused None encoding more e = EncodingRefused encoding e
+RecordRefused (Some w) encoding more e = NumberRefused w true more e
+
+-- a pointer to an address by an encoding, at a place: a plain writer refuses every symbol
+abbrev pub PointerRefused : Bool → ℕ → ℕ → ℕ → Address → (Error → Type 0) → Error → Type 0
+PointerRefused is_plain size encoding place (Constant n) more e = CountedRefused (counted encoding place n) size encoding more e
+PointerRefused true size encoding place (Symbol s a) more InvalidAddress = Unit {0}
+PointerRefused true size encoding place (Symbol s a) more _ = ⊥
+PointerRefused false size encoding place (Symbol s a) more e = RecordRefused (pointer_width size (format_of encoding)) encoding more e

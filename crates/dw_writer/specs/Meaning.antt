@@ -1,5 +1,8 @@
 -- What writers' calls do to what the writer holds.
-use Rattle.std.specs.Prelude.{◌≡◌, ◌⊎◌, ℕ, ◌+◌, ◌≤◌, Bool, true, false, ◌&&◌, List, [], ◌∷◌, ◌++◌, length, take, Some, None, ℤ, pos, IsTrue, if◌then◌else◌}
+use Rattle.std.specs.Prelude.{◌≡◌, ◌⊎◌, ℕ, ◌+◌, ◌≤◌, Bool, true, false, ◌&&◌, List, [], ◌∷◌, ◌++◌, length, take, Option, Some, None, ℤ, pos, IsTrue, if◌then◌else◌}
+use Rattle.std.specs.Option.{is_some}
+use Rattle.dw_base.specs.Pointers.{format_of, pointer_width}
+use Rattle.dw_base.specs.declared.constants.DwEhPe.{DwEhPe}
 use Rattle.dw_base.specs.Numbers.{num, is_width, fits, word_of, length_fits}
 use Rattle.dw_base.specs.declared.address.Address.{Address}
 use Rattle.dw_base.specs.declared.address.Address.TheVariants.{Constant, Symbol}
@@ -7,6 +10,7 @@ use Rattle.dw_base.specs.declared.common.Format.{Format}
 use Rattle.dw_base.specs.declared.section_id.SectionId.{SectionId}
 use Rattle.dw_writer.specs.Texts.{Text, zeros, followed, patched}
 use Rattle.dw_writer.specs.SignedNumbers.{signed_fits, signed_num}
+use Rattle.dw_writer.specs.Pointers.{constant_pointer}
 use Rattle.dw_writer.specs.Causes.{offset_fits}
 use Rattle.dw_writer.specs.declared.relocate.Relocation.{Relocation}
 use Rattle.dw_writer.specs.declared.relocate.RelocationTarget.TheVariants as to
@@ -141,6 +145,44 @@ abbrev pub address_records : Bool → ℕ → ℕ → Address → List Relocatio
 address_records is_plain place w (Constant n) = []
 address_records true place w (Symbol s a) = []
 address_records false place w (Symbol s a) = record { offset = place; size = w; target = to.Symbol s; addend = a; eh_pe = None } ∷ []
+
+-- the bytes of a text; one that isn't there has none
+abbrev pub spelled_text : Text → List ℕ
+spelled_text None = []
+spelled_text (Some xs) = xs
+
+-- zeros of a width, if it is one
+abbrev pub pointer_zeros : Option ℕ → List ℕ
+pointer_zeros None = []
+pointer_zeros (Some w) = if is_width w then zeros w else []
+
+-- the record of a pointer to a symbol
+abbrev pub pointer_record : Option ℕ → DwEhPe → ℕ → ℕ → ℤ → List Relocation
+pointer_record None encoding place s a = []
+pointer_record (Some w) encoding place s a = record { offset = place; size = w; target = to.Symbol s; addend = a; eh_pe = Some encoding } ∷ []
+
+-- there is a width, and it is one that a number has
+abbrev pub has_width : Option ℕ → Bool
+has_width None = false
+has_width (Some w) = is_width w
+
+-- what a pointer puts in its place: one to a known address is a number, a symbol's value is left to a record
+unfoldable pub pointer_bytes : Bool → Bool → ℕ → ℕ → ℕ → Address → List ℕ
+pointer_bytes is_plain big size encoding place (Constant n) = spelled_text (constant_pointer big size encoding place n)
+pointer_bytes true big size encoding place (Symbol s a) = []
+pointer_bytes false big size encoding place (Symbol s a) = pointer_zeros (pointer_width size (format_of encoding))
+
+-- what a pointer leaves to a linker
+unfoldable pub pointer_records : Bool → ℕ → DwEhPe → ℕ → Address → List Relocation
+pointer_records is_plain size encoding place (Constant n) = []
+pointer_records true size encoding place (Symbol s a) = []
+pointer_records false size encoding place (Symbol s a) = pointer_record (pointer_width size (format_of encoding.0)) encoding place s a
+
+-- whether a pointer can be written: a plain writer takes no symbols
+abbrev pub pointer_fits : Bool → Bool → ℕ → ℕ → ℕ → Address → Bool
+pointer_fits is_plain big size encoding place (Constant n) = is_some (constant_pointer big size encoding place n)
+pointer_fits true big size encoding place (Symbol s a) = false
+pointer_fits false big size encoding place (Symbol s a) = has_width (pointer_width size (format_of encoding))
 
 -- a text that hangs on the byte order and on a layout
 abbrev pub Model : Type 0

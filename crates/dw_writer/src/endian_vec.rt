@@ -7,7 +7,7 @@ ghost use Rattle.dw_writer.specs.Meaning.{Meaning};
 
 use crate::number::number_bytes;
 use crate::writer::Writer;
-use dw_base::{Address, Endianity, Error, Result, SectionId};
+use dw_base::{Address, DwEhPe, Endianity, Error, Result, SectionId};
 use std::alloc::{AllocError, Global};
 
 /// A writer into memory. It records no relocations, so it puts offsets as they are and refuses the
@@ -122,6 +122,16 @@ impl<E: Endianity> Writer for EndianVec<E> {
             }
             Address::Symbol { .. } => Err(Error::InvalidAddress),
         }
+    }
+
+    fn write_symbol_pointer(
+        &mut self,
+        _symbol: usize,
+        _addend: i64,
+        _eh_pe: DwEhPe,
+        _size: u8,
+    ) -> Result<()> {
+        Err(Error::InvalidAddress)
     }
 
     ghost plain_records_nothing = { λ w plain. refl };

@@ -9,7 +9,7 @@ ghost use Rattle.dw_writer.specs.Relocating.{with_faults};
 use crate::endian_vec::EndianVec;
 use crate::number::number_bytes;
 use crate::writer::Writer;
-use dw_base::{Address, Endianity, Error, FaultPlan, Result, SectionId};
+use dw_base::{Address, DwEhPe, Endianity, Error, FaultPlan, Result, SectionId};
 use std::alloc::{AllocError, Global};
 
 /// A plain writer into memory that fails at chosen calls of `write` and `write_at`, which are
@@ -165,6 +165,16 @@ impl<E: Endianity> Writer for FaultVec<E> {
             }
             Address::Symbol { .. } => Err(Error::InvalidAddress),
         }
+    }
+
+    fn write_symbol_pointer(
+        &mut self,
+        _symbol: usize,
+        _addend: i64,
+        _eh_pe: DwEhPe,
+        _size: u8,
+    ) -> Result<()> {
+        Err(Error::InvalidAddress)
     }
 
     ghost plain_records_nothing = { λ w plain. refl };

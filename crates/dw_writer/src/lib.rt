@@ -8,6 +8,9 @@ mod fault_vec;
 mod fixup;
 mod leb128;
 mod number;
+mod pointer;
+#[cfg(test)]
+mod pointer_tests;
 mod reloc_vec;
 mod relocate;
 mod section;

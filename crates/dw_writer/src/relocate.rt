@@ -7,9 +7,10 @@ ghost use Rattle.dw_base.specs.declared.error.Error.TheVariants.{NoMemory};
 ghost use Rattle.dw_writer.specs.Texts.{zeros};
 ghost use Rattle.dw_writer.specs.Causes.{NumberRefused, NotAtAll, BytesRefused, PatchRefused, PlaceRefused, KeptOutside, offset_fits};
 ghost use Rattle.dw_writer.specs.Meaning.{IsSameWriter, AddsWith, AddsSomeWith, ReplacesWith, ReplacesSomeWith};
-ghost use Rattle.dw_writer.specs.Relocating.{relocating, record_at, never_plain};
+ghost use Rattle.dw_writer.specs.Relocating.{relocating, record_at, record_by, never_plain};
 ghost use Rattle.dw_writer.specs.declared.relocate.Relocation.{Relocation};
 
+use crate::pointer::record_width;
 use crate::writer::Writer;
 use dw_base::{Address, DwEhPe, Error, Result, SectionId};
 
@@ -100,7 +101,7 @@ impl<T: RelocateWriter> Writer for T {
 
     fn write_offset(&mut self, val: usize, section: SectionId, size: u8) -> Result<()> {
         let addend = offset_addend(val, size)?;
-        add_relocated(self, size, RelocationTarget::Section(section), addend)
+        add_relocated(self, size, RelocationTarget::Section(section), addend, None)
     }
 
     fn write_offset_at(
@@ -125,9 +126,22 @@ impl<T: RelocateWriter> Writer for T {
             Address::Constant(val) => self.writer_mut().write_udata(val, size),
             Address::Symbol { symbol, addend } => {
                 check_width(size)?;
-                add_relocated(self, size, RelocationTarget::Symbol(symbol), addend)
+                add_relocated(self, size, RelocationTarget::Symbol(symbol), addend, None)
             }
         }
+    }
+
+    fn write_symbol_pointer(
+        &mut self,
+        symbol: usize,
+        addend: i64,
+        eh_pe: DwEhPe,
+        size: u8,
+    ) -> Result<()> {
+        let width = record_width(eh_pe, size)?;
+        check_width(width)?;
+        let target = RelocationTarget::Symbol(symbol);
+        add_relocated(self, width, target, addend, Some(eh_pe))
     }
 
     ghost plain_records_nothing = { λ w plain. never_plain plain };
@@ -139,16 +153,17 @@ fn add_relocated<T: RelocateWriter>(
     size: u8,
     target: RelocationTarget,
     addend: i64,
+    eh_pe: Option<DwEhPe>,
 ) -> Result<()>
     requires { IsTrue (is_width size) }
     ensures ok { OnOk result
         (AddsWith (relocating (T.Writer.meaning (T.inner w.old)) (T.relocations w.old))
         (relocating (T.Writer.meaning (T.inner w.new)) (T.relocations w.new)) (zeros size)
-        (record_at (T.Writer.meaning (T.inner w.old)).size size target addend)) }
+        (record_by eh_pe (T.Writer.meaning (T.inner w.old)).size size target addend)) }
     ensures partly { AddsSomeWith
         (relocating (T.Writer.meaning (T.inner w.old)) (T.relocations w.old))
         (relocating (T.Writer.meaning (T.inner w.new)) (T.relocations w.new)) (zeros size)
-        (record_at (T.Writer.meaning (T.inner w.old)).size size target addend) }
+        (record_by eh_pe (T.Writer.meaning (T.inner w.old)).size size target addend) }
     ensures err { IfErr result
         (BytesRefused (relocating (T.Writer.meaning (T.inner w.old)) (T.relocations w.old))
         (relocating (T.Writer.meaning (T.inner w.new)) (T.relocations w.new))) }
@@ -162,7 +177,7 @@ fn add_relocated<T: RelocateWriter>(
         size,
         target,
         addend,
-        eh_pe: None,
+        eh_pe,
     })?;
     w.writer_mut().write(zero_bytes(size))
 }

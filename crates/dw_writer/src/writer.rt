@@ -1,21 +1,24 @@
 //! What every writer of a section does.
 
-ghost use Rattle.std.specs.Prelude.{◌≡◌, Bool, true, false, [], ℕ, ◌+◌, ◌<◌, ◌≤◌, ◌++◌, length, IsTrue, Err, OnOk, IfOk, IfErr, OnErr};
+ghost use Rattle.std.specs.Prelude.{◌≡◌, Bool, true, false, [], ℕ, ◌+◌, ◌<◌, ◌≤◌, ◌++◌, length, IsTrue, IsSome, Err, OnOk, IfOk, IfErr, OnErr};
 ghost use Rattle.dw_base.specs.Numbers.{num, is_width, fits, word_of, escape_of, length_fits};
 ghost use Rattle.dw_base.specs.Leb128.{uleb, sleb};
 ghost use Rattle.dw_base.specs.declared.error.Error.TheVariants.{InvalidReference};
+ghost use Rattle.dw_base.specs.declared.address.Address.TheVariants.{Symbol};
+ghost use Rattle.dw_writer.specs.Pointers.{data_text};
 ghost use Rattle.dw_writer.specs.Texts.{zeros};
 ghost use Rattle.dw_writer.specs.SignedNumbers.{signed_fits, signed_num};
-ghost use Rattle.dw_writer.specs.Meaning.{Meaning, IsSameWriter, Adds, AddsWith, AddsSome, AddsSomeWith, Replaces, ReplacesWith, ReplacesSome, ReplacesSomeWith, Appends, Patches, spelled_num, spelled_signed, spelled_length, offset_bytes, address_bytes, offset_records, address_records};
-ghost use Rattle.dw_writer.specs.Causes.{IsNotMemory, KeptOutside, BytesRefused, PatchRefused, NumberRefused, AddressRefused, LengthRefused, offset_fits, address_fits};
-ghost use Rattle.dw_writer.specs.SectionTexts.{offset_text, address_text};
+ghost use Rattle.dw_writer.specs.Meaning.{Meaning, IsSameWriter, Adds, AddsWith, AddsSome, AddsSomeWith, Replaces, ReplacesWith, ReplacesSome, ReplacesSomeWith, Appends, Patches, spelled_num, spelled_signed, spelled_length, offset_bytes, address_bytes, offset_records, address_records, spelled_text, pointer_bytes, pointer_records, pointer_fits};
+ghost use Rattle.dw_writer.specs.Causes.{IsNotMemory, KeptOutside, BytesRefused, PatchRefused, NumberRefused, AddressRefused, LengthRefused, offset_fits, address_fits, DataRefused, PointerRefused};
+ghost use Rattle.dw_writer.specs.SectionTexts.{offset_text, address_text, eh_pointer_text, eh_pointer_size};
 
 use crate::leb128::{sleb128_bytes, uleb128_bytes};
 use crate::number::{
     bytes_of_u16, bytes_of_u32, bytes_of_u64, bytes_of_u128, number_bytes, open_length,
     signed_number_bytes,
 };
-use dw_base::{Address, Endianity, Error, Format, Result, SectionId};
+use crate::pointer::{PointerLayout, counted_from, layout_of};
+use dw_base::{Address, DwEhPe, Endianity, Error, Format, Result, SectionId};
 
 /// Writes a section. Every call but those named `.._at` adds bytes at its end; those write over
 /// bytes that are there, from an offset in bytes on. Numbers of several bytes are put in the
@@ -121,6 +124,38 @@ pub trait Writer {
         ensures partly { AddsSomeWith (meaning self.old) (meaning self.new)
             (address_bytes (meaning self.old).is_plain (meaning self.old).is_big size address)
             (address_records (meaning self.old).is_plain (meaning self.old).size size address) }
+        ensures same { IsSameWriter (meaning self.old) (meaning self.new) };
+
+    /// Adds a pointer to a symbol, plus the addend, by its encoding. A writer that records no
+    /// relocations refuses it, as `InvalidAddress`; any other leaves it to the linker, and refuses
+    /// the formats in LEB128, which have no width, as `UnsupportedPointerEncoding`.
+    fn write_symbol_pointer(
+        &mut self,
+        symbol: usize,
+        addend: i64,
+        eh_pe: DwEhPe,
+        size: u8,
+    ) -> Result<()>
+        ensures fits { OnOk result
+            (IsTrue (pointer_fits (meaning self.old).is_plain (meaning self.old).is_big size
+            eh_pe.0 (meaning self.old).size (Symbol symbol addend))) }
+        ensures ok { OnOk result
+            (Appends (meaning self.old) (meaning self.new)
+            (eh_pointer_size size eh_pe.0 (meaning self.old).size (Symbol symbol addend))
+            (eh_pointer_text size eh_pe.0 (meaning self.old).size (Symbol symbol addend))) }
+        ensures err { IfErr result
+            (PointerRefused (meaning self.old).is_plain size eh_pe.0 (meaning self.old).size
+            (Symbol symbol addend) (BytesRefused (meaning self.old) (meaning self.new))) }
+        ensures raw { OnOk result (AddsWith (meaning self.old) (meaning self.new)
+            (pointer_bytes (meaning self.old).is_plain (meaning self.old).is_big size eh_pe.0
+            (meaning self.old).size (Symbol symbol addend))
+            (pointer_records (meaning self.old).is_plain size eh_pe (meaning self.old).size
+            (Symbol symbol addend))) }
+        ensures partly { AddsSomeWith (meaning self.old) (meaning self.new)
+            (pointer_bytes (meaning self.old).is_plain (meaning self.old).is_big size eh_pe.0
+            (meaning self.old).size (Symbol symbol addend))
+            (pointer_records (meaning self.old).is_plain size eh_pe (meaning self.old).size
+            (Symbol symbol addend)) }
         ensures same { IsSameWriter (meaning self.old) (meaning self.new) };
 
     /// Adds one byte.
@@ -384,6 +419,69 @@ pub trait Writer {
                 self.write_u32_at(offset, length as u32)
             }
             Format::Dwarf64 => self.write_u64_at(offset, length),
+        }
+    }
+
+    /// Adds a pointer of a call frame table by its encoding (Linux Standard Base Core 5.0, 10.5.1).
+    /// What it holds counts from zero, or under `DW_EH_PE_pcrel` from its own offset, modulo 2^64;
+    /// any other application is refused as `UnsupportedPointerEncoding`, and `DW_EH_PE_indirect`
+    /// changes nothing. An address has `size` bytes. Symbols are those of `write_symbol_pointer`.
+    final fn write_eh_pointer(&mut self, address: Address, eh_pe: DwEhPe, size: u8) -> Result<()>
+        ensures fits { OnOk result
+            (IsTrue (pointer_fits (meaning self.old).is_plain (meaning self.old).is_big size
+            eh_pe.0 (meaning self.old).size address)) }
+        ensures ok { OnOk result
+            (Appends (meaning self.old) (meaning self.new)
+            (eh_pointer_size size eh_pe.0 (meaning self.old).size address)
+            (eh_pointer_text size eh_pe.0 (meaning self.old).size address)) }
+        ensures err { IfErr result
+            (PointerRefused (meaning self.old).is_plain size eh_pe.0 (meaning self.old).size
+            address (BytesRefused (meaning self.old) (meaning self.new))) }
+        ensures raw { OnOk result (AddsWith (meaning self.old) (meaning self.new)
+            (pointer_bytes (meaning self.old).is_plain (meaning self.old).is_big size eh_pe.0
+            (meaning self.old).size address)
+            (pointer_records (meaning self.old).is_plain size eh_pe (meaning self.old).size
+            address)) }
+        ensures partly { AddsSomeWith (meaning self.old) (meaning self.new)
+            (pointer_bytes (meaning self.old).is_plain (meaning self.old).is_big size eh_pe.0
+            (meaning self.old).size address)
+            (pointer_records (meaning self.old).is_plain size eh_pe (meaning self.old).size
+            address) }
+        ensures same { IsSameWriter (meaning self.old) (meaning self.new) }
+    {
+        match address {
+            Address::Constant(val) => {
+                let number = counted_from(val, eh_pe, self.len())?;
+                self.write_eh_pointer_data(number, eh_pe.format(), size)
+            }
+            Address::Symbol { symbol, addend } => {
+                self.write_symbol_pointer(symbol, addend, eh_pe, size)
+            }
+        }
+    }
+
+    /// Adds a number of 64 bits in the format of a pointer: that of an address, in `size` bytes,
+    /// unsigned or signed in 2, 4 or 8 bytes, or in LEB128. A signed format takes the number in
+    /// two's complement. Refused as `UnsupportedPointerEncoding` in any other format, and else as
+    /// `write_udata` and `write_sdata` refuse.
+    final fn write_eh_pointer_data(&mut self, val: u64, format: DwEhPe, size: u8) -> Result<()>
+        ensures fits { OnOk result
+            (IsSome (data_text (meaning self.old).is_big size format.0 val)) }
+        ensures ok { OnOk result
+            (Adds (meaning self.old) (meaning self.new)
+            (spelled_text (data_text (meaning self.old).is_big size format.0 val))) }
+        ensures err { IfErr result
+            (DataRefused size format.0 val (BytesRefused (meaning self.old) (meaning self.new))) }
+        ensures partly { OnErr result
+            (AddsSome (meaning self.old) (meaning self.new)
+            (spelled_text (data_text (meaning self.old).is_big size format.0 val))) }
+        ensures same { IsSameWriter (meaning self.old) (meaning self.new) }
+    {
+        match layout_of(format, size)? {
+            PointerLayout::Uleb128 => self.write_uleb128(val),
+            PointerLayout::Sleb128 => self.write_sleb128(val.cast_signed()),
+            PointerLayout::Unsigned(width) => self.write_udata(val, width),
+            PointerLayout::Signed(width) => self.write_sdata(val.cast_signed(), width),
         }
     }
 
