@@ -1,0 +1,20 @@
+//! Call frames: how a debugger or an unwinder finds the frame of a function's caller and what its
+//! registers held (DWARF 5, 6.4).
+#![tactic(auto)]
+
+mod advance;
+mod cie;
+mod factor;
+mod fde;
+mod instruction;
+mod operand;
+mod program;
+mod spelling;
+mod table;
+#[cfg(test)]
+mod tests;
+
+pub use cie::CommonInformationEntry;
+pub use fde::FrameDescriptionEntry;
+pub use instruction::CallFrameInstruction;
+pub use table::FrameTable;
