@@ -1,291 +1,241 @@
 -- A list that is spelled is read again, whatever follows it.
-use Rattle.std.proofs.Common.{◌≡◌, ◌∙◌, sym, ap, subst, ℕ, zero, suc, ◌^◌, ◌<◌, ◌≤◌, Bool, true, false, ◌&&◌, List, [], ◌∷◌, ◌++◌, length, drop, Option, Some, None, refl, arith, IsTrue, All, if◌then◌else◌, append_assoc, length-append, pow-suc}
-use Rattle.std.specs.Prelude.{not, ◌==◌}
-use Rattle.std.proofs.Math.Nat.{one-le-pow}
-use Rattle.std.proofs.lemmas.Bool.{eq-eqb, ne_eqb, and_parts}
-use Rattle.std.proofs.lemmas.Option.{none-some}
-use Rattle.std.proofs.lemmas.List.Elements.{All-head, All-tail}
-use Rattle.dw_base.specs.Numbers.{Parser, ◌>>=◌, number_at, num, is_width, fits}
-use Rattle.dw_base.specs.Leb128.{uleb_at, uleb}
-use Rattle.dw_base.proofs.NumberLaws.{bind_is, bind_parts, number-fits-again}
-use Rattle.dw_base.proofs.Leb128Laws.{uleb-again}
-use Rattle.dw_writer.specs.Texts.{Text, num_text, followed}
-use Rattle.dw_writer.specs.Meaning.{Layout}
-use Rattle.dw_writer.proofs.Laws.{length-num_text, followed-somes}
+use Rattle.std.proofs.Common.{◌≡◌, ◌∙◌, sym, ap, subst, ℕ, zero, suc, ◌+◌, ◌^◌, ◌<◌, ◌≤◌, Bool, true, false, List, [], ◌∷◌, ◌++◌, length, drop, Option, Some, None, refl, arith, All, append_assoc, length-append}
+use Rattle.std.specs.Prelude.{is_some}
 use Rattle.std.proofs.lemmas.List.{drop_at}
+use Rattle.std.proofs.lemmas.List.Elements.{All-head, All-tail}
+use Rattle.dw_base.specs.Numbers.{◌>>=◌, bytes_at}
+use Rattle.dw_base.specs.Leb128.{uleb_at, uleb}
 use Rattle.dw_base.specs.declared.common.Encoding.{Encoding}
+use Rattle.dw_base.proofs.NumberLaws.{bind_is, bind_parts, bytes_at_is}
+use Rattle.dw_base.proofs.Leb128Laws.{uleb-again}
+use Rattle.dw_writer.specs.Meaning.{Layout}
+use Rattle.dw_writer.specs.SectionTexts.{bytes_text}
+use Rattle.dw_writer.specs.Drafts.{Info, then_draft}
+use Rattle.dw_expr.specs.Trees.{Node}
+use Rattle.dw_expr.specs.Spelling.{expression_draft, expression_size}
 use Rattle.dw_lists.specs.declared.range.Range.{Range}
-use Rattle.dw_lists.specs.Items.{RangeItem, Base, Pair, StartEnd, StartLength, BaseIndex, IndexEnd, IndexLength, marker, more_at, items_up_to, old_item, old_item_at, new_item_at, two, is_five, range_item_at, range_items_at}
-use Rattle.dw_lists.specs.Pieces.{both}
-use Rattle.dw_lists.specs.Texts.{item_in, items_in, old_item_text, new_item_text, item_text, close_text, range_piece, ranges_piece, list_piece}
+use Rattle.dw_lists.specs.declared.range.Range.TheVariants as built
+use Rattle.dw_lists.specs.Kinds.{kinds_of}
+use Rattle.dw_lists.specs.Items.{Span, Base, Pair, StartEnd, StartLength, Default, Item, more_at, items_up_to, is_located, count_at, expression_at, rest_at, item_at, is_five, items_at}
+use Rattle.dw_lists.specs.Parts.{Part}
+use Rattle.dw_lists.specs.Texts.{address_in, span_in, span_text, span_draft, close_text, count_draft, located, part_draft, parts_draft, list_draft, bytes_in, part_in, parts_in, IsSpelled}
+use Rattle.dw_lists.proofs.Spoken.{number_read, two_there, IsTold, IsKnown, span_read, span_long, close_read, close_long}
 
--- Texts that are there
+-- what items of location lists and of range lists are
+abbrev pub IsPartOf : Bool → Option Range → Option (List Node) → Type 0
+IsPartOf false (Some r) None = Unit {0}
+IsPartOf true (Some (built.BaseAddress a)) None = Unit {0}
+IsPartOf true (Some (built.OffsetPair m n)) (Some x) = Unit {0}
+IsPartOf true (Some (built.StartEnd a b)) (Some x) = Unit {0}
+IsPartOf true (Some (built.StartLength a k)) (Some x) = Unit {0}
+IsPartOf true None (Some x) = Unit {0}
+IsPartOf loc r x = ⊥
 
-if_there : (b : Bool) (ys xs : List ℕ) → ◌≡◌ {A = Text} (if b then Some ys else None) (Some xs) → IsTrue b × (ys ≡ xs)
-if_there true ys xs e = (refl, cc)
-if_there false ys xs e = absurd (none-some _ e)
+-- such an item has the addresses and the expression that are read
+record Fits (loc : Bool) (x : Option (List Node)) (s : Span) : Type 0 where
+  known : IsKnown loc s
+  has : is_located loc s ≡ is_some x
 
-pub number_there : (big : Bool) (w n : ℕ) (xs : List ℕ) → num_text big w n ≡ Some xs → IsTrue (is_width w) × IsTrue (fits w n) × (num big w n ≡ xs)
-unfolding num_text
-number_there big w n xs e =
-    let p = if_there (is_width w && fits w n) (num big w n) xs e in
-    let q = and_parts (is_width w) (fits w n) p.0 in
-    (q.0, q.1, p.1)
+fits_base : (loc : Bool) (n : ℕ) → Fits loc None (Base n)
+fits_base true n = record { known = tt; has = refl }
+fits_base false n = record { known = tt; has = refl }
 
-pub number_read : (big : Bool) (w n : ℕ) (xs rest : List ℕ) → num_text big w n ≡ Some xs → number_at big w (xs ++ rest) ≡ Some (n, rest)
-number_read big w n xs rest e =
-    let p = number_there big w n xs e in
-    subst (λ ys. number_at big w (ys ++ rest) ≡ Some (n, rest)) p.2 (number-fits-again big w n rest p.1)
-
-pub record Two (a b : Text) (zs : List ℕ) : Type 0 where
-  pub xs : List ℕ
-  pub ys : List ℕ
-  pub first : a ≡ Some xs
-  pub second : b ≡ Some ys
-  pub is : zs ≡ xs ++ ys
-
-pub two_there : (a b : Text) (zs : List ℕ) → followed a b ≡ Some zs → Two a b zs
-unfolding followed
-two_there None b zs e = absurd (none-some _ e)
-two_there (Some xs) None zs e = absurd (none-some _ e)
-two_there (Some xs) (Some ys) zs e = record { xs = xs; ys = ys; first = refl; second = refl; is = cc }
-
--- Items up to version 4
-
--- what is told apart: two zeros are the close, and a marker makes a base
-abbrev pub old_told : ℕ → RangeItem → Bool
-old_told w (Pair m n) = not (m == n) && not (m == marker w)
-old_told w x = true
-
-width_positive : (w : ℕ) → IsTrue (is_width w) → 0 < marker w
-width_positive zero h = absurd (let e : IsTrue false = h in cc)
-width_positive (suc w) h = omega (arith, pow-suc 256 w, one-le-pow w 256 (omega arith))
-
-base_step : (a0 a1 : Bool) (w a b : ℕ) → a0 ≡ false → a1 ≡ true → (if a0 && (b == 0) then None else Some (if a1 then Base b else Pair a b)) ≡ Some (Base b)
-base_step false true w a b e f = refl
-base_step true a1 w a b e f = absurd cc
-base_step false false w a b e f = absurd cc
-
-two_zeros : (m n : ℕ) → IsTrue (not (m == n)) → ((m == 0) && (n == 0)) ≡ false
-two_zeros zero zero h = absurd (let e : IsTrue false = h in cc)
-two_zeros zero (suc n) h = ap (λ b. (0 == 0) && b) (ne_eqb (suc n) 0 (λ z. omega (arith, z)))
-two_zeros (suc m) n h = ap (λ b. b && (n == 0)) (ne_eqb (suc m) 0 (λ z. omega (arith, z)))
-
-not_true : (b : Bool) → IsTrue (not b) → b ≡ false
-not_true false h = refl
-not_true true h = absurd (let e : IsTrue false = h in cc)
-
-pair_step : (z a1 : Bool) (a b : ℕ) → z ≡ false → a1 ≡ false → (if z then None else Some (if a1 then Base b else Pair a b)) ≡ Some (Pair a b)
-pair_step false false a b e f = refl
-pair_step true a1 a b e f = absurd cc
-pair_step false true a b e f = absurd cc
-
-same_eqb : (n : ℕ) → (n == n) ≡ true
-same_eqb n = eq-eqb n n refl
-
-numbers_read : (big : Bool) (w m n : ℕ) (xs rest : List ℕ) → followed (num_text big w m) (num_text big w n) ≡ Some xs →
-    old_item_at big w (xs ++ rest) ≡ Some (old_item w m n, rest)
-unfolding old_item_at
-numbers_read big w m n xs rest e =
-    let p = two_there (num_text big w m) (num_text big w n) xs e in
-    ap (old_item_at big w) (ap (λ zs. zs ++ rest) p.is ∙ append_assoc p.xs p.ys rest)
-    ∙ bind_is _ (m, p.ys ++ rest) (λ a. number_at big w a.1 >>= λ b. Some (old_item w a.0 b.0, b.1)) (number_read big w m p.xs (p.ys ++ rest) p.first)
-    ∙ bind_is _ (n, rest) (λ b. Some (old_item w m b.0, b.1)) (number_read big w n p.ys rest p.second)
-
-old_read : (big : Bool) (w : ℕ) (x : RangeItem) (xs rest : List ℕ) → old_item_text big w x ≡ Some xs → IsTrue (old_told w x) → old_item_at big w (xs ++ rest) ≡ Some (Some x, rest)
-old_read big w (Base n) xs rest e h =
-    let p = two_there (num_text big w (marker w)) (num_text big w n) xs e in
-    let width = (number_there big w (marker w) p.xs p.first).0 in
-    let positive = width_positive w width in
-    numbers_read big w (marker w) n xs rest e
-    ∙ ap (λ x. Some (x, rest)) (base_step (marker w == 0) (marker w == marker w) w (marker w) n (ne_eqb (marker w) 0 (λ z. omega (arith, positive))) (same_eqb (marker w)))
-old_read big w (Pair m n) xs rest e h =
-    let p = and_parts (not (m == n)) (not (m == marker w)) h in
-    numbers_read big w m n xs rest e
-    ∙ ap (λ x. Some (x, rest)) (pair_step ((m == 0) && (n == 0)) (m == marker w) m n (two_zeros m n p.0) (not_true (m == marker w) p.1))
-old_read big w (StartEnd m n) xs rest e h = absurd (none-some _ e)
-old_read big w (StartLength m n) xs rest e h = absurd (none-some _ e)
-old_read big w (BaseIndex m) xs rest e h = absurd (none-some _ e)
-old_read big w (IndexEnd m n) xs rest e h = absurd (none-some _ e)
-old_read big w (IndexLength m n) xs rest e h = absurd (none-some _ e)
-
--- Items of version 5
-
-abbrev pub IsRanged : RangeItem → Type 0
-IsRanged (Pair m n) = (m < 2 ^ 64) × (n < 2 ^ 64)
-IsRanged (StartLength m k) = k < 2 ^ 64
-IsRanged x = Unit {0}
-
--- what the bytes of an item tell apart from others
-abbrev pub IsTold : Bool → ℕ → RangeItem → Type 0
-IsTold true w x = IsRanged x
-IsTold false w x = IsTrue (old_told w x)
-
-two_read : (p q : Parser ℕ) (f : ℕ → ℕ → RangeItem) (m n : ℕ) (xs ys rest : List ℕ) → p (xs ++ (ys ++ rest)) ≡ Some (m, ys ++ rest) → q (ys ++ rest) ≡ Some (n, rest) →
-    two p q f ((xs ++ ys) ++ rest) ≡ Some (Some (f m n), rest)
-two_read p q f m n xs ys rest e h =
-    ap (two p q f) (append_assoc xs ys rest)
-    ∙ bind_is _ (m, ys ++ rest) (λ a. q a.1 >>= λ b. Some (Some (f a.0 b.0), b.1)) e
-    ∙ bind_is _ (n, rest) (λ b. Some (Some (f m b.0), b.1)) h
-
-new_read : (big : Bool) (w : ℕ) (x : RangeItem) (xs rest : List ℕ) → new_item_text big w x ≡ Some xs → IsRanged x → new_item_at big w (xs ++ rest) ≡ Some (Some x, rest)
-unfolding new_item_at
-new_read big w (Base n) xs rest e h =
-    let p = two_there (Some (5 ∷ [])) (num_text big w n) xs e in
-    let k : ◌≡◌ {A = List ℕ} (5 ∷ []) p.xs = cc in
-    ap (λ zs. new_item_at big w (zs ++ rest)) (p.is ∙ ap (λ zs. zs ++ p.ys) (sym k))
-    ∙ bind_is _ (n, rest) (λ a. Some (Some (Base a.0), a.1)) (number_read big w n p.ys rest p.second)
-new_read big w (Pair m n) xs rest e h =
-    let k : ◌≡◌ {A = List ℕ} (4 ∷ uleb m ++ uleb n) xs = cc in
-    ap (λ zs. new_item_at big w (zs ++ rest)) (sym k)
-    ∙ two_read uleb_at uleb_at Pair m n (uleb m) (uleb n) rest (uleb-again m (uleb n ++ rest) h.0) (uleb-again n rest h.1)
-new_read big w (StartEnd m n) xs rest e h =
-    let p = two_there (Some (6 ∷ [])) (followed (num_text big w m) (num_text big w n)) xs e in
-    let q = two_there (num_text big w m) (num_text big w n) p.ys p.second in
-    let k : ◌≡◌ {A = List ℕ} (6 ∷ []) p.xs = cc in
-    ap (λ zs. new_item_at big w (zs ++ rest)) (p.is ∙ ap (λ zs. zs ++ p.ys) (sym k) ∙ ap (λ zs. 6 ∷ zs) q.is)
-    ∙ two_read (number_at big w) (number_at big w) StartEnd m n q.xs q.ys rest (number_read big w m q.xs (q.ys ++ rest) q.first) (number_read big w n q.ys rest q.second)
-new_read big w (StartLength m n) xs rest e h =
-    let p = two_there (Some (7 ∷ [])) (followed (num_text big w m) (Some (uleb n))) xs e in
-    let q = two_there (num_text big w m) (Some (uleb n)) p.ys p.second in
-    let k : ◌≡◌ {A = List ℕ} (7 ∷ []) p.xs = cc in
-    let u : uleb n ≡ q.ys = cc in
-    ap (λ zs. new_item_at big w (zs ++ rest)) (p.is ∙ ap (λ zs. zs ++ p.ys) (sym k) ∙ ap (λ zs. 7 ∷ zs) q.is)
-    ∙ two_read (number_at big w) uleb_at StartLength m n q.xs q.ys rest (number_read big w m q.xs (q.ys ++ rest) q.first)
-    (subst (λ ys. uleb_at (ys ++ rest) ≡ Some (n, rest)) u (uleb-again n rest h))
-new_read big w (BaseIndex m) xs rest e h = absurd (none-some _ e)
-new_read big w (IndexEnd m n) xs rest e h = absurd (none-some _ e)
-new_read big w (IndexLength m n) xs rest e h = absurd (none-some _ e)
-
--- Lists
-
-pub item_read : (five big : Bool) (w : ℕ) (x : RangeItem) (xs rest : List ℕ) → item_text five big w x ≡ Some xs → IsTold five w x → range_item_at five big w (xs ++ rest) ≡ Some (Some x, rest)
-item_read true big w x xs rest e h = new_read big w x xs rest e h
-item_read false big w x xs rest e h = old_read big w x xs rest e h
-
-pub close_read : (five big : Bool) (w : ℕ) (xs rest : List ℕ) → close_text five big w ≡ Some xs → range_item_at five big w (xs ++ rest) ≡ Some (None, rest)
-unfolding new_item_at
-close_read true big w xs rest e = let k : ◌≡◌ {A = List ℕ} (0 ∷ []) xs = cc in ap (λ zs. new_item_at big w (zs ++ rest)) (sym k)
-close_read false big w xs rest e = numbers_read big w 0 0 xs rest e
-
-width_long : (big : Bool) (w n : ℕ) (xs : List ℕ) → num_text big w n ≡ Some xs → 0 < length xs
-width_long big w n xs e =
-    let long = length-num_text big w n xs e in
-    let wide = positive w (number_there big w n xs e).0 in
-    omega (arith, long, wide)
+fits : (five loc : Bool) (l : Layout) (r : Option Range) (x : Option (List Node)) (s : Span) → IsPartOf loc r x → span_in five l r ≡ Some s → Fits loc x s
+fits five true l None None s h e = absurd h
+fits five true l None (Some x) s h e = let k : Default ≡ s = cc in subst (Fits true (Some x)) k (record { known = tt; has = refl })
+fits five false l None x s h e = absurd (none_part x h)
   where
-    positive : (w : ℕ) → IsTrue (is_width w) → 0 < w
-    positive zero h = absurd (let e : IsTrue false = h in cc)
-    positive (suc w) h = omega arith
+    none_part : (x : Option (List Node)) → IsPartOf false None x → ⊥
+    none_part None h = h
+    none_part (Some x) h = h
+fits five true l (Some (built.BaseAddress a)) None s h e =
+    let p = bind_parts (address_in l a) (λ n. Some (Base n)) s e in let k : Base p.0 ≡ s = cc in subst (Fits true None) k (fits_base true p.0)
+fits five true l (Some (built.BaseAddress a)) (Some x) s h e = absurd h
+fits five true l (Some (built.OffsetPair m n)) None s h e = absurd h
+fits five true l (Some (built.OffsetPair m n)) (Some x) s h e = let k : Pair m n ≡ s = cc in subst (Fits true (Some x)) k (record { known = tt; has = refl })
+fits five true l (Some (built.StartEnd a b)) None s h e = absurd h
+fits true true l (Some (built.StartEnd a b)) (Some x) s h e =
+    let p = bind_parts (address_in l a) (λ m. address_in l b >>= λ n. Some (StartEnd m n)) s e in
+    let q = bind_parts (address_in l b) (λ n. Some (StartEnd p.0 n)) s p.2 in
+    let k : StartEnd p.0 q.0 ≡ s = cc in subst (Fits true (Some x)) k (record { known = tt; has = refl })
+fits false true l (Some (built.StartEnd a b)) (Some x) s h e =
+    let p = bind_parts (address_in l a) (λ m. address_in l b >>= λ n. Some (Pair m n)) s e in
+    let q = bind_parts (address_in l b) (λ n. Some (Pair p.0 n)) s p.2 in
+    let k : Pair p.0 q.0 ≡ s = cc in subst (Fits true (Some x)) k (record { known = tt; has = refl })
+fits five true l (Some (built.StartLength a n)) None s h e = absurd h
+fits true true l (Some (built.StartLength a n)) (Some x) s h e =
+    let p = bind_parts (address_in l a) (λ m. Some (StartLength m n)) s e in let k : StartLength p.0 n ≡ s = cc in subst (Fits true (Some x)) k (record { known = tt; has = refl })
+fits false true l (Some (built.StartLength a n)) (Some x) s h e =
+    let p = bind_parts (address_in l a) (λ m. Some (Pair m (m + n))) s e in let k : Pair p.0 (p.0 + n) ≡ s = cc in subst (Fits true (Some x)) k (record { known = tt; has = refl })
+fits five false l (Some (built.BaseAddress a)) None s h e =
+    let p = bind_parts (address_in l a) (λ n. Some (Base n)) s e in let k : Base p.0 ≡ s = cc in subst (Fits false None) k (fits_base false p.0)
+fits five false l (Some (built.OffsetPair m n)) None s h e = let k : Pair m n ≡ s = cc in subst (Fits false None) k (record { known = tt; has = refl })
+fits true false l (Some (built.StartEnd a b)) None s h e =
+    let p = bind_parts (address_in l a) (λ m. address_in l b >>= λ n. Some (StartEnd m n)) s e in
+    let q = bind_parts (address_in l b) (λ n. Some (StartEnd p.0 n)) s p.2 in
+    let k : StartEnd p.0 q.0 ≡ s = cc in subst (Fits false None) k (record { known = tt; has = refl })
+fits false false l (Some (built.StartEnd a b)) None s h e =
+    let p = bind_parts (address_in l a) (λ m. address_in l b >>= λ n. Some (Pair m n)) s e in
+    let q = bind_parts (address_in l b) (λ n. Some (Pair p.0 n)) s p.2 in
+    let k : Pair p.0 q.0 ≡ s = cc in subst (Fits false None) k (record { known = tt; has = refl })
+fits true false l (Some (built.StartLength a n)) None s h e =
+    let p = bind_parts (address_in l a) (λ m. Some (StartLength m n)) s e in let k : StartLength p.0 n ≡ s = cc in subst (Fits false None) k (record { known = tt; has = refl })
+fits false false l (Some (built.StartLength a n)) None s h e =
+    let p = bind_parts (address_in l a) (λ m. Some (Pair m (m + n))) s e in let k : Pair p.0 (p.0 + n) ≡ s = cc in subst (Fits false None) k (record { known = tt; has = refl })
+fits five false l (Some (built.BaseAddress a)) (Some x) s h e = absurd h
+fits five false l (Some (built.OffsetPair m n)) (Some x) s h e = absurd h
+fits five false l (Some (built.StartEnd a b)) (Some x) s h e = absurd h
+fits five false l (Some (built.StartLength a n)) (Some x) s h e = absurd h
 
-two_long : (a b : Text) (xs : List ℕ) → ((ys : List ℕ) → a ≡ Some ys → 0 < length ys) → followed a b ≡ Some xs → 0 < length xs
-two_long a b xs h e = let p = two_there a b xs e in omega (arith, h p.xs p.first, ap length p.is, length-append p.xs p.ys)
+-- Expressions
 
-some_long : (n : ℕ) (ys : List ℕ) → ◌≡◌ {A = Text} (Some (n ∷ [])) (Some ys) → 0 < length ys
-some_long n ys e = let k : ◌≡◌ {A = List ℕ} (n ∷ []) ys = cc in omega (arith, ap length k)
+module _ (five loc : Bool) (v : Encoding) (place : ℕ → Option ℕ) (info : Info) (big : Bool) (l : Layout) where
+  count_read : (n : ℕ) (xs rest : List ℕ) → (count_draft five n).text info big l ≡ Some xs → n < 2 ^ 64 → count_at five big (xs ++ rest) ≡ Some (n, rest)
+  unfolding bytes_text
+  count_read n xs rest e h = by five e
+    where
+      by : (b : Bool) → (count_draft b n).text info big l ≡ Some xs → count_at b big (xs ++ rest) ≡ Some (n, rest)
+      by true e = let k : uleb n ≡ xs = cc in subst (λ ys. uleb_at (ys ++ rest) ≡ Some (n, rest)) k (uleb-again n rest h)
+      by false e = number_read big 2 n xs rest e
 
-item_long : (five big : Bool) (w : ℕ) (x : RangeItem) (xs : List ℕ) → item_text five big w x ≡ Some xs → 0 < length xs
-item_long true big w (Base n) xs e = two_long (Some (5 ∷ [])) (num_text big w n) xs (some_long 5) e
-item_long true big w (Pair m n) xs e = let k : ◌≡◌ {A = List ℕ} (4 ∷ uleb m ++ uleb n) xs = cc in omega (arith, ap length k)
-item_long true big w (StartEnd m n) xs e = two_long (Some (6 ∷ [])) (followed (num_text big w m) (num_text big w n)) xs (some_long 6) e
-item_long true big w (StartLength m n) xs e = two_long (Some (7 ∷ [])) (followed (num_text big w m) (Some (uleb n))) xs (some_long 7) e
-item_long true big w (BaseIndex m) xs e = absurd (none-some _ e)
-item_long true big w (IndexEnd m n) xs e = absurd (none-some _ e)
-item_long true big w (IndexLength m n) xs e = absurd (none-some _ e)
-item_long false big w (Base n) xs e = two_long (num_text big w (marker w)) (num_text big w n) xs (width_long big w (marker w)) e
-item_long false big w (Pair m n) xs e = two_long (num_text big w m) (num_text big w n) xs (width_long big w m) e
-item_long false big w (StartEnd m n) xs e = absurd (none-some _ e)
-item_long false big w (StartLength m n) xs e = absurd (none-some _ e)
-item_long false big w (BaseIndex m) xs e = absurd (none-some _ e)
-item_long false big w (IndexEnd m n) xs e = absurd (none-some _ e)
-item_long false big w (IndexLength m n) xs e = absurd (none-some _ e)
+  record Located (x : Option (List Node)) (has : Bool) (xs : List ℕ) : Type 0 where
+    found : Option (List ℕ)
+    built : bytes_in five v place info big l x ≡ Some found
+    read : (rest : List ℕ) → expression_at has five big (xs ++ rest) ≡ Some (found, rest)
 
--- texts, one behind another
-abbrev pub texts : {A : Type 0} → (A → Text) → List A → Text
-texts f [] = Some []
-texts f (x ∷ xs) = followed (f x) (texts f xs)
+  located_read : (x : Option (List Node)) (xs : List ℕ) → (located five v place x).text info big l ≡ Some xs → IsSpelled five v place x → Located x (is_some x) xs
+  unfolding then_draft
+  located_read None xs e h =
+      let k : ◌≡◌ {A = List ℕ} [] xs = cc in
+      record { found = None; built = refl; read = λ rest. ap (λ ys. Some (None, ys ++ rest)) (sym k) }
+  located_read (Some x) xs e h =
+      let n = expression_size v place x in
+      let t = two_there ((count_draft five n).text info big l) ((expression_draft v place x).text info big l) xs e in
+      let long : length t.ys ≡ n = h.1.wide info big l t.ys t.second in
+      record {
+        found = Some t.ys;
+        built = bind_is _ t.ys (λ ys. Some (Some ys)) t.second;
+        read = λ rest.
+            ap (expression_at true five big) (ap (λ ys. ys ++ rest) t.is ∙ append_assoc t.xs t.ys rest)
+            ∙ bind_is _ (n, t.ys ++ rest) (λ m. bytes_at m.0 m.1 >>= λ y. Some (Some y.0, y.1)) (count_read n t.xs (t.ys ++ rest) t.first h.0)
+            ∙ bind_is _ (t.ys, rest) (λ y. Some (Some y.0, y.1)) (bytes_at_is n t.ys rest long);
+      }
 
-module _ {A : Type 0} (p : Parser (Option A)) (f : A → Text) (Told : A → Type 0)
-    (step : (x : A) (xs rest : List ℕ) → f x ≡ Some xs → Told x → p (xs ++ rest) ≡ Some (Some x, rest))
-    (long : (x : A) (xs : List ℕ) → f x ≡ Some xs → 0 < length xs) where
-  pub texts_long : (xs : List A) (bytes : List ℕ) → texts f xs ≡ Some bytes → length xs ≤ length bytes
-  texts_long [] bytes e = omega arith
-  texts_long (x ∷ xs) bytes e =
-      let t = two_there (f x) (texts f xs) bytes e in
-      omega (arith, texts_long xs t.ys t.second, long x t.xs t.first, ap length t.is, length-append t.xs t.ys)
+  -- Items
 
-  pub items-again : (fuel : ℕ) (xs : List A) (bytes end rest : List ℕ) → texts f xs ≡ Some bytes → All Told xs → p (end ++ rest) ≡ Some (None, rest) → length xs < fuel →
-      items_up_to p fuel (bytes ++ (end ++ rest)) ≡ Some (xs, rest)
+  -- what an item has to be, so that it is read again
+  pub record Reads (p : Part) : Type 0 where
+    pub spelled : IsSpelled five v place p.expression
+    pub told : (s : Span) → span_in five l p.range ≡ Some s → IsTold five v.address_size s
+    pub part : IsPartOf loc p.range p.expression
+
+  record Again (p : Part) (xs : List ℕ) : Type 0 where
+    item : Item
+    built : part_in five v place info big l p ≡ Some item
+    read : (rest : List ℕ) → item_at five loc big v.address_size (xs ++ rest) ≡ Some (Some item, rest)
+    long : 0 < length xs
+
+  part_read : (p : Part) (xs : List ℕ) → (part_draft five v place (kinds_of loc) p).text info big l ≡ Some xs → Reads p → Again p xs
+  unfolding then_draft item_at
+  part_read p xs e h =
+      let t = two_there ((span_draft five (kinds_of loc) v.address_size p.range).text info big l) ((located five v place p.expression).text info big l) xs e in
+      let s = bind_parts (span_in five l p.range) (span_text five (kinds_of loc) big v.address_size) t.xs t.first in
+      let f = fits five loc l p.range p.expression s.0 h.part s.1 in
+      let x = located_read p.expression t.ys t.second h.spelled in
+      let item : Item = record { span = s.0; expression = x.found } in
+      record {
+        item = item;
+        built = bind_is _ s.0 (λ a. bytes_in five v place info big l p.expression >>= λ y. Some (record { span = a; expression = y })) s.1
+            ∙ bind_is _ x.found (λ y. Some (record { span = s.0; expression = y })) x.built;
+        read = λ rest.
+            ap (item_at five loc big v.address_size) (ap (λ ys. ys ++ rest) t.is ∙ append_assoc t.xs t.ys rest)
+            ∙ bind_is _ (Some s.0, t.ys ++ rest) (λ a. rest_at five loc big a.0 a.1) (span_read five loc big v.address_size s.0 t.xs (t.ys ++ rest) s.2 (h.told s.0 s.1) f.known)
+            ∙ bind_is _ (x.found, rest) (λ y. Some (Some (record { span = s.0; expression = y.0 }), y.1)) (ap (λ b. expression_at b five big (t.ys ++ rest)) f.has ∙ x.read rest);
+        long = omega (arith, span_long five loc big v.address_size s.0 t.xs s.2, ap length t.is, length-append t.xs t.ys);
+      }
+
+  -- Lists
+
+  record Items (ps : List Part) (bytes : List ℕ) : Type 0 where
+    items : List Item
+    built : parts_in five v place info big l ps ≡ Some items
+    long : length ps ≤ length bytes
+    again : (fuel : ℕ) (end rest : List ℕ) → item_at five loc big v.address_size (end ++ rest) ≡ Some (None, rest) → length ps < fuel →
+        items_up_to (item_at five loc big v.address_size) fuel (bytes ++ (end ++ rest)) ≡ Some (items, rest)
+
+  none_more : (fuel : ℕ) (end rest : List ℕ) → item_at five loc big v.address_size (end ++ rest) ≡ Some (None, rest) → 0 < fuel →
+      items_up_to (item_at five loc big v.address_size) fuel (end ++ rest) ≡ Some ([], rest)
   unfolding items_up_to
-  items-again zero xs bytes end rest e h closed le = absurd (omega arith)
-  items-again (suc fuel) [] bytes end rest e h closed le =
+  none_more zero end rest closed below = absurd (omega arith)
+  none_more (suc fuel) end rest closed below = bind_is _ (None, rest) (λ x. more_at (items_up_to (item_at five loc big v.address_size) fuel) x.0 x.1) closed
+
+  one_more : (xs ys : List ℕ) (x : Item) (items : List Item) (n : ℕ) → ((rest : List ℕ) → item_at five loc big v.address_size (xs ++ rest) ≡ Some (Some x, rest)) →
+      ((fuel : ℕ) (end rest : List ℕ) → item_at five loc big v.address_size (end ++ rest) ≡ Some (None, rest) → n < fuel → items_up_to (item_at five loc big v.address_size) fuel (ys ++ (end ++ rest)) ≡ Some (items, rest)) →
+      (fuel : ℕ) (end rest : List ℕ) → item_at five loc big v.address_size (end ++ rest) ≡ Some (None, rest) → suc n < fuel →
+      items_up_to (item_at five loc big v.address_size) fuel ((xs ++ ys) ++ (end ++ rest)) ≡ Some (x ∷ items, rest)
+  unfolding items_up_to
+  one_more xs ys x items n here more zero end rest closed below = absurd (omega arith)
+  one_more xs ys x items n here more (suc fuel) end rest closed below =
+      let tail = ys ++ (end ++ rest) in
+      ap (items_up_to (item_at five loc big v.address_size) (suc fuel)) (append_assoc xs ys (end ++ rest))
+      ∙ bind_is _ (Some x, tail) (λ a. more_at (items_up_to (item_at five loc big v.address_size) fuel) a.0 a.1) (here tail)
+      ∙ bind_is _ (items, rest) (λ a. Some (x ∷ a.0, a.1)) (more fuel end rest closed (omega arith))
+
+  parts_read : (ps : List Part) (bytes : List ℕ) → (parts_draft five v place (kinds_of loc) ps).text info big l ≡ Some bytes → All Reads ps → Items ps bytes
+  unfolding then_draft
+  parts_read [] bytes e h =
       let k : ◌≡◌ {A = List ℕ} [] bytes = cc in
-      ap (λ zs. items_up_to p (suc fuel) (zs ++ (end ++ rest))) (sym k)
-      ∙ bind_is _ (None, rest) (λ x. more_at (items_up_to p fuel) x.0 x.1) closed
-  items-again (suc fuel) (x ∷ xs) bytes end rest e h closed le =
-      let t = two_there (f x) (texts f xs) bytes e in
-      let tail = t.ys ++ (end ++ rest) in
-      ap (λ zs. items_up_to p (suc fuel) (zs ++ (end ++ rest))) t.is
-      ∙ ap (items_up_to p (suc fuel)) (append_assoc t.xs t.ys (end ++ rest))
-      ∙ bind_is _ (Some x, tail) (λ x. more_at (items_up_to p fuel) x.0 x.1) (step x t.xs tail t.first (All-head Told x xs h))
-      ∙ bind_is _ (xs, rest) (λ more. Some (x ∷ more.0, more.1)) (items-again fuel xs t.ys end rest t.second (All-tail Told x xs h) closed (omega arith))
+      record {
+        items = [];
+        built = refl;
+        long = omega arith;
+        again = λ fuel end rest closed below. ap (λ zs. items_up_to (item_at five loc big v.address_size) fuel (zs ++ (end ++ rest))) (sym k) ∙ none_more fuel end rest closed below;
+      }
+  parts_read (p ∷ ps) bytes e h =
+      let t = two_there ((part_draft five v place (kinds_of loc) p).text info big l) ((parts_draft five v place (kinds_of loc) ps).text info big l) bytes e in
+      let here = part_read p t.xs t.first (All-head Reads p ps h) in
+      let more = parts_read ps t.ys t.second (All-tail Reads p ps h) in
+      record {
+        items = here.item ∷ more.items;
+        built = bind_is _ here.item (λ x. parts_in five v place info big l ps >>= λ xs. Some (x ∷ xs)) here.built
+            ∙ bind_is _ more.items (λ xs. Some (here.item ∷ xs)) more.built;
+        long = omega (arith, here.long, more.long, ap length t.is, length-append t.xs t.ys);
+        again = λ fuel end rest closed below.
+            ap (λ zs. items_up_to (item_at five loc big v.address_size) fuel (zs ++ (end ++ rest))) t.is
+            ∙ one_more t.xs t.ys here.item more.items (length ps) here.read more.again fuel end rest closed below;
+      }
 
--- The built list
+  record ListAgain (ps : List Part) (bytes : List ℕ) : Type 0 where
+    items : List Item
+    built : parts_in five v place info big l ps ≡ Some items
+    again : (fuel : ℕ) (rest : List ℕ) → length bytes ≤ fuel → items_up_to (item_at five loc big v.address_size) fuel (bytes ++ rest) ≡ Some (items, rest)
 
--- the text of built items is that of their numbers
-pub record Told (five big : Bool) (w : ℕ) (l : Layout) (rs : List Range) (bytes : List ℕ) : Type 0 where
-  pub items : List RangeItem
-  pub built : items_in five l rs ≡ Some items
-  pub spelled : texts (item_text five big w) items ≡ Some bytes
+  closed_at : (xs rest : List ℕ) → close_text five (kinds_of loc) big v.address_size ≡ Some xs → item_at five loc big v.address_size (xs ++ rest) ≡ Some (None, rest)
+  unfolding item_at
+  closed_at xs rest e = bind_is _ (None, rest) (λ a. rest_at five loc big a.0 a.1) (close_read five loc big v.address_size xs rest e)
 
-pub ranges_told : (five big : Bool) (w : ℕ) (l : Layout) (rs : List Range) (bytes : List ℕ) → (ranges_piece five w rs).text big l ≡ Some bytes → Told five big w l rs bytes
-unfolding both
-ranges_told five big w l [] bytes e = record { items = []; built = refl; spelled = e }
-ranges_told five big w l (r ∷ rs) bytes e =
-    let t = two_there ((range_piece five w r).text big l) ((ranges_piece five w rs).text big l) bytes e in
-    let one = bind_parts (item_in five l r) (item_text five big w) t.xs t.first in
-    let more = ranges_told five big w l rs t.ys t.second in
-    record {
-      items = one.0 ∷ more.items;
-      built = bind_is _ one.0 (λ x. items_in five l rs >>= λ more. Some (x ∷ more)) one.1 ∙ bind_is _ more.items (λ more. Some (one.0 ∷ more)) more.built;
-      spelled = ap (λ a. followed a (texts (item_text five big w) more.items)) one.2 ∙ ap (followed (Some t.xs)) more.spelled ∙ followed-somes t.xs t.ys ∙ ap Some (sym t.is);
-    }
-
--- a list that is spelled is read again, whatever follows it, and with enough fuel
-pub record IsReadAgain (five big : Bool) (w : ℕ) (l : Layout) (rs : List Range) (bytes : List ℕ) : Type 0 where
-  pub items : List RangeItem
-  pub built : items_in five l rs ≡ Some items
-  pub again : All (IsTold five w) items → (fuel : ℕ) (rest : List ℕ) → length bytes ≤ fuel → items_up_to (range_item_at five big w) fuel (bytes ++ rest) ≡ Some (items, rest)
-
-close_long : (five big : Bool) (w : ℕ) (xs : List ℕ) → close_text five big w ≡ Some xs → 0 < length xs
-close_long true big w xs e = some_long 0 xs e
-close_long false big w xs e = two_long (num_text big w 0) (num_text big w 0) xs (width_long big w 0) e
-
-pub list-again : (five big : Bool) (w : ℕ) (l : Layout) (rs : List Range) (bytes : List ℕ) → (list_piece five w rs).text big l ≡ Some bytes → IsReadAgain five big w l rs bytes
-unfolding both
-list-again five big w l rs bytes e =
-    let t = two_there ((ranges_piece five w rs).text big l) (close_text five big w) bytes e in
-    let told = ranges_told five big w l rs t.xs t.first in
-    let p = range_item_at five big w in
-    let f = item_text five big w in
-    record {
-      items = told.items;
-      built = told.built;
-      again = λ h fuel rest le.
-          let long = texts_long p f (IsTold five w) (item_read five big w) (item_long five big w) told.items t.xs told.spelled in
-          ap (items_up_to p fuel) (ap (λ zs. zs ++ rest) t.is ∙ append_assoc t.xs t.ys rest)
-          ∙ items-again p f (IsTold five w) (item_read five big w) (item_long five big w) fuel told.items t.xs t.ys rest told.spelled h (close_read five big w t.ys rest t.second)
-          (omega (arith, long, le, close_long five big w t.ys t.second, ap length t.is, length-append t.xs t.ys));
-    }
+  list_read : (ps : List Part) (bytes : List ℕ) → (list_draft five v place (kinds_of loc) ps).text info big l ≡ Some bytes → All Reads ps → ListAgain ps bytes
+  unfolding then_draft
+  list_read ps bytes e h =
+      let t = two_there ((parts_draft five v place (kinds_of loc) ps).text info big l) (close_text five (kinds_of loc) big v.address_size) bytes e in
+      let r = parts_read ps t.xs t.first h in
+      record {
+        items = r.items;
+        built = r.built;
+        again = λ fuel rest le.
+            ap (items_up_to (item_at five loc big v.address_size) fuel) (ap (λ zs. zs ++ rest) t.is ∙ append_assoc t.xs t.ys rest)
+            ∙ r.again fuel t.ys rest (closed_at t.ys rest t.second)
+            (omega (arith, r.long, le, close_long five loc big v.address_size t.ys t.second, ap length t.is, length-append t.xs t.ys));
+      }
 
 -- at its place in a section
-pub list_at_place : (big : Bool) (e : Encoding) (l : Layout) (rs : List Range) (before bytes rest : List ℕ) → (is : (list_piece (is_five e) e.address_size rs).text big l ≡ Some bytes) →
-    ((items : List RangeItem) → items_in (is_five e) l rs ≡ Some items → All (IsTold (is_five e) e.address_size) items) →
-    range_items_at big e (before ++ (bytes ++ rest)) (length before) ≡ items_in (is_five e) l rs
-unfolding range_items_at
-list_at_place big e l rs before bytes rest is h =
-    let r = list-again (is_five e) big e.address_size l rs bytes is in
+pub list_at_place : (loc : Bool) (v : Encoding) (place : ℕ → Option ℕ) (info : Info) (big : Bool) (l : Layout) (ps : List Part) (before bytes rest : List ℕ) →
+    (list_draft (is_five v) v place (kinds_of loc) ps).text info big l ≡ Some bytes → All (Reads (is_five v) loc v place info big l) ps →
+    items_at loc big v (before ++ (bytes ++ rest)) (length before) ≡ parts_in (is_five v) v place info big l ps
+unfolding items_at
+list_at_place loc v place info big l ps before bytes rest is h =
+    let r = list_read (is_five v) loc v place info big l ps bytes is h in
     let there : drop (length before) (before ++ (bytes ++ rest)) ≡ bytes ++ rest = drop_at before (bytes ++ rest) (length before) refl in
-    ap (λ xs. items_up_to (range_item_at (is_five e) big e.address_size) (length xs) xs >>= λ x. Some x.0) there
-    ∙ bind_is _ (r.items, rest) (λ x. Some x.0) (r.again (h r.items r.built) (length (bytes ++ rest)) rest (omega (arith, length-append bytes rest)))
+    ap (λ xs. items_up_to (item_at (is_five v) loc big v.address_size) (length xs) xs >>= λ x. Some x.0) there
+    ∙ bind_is _ (r.items, rest) (λ x. Some x.0) (r.again (length (bytes ++ rest)) rest (omega (arith, length-append bytes rest)))
     ∙ sym r.built

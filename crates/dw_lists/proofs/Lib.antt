@@ -1,10 +1,15 @@
 pub mod Differ
-pub mod Pieces
+pub mod Causes
+pub mod Spans
+pub mod Spoken
 pub mod Again
 pub mod Tables
-pub mod TableAgain
+pub mod Sized
 pub mod Refusals
 pub mod Forms
 pub mod TableCauses
+pub mod Located
+pub mod TableAgain
 pub mod Versions
 pub mod Numbered
+pub mod Chosen

@@ -1,9 +1,10 @@
 -- Why items are refused.
-use Rattle.std.specs.Prelude.{List, length, drop, get_or, ◌<◌, ◌≤◌, ◌+◌, ◌*◌, ◌^◌, ◌≡◌, ℕ, Bool, true, false, not, ◌&&◌, ◌==◌, refl, IsTrue, IsFalse}
+use Rattle.std.specs.Prelude.{List, length, drop, get_or, ◌<◌, ◌≤◌, ◌+◌, ◌*◌, ◌^◌, ◌≡◌, ℕ, Bool, true, false, not, ◌&&◌, ◌==◌, Option, refl, IsTrue, IsFalse}
 use Rattle.std.proofs.Common.{sym, ◌∙◌, ap, subst, arith}
 use Rattle.std.proofs.Math.Nat.{one-le-pow}
-use Rattle.std.proofs.lemmas.Bool.{eq-eqb, lt-ltb, and_parts, or_left, or_right}
+use Rattle.std.proofs.lemmas.Bool.{eq-eqb, lt-ltb, le-leb, leb-true, and_parts}
 use Rattle.dw_base.specs.Numbers.{is_width, fits, word_of, length_fits}
+use Rattle.dw_base.specs.declared.common.Encoding.{Encoding}
 use Rattle.dw_base.specs.declared.common.Format.{Format}
 use Rattle.dw_base.specs.declared.error.Error.{Error}
 use Rattle.dw_base.specs.declared.error.Error.TheVariants as errors
@@ -15,9 +16,10 @@ use Rattle.dw_writer.specs.Causes.{BytesRefused, PatchRefused, NumberRefused, Ad
 use Rattle.std.proofs.lemmas.List.Folds.{list_any_at}
 use Rattle.dw_lists.specs.declared.range.Range.{Range}
 use Rattle.dw_lists.specs.declared.range.Range.TheVariants as built
-use Rattle.dw_lists.specs.Causes.{Refused, SizeRefused, Is, IsNone, width_fails, number_fails, address_fails, form_fails, numbers_fail, old_list_fails, new_fails, new_list_fails, length_fails, words_fail}
+use Rattle.dw_lists.specs.Parts.{Part}
+use Rattle.dw_lists.specs.Causes.{Refused, Is, IsNone, width_fails, number_fails, address_fails, form_fails, old_fails, old_list_fails, new_part_fails, new_list_fails, length_fails, words_fail, size_fails}
 use Rattle.dw_writer.proofs.FaultLaws.{HasRisen-from}
-use Rattle.dw_lists.proofs.Forms.{old_here, old_closed}
+use Rattle.dw_lists.proofs.Causes.{old_here, old_closed}
 
 both_hold : (a b : Bool) → IsTrue a → IsFalse b → IsTrue (a && not b)
 both_hold true false h k = refl
@@ -63,10 +65,11 @@ address_after a b c w x q same f e h =
     refused_after a b c (Is (address_fails b.is_plain w x)) q same (λ err k. f err (subst (λ plain. Is (address_fails plain w x) err) same.kind k)) e (address_refused b c b.is_plain w x e h)
 
 -- a list with an item that has a fault
-pub item_refused : (a b c : Meaning) (w : ℕ) (xs : List Range) (i : ℕ) (d : Range) → i < length xs → IsSameWriter a b → (e : Error) → Refused b c (Is (new_fails b.is_plain w (get_or xs i d))) e → Refused a c (Is (new_list_fails a.is_plain w xs)) e
-item_refused a b c w xs i d below same e h =
-    refused_after a b c (Is (new_fails b.is_plain w (get_or xs i d))) (Is (new_list_fails a.is_plain w xs)) same
-    (λ err k. list_any_at (λ r. new_fails a.is_plain w r err) xs i d below (subst (λ plain. Is (new_fails plain w (get_or xs i d)) err) same.kind k)) e h
+pub item_refused : (a b c : Meaning) (v : Encoding) (known : Option (ℕ → Option ℕ)) (xs : List Part) (i : ℕ) (d : Part) → i < length xs → IsSameWriter a b → (e : Error) →
+    Refused b c (Is (new_part_fails v known b.is_plain (get_or xs i d))) e → Refused a c (Is (new_list_fails v known a.is_plain xs)) e
+item_refused a b c v known xs i d below same e h =
+    refused_after a b c (Is (new_part_fails v known b.is_plain (get_or xs i d))) (Is (new_list_fails v known a.is_plain xs)) same
+    (λ err k. list_any_at (λ r. new_part_fails v known a.is_plain r err) xs i d below (subst (λ plain. Is (new_part_fails v known plain (get_or xs i d)) err) same.kind k)) e h
 
 pub close_refused : (a b c : Meaning) (p : Error → Type 0) → IsSameWriter a b → (e : Error) → BytesRefused b c e → Refused a c p e
 close_refused a b c p same e h = refused_after a b c p p same (λ err k. k) e (bytes_refused b c p e h)
@@ -103,7 +106,7 @@ zero_cause w (errors.UnsupportedWordSize n) h = h
 zero_cause w errors.ValueTooLarge h = absurd (let k : true ≡ false = sym h ∙ and_false (is_width w) (fits w 0) (zero_fits w) in cc)
 zero_cause w e h = h
 
--- Lists up to version 4
+-- Items up to version 4
 
 no_fault : (base : Bool) (w : ℕ) (r : Range) → form_fails base w r errors.WriteFault ≡ false
 no_fault base w (built.BaseAddress a) = refl
@@ -111,33 +114,27 @@ no_fault base w (built.OffsetPair m n) = refl
 no_fault base w (built.StartEnd a b) = refl
 no_fault base w (built.StartLength a k) = refl
 
-form_refused : (old new : Meaning) (base : Bool) (w : ℕ) (r : Range) (e : Error) → Is (form_fails base w r) e → Refused old new (Is (form_fails base w r)) e
-form_refused old new base w r errors.NoMemory h = tt
-form_refused old new base w r errors.WriteFault h = absurd (let k : true ≡ false = sym h ∙ no_fault base w r in cc)
-form_refused old new base w r e h = h
+pub form_refused : (old new : Meaning) (base : Bool) (w : ℕ) (r : Range) (q : Error → Type 0) → ((e : Error) → Is (form_fails base w r) e → q e) → (e : Error) → Is (form_fails base w r) e → Refused old new q e
+form_refused old new base w r q f errors.NoMemory h = tt
+form_refused old new base w r q f errors.WriteFault h = absurd (let k : true ≡ false = sym h ∙ no_fault base w r in cc)
+form_refused old new base w r q f e h = f e h
 
 -- what is refused behind the first items of a list, where its faults are those of the others
-module _ (a b c : Meaning) (has_base base : Bool) (w : ℕ) (xs : List Range) (i : ℕ) (same : IsSameWriter a b) (none : (e : Error) → old_list_fails has_base a.is_plain w xs e ≡ old_list_fails base a.is_plain w (drop i xs) e) where
-  pub old_form_refused : (d : Range) → i < length xs → b ≡ c → (e : Error) → Is (form_fails base w (get_or xs i d)) e → Refused a c (Is (old_list_fails has_base a.is_plain w xs)) e
-  old_form_refused d below stays e h =
-      refused_after a b c (Is (form_fails base w (get_or xs i d))) (Is (old_list_fails has_base a.is_plain w xs)) same
-      (λ err k. none err ∙ old_here base a.is_plain w xs i d below err (or_left (form_fails base w (get_or xs i d) err) (numbers_fail a.is_plain w (get_or xs i d) err) k)) e
-      (form_refused b c base w (get_or xs i d) e h)
+module _ (a b c : Meaning) (v : Encoding) (known : Option (ℕ → Option ℕ)) (has_base base : Bool) (xs : List Part) (i : ℕ) (same : IsSameWriter a b)
+    (none : (e : Error) → old_list_fails v known a.is_plain has_base xs e ≡ old_list_fails v known a.is_plain base (drop i xs) e) where
+  pub old_part_refused : (d : Part) → i < length xs → (e : Error) → Refused b c (Is (old_fails v known b.is_plain base (get_or xs i d))) e → Refused a c (Is (old_list_fails v known a.is_plain has_base xs)) e
+  old_part_refused d below e h =
+      refused_after a b c (Is (old_fails v known b.is_plain base (get_or xs i d))) (Is (old_list_fails v known a.is_plain has_base xs)) same
+      (λ err k. none err ∙ old_here v known base a.is_plain xs i d below err (subst (λ plain. Is (old_fails v known plain base (get_or xs i d)) err) same.kind k)) e h
 
-  pub old_numbers_refused : (d : Range) → i < length xs → (e : Error) → Refused b c (Is (numbers_fail b.is_plain w (get_or xs i d))) e → Refused a c (Is (old_list_fails has_base a.is_plain w xs)) e
-  old_numbers_refused d below e h =
-      refused_after a b c (Is (numbers_fail b.is_plain w (get_or xs i d))) (Is (old_list_fails has_base a.is_plain w xs)) same
-      (λ err k. none err ∙ old_here base a.is_plain w xs i d below err
-      (or_right (form_fails base w (get_or xs i d) err) (numbers_fail a.is_plain w (get_or xs i d) err) (subst (λ plain. Is (numbers_fail plain w (get_or xs i d)) err) same.kind k))) e h
-
-  pub old_close_refused : length xs ≤ i → (e : Error) → NumberRefused w (fits w 0) (BytesRefused b c) e → Refused a c (Is (old_list_fails has_base a.is_plain w xs)) e
+  pub old_close_refused : length xs ≤ i → (e : Error) → NumberRefused v.address_size (fits v.address_size 0) (BytesRefused b c) e → Refused a c (Is (old_list_fails v known a.is_plain has_base xs)) e
   old_close_refused done e h =
-      refused_after a b c (Is (number_fails w 0)) (Is (old_list_fails has_base a.is_plain w xs)) same
-      (λ err k. none err ∙ old_closed base a.is_plain w xs i done err ∙ zero_cause w err k) e
-      (number_refused b c w 0 e h)
+      refused_after a b c (Is (number_fails v.address_size 0)) (Is (old_list_fails v known a.is_plain has_base xs)) same
+      (λ err k. none err ∙ old_closed v known base a.is_plain xs i done err ∙ zero_cause v.address_size err k) e
+      (number_refused b c v.address_size 0 e h)
 
-  pub old_none : length xs ≤ i → IsTrue (is_width w) → IsNone (old_list_fails has_base a.is_plain w xs)
-  old_none done width e = none e ∙ old_closed base a.is_plain w xs i done e ∙ width_none w width e
+  pub old_none : length xs ≤ i → IsTrue (is_width v.address_size) → IsNone (old_list_fails v known a.is_plain has_base xs)
+  old_none done width e = none e ∙ old_closed v known base a.is_plain xs i done e ∙ width_none v.address_size width e
 
 -- Lengths
 
@@ -161,6 +158,21 @@ word_refused a b c format ns i below same e h =
     (λ err k. list_any_at (λ n. number_fails (word_of format) n err) ns i 0 below k) e
     (number_refused b c (word_of format) (get_or ns i 0) e h)
 
--- a sum that passes 64 bits as a part of a larger one
-pub passes : (m n : ℕ) (e : Error) → (e ≡ errors.ValueTooLarge) × (2 ^ 64 ≤ m) → m ≤ n → SizeRefused n e
-passes m n e h within = subst (SizeRefused n) (sym h.0) (omega (arith, h.1, within))
+-- Sizes
+
+pub weaker : (old new : Meaning) (p q : Error → Type 0) → ((e : Error) → p e → q e) → (e : Error) → Refused old new p e → Refused old new q e
+weaker old new p q f errors.NoMemory h = tt
+weaker old new p q f errors.WriteFault h = h
+weaker old new p q f e h = f e h
+
+-- a sum that passes 64 bits, as a part of a larger one
+pub passes : (m n : ℕ) (e : Error) → (e ≡ errors.ValueTooLarge) × (2 ^ 64 ≤ m) → m ≤ n → Is (size_fails n) e
+passes m n e h within = subst (Is (size_fails n)) (sym h.0) (le-leb (2 ^ 64) n (omega (arith, h.1, within)))
+
+-- and a cause of such a sum
+pub larger : (m n : ℕ) → m ≤ n → (e : Error) → Is (size_fails m) e → Is (size_fails n) e
+larger m n within errors.ValueTooLarge h = le-leb (2 ^ 64) n (omega (arith, leb-true (2 ^ 64) m h, within))
+larger m n within e h = h
+
+pub too_large : (old new : Meaning) (m n : ℕ) {q : Error → Type 0} (e : Error) → (e ≡ errors.ValueTooLarge) × (2 ^ 64 ≤ m) → m ≤ n → ((e : Error) → Is (size_fails n) e → q e) → Refused old new q e
+too_large old new m n {q} e h within f = subst (Refused old new q) (sym h.0) (f errors.ValueTooLarge (le-leb (2 ^ 64) n (omega (arith, h.1, within))))

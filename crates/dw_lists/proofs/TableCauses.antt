@@ -1,29 +1,91 @@
 -- Why tables are refused.
-use Rattle.std.specs.Prelude.{◌≡◌, ℕ, ◌≤◌, ◌<◌, ◌^◌, Bool, true, false, nat_le, List, length, get_or, IsTrue, refl}
-use Rattle.std.proofs.Common.{subst, arith}
-use Rattle.std.proofs.lemmas.Bool.{le-leb, lt-leb, or_left, or_right}
+use Rattle.std.specs.Prelude.{◌≡◌, ℕ, ◌≤◌, ◌<◌, ◌^◌, Bool, true, false, ◌||◌, nat_le, List, [], ◌∷◌, length, get_or, Option, Some, None, IsTrue, refl}
+use Rattle.std.proofs.Common.{subst, arith, ⊎_elim}
+use Rattle.std.specs.List.{list_any}
+use Rattle.std.proofs.lemmas.Bool.{lt-leb, or_left, or_right}
 use Rattle.std.proofs.lemmas.List.Folds.{list_any_at}
-use Rattle.dw_base.specs.declared.common.Format.{Format}
+use Rattle.dw_base.specs.declared.common.Encoding.{Encoding}
 use Rattle.dw_base.specs.declared.error.Error.{Error}
 use Rattle.dw_base.specs.declared.error.Error.TheVariants as errors
 use Rattle.dw_writer.specs.Contents.{Meaning}
 use Rattle.dw_writer.specs.Meaning.{IsSameWriter}
-use Rattle.dw_lists.specs.declared.range.Range.{Range}
-use Rattle.dw_lists.specs.Tables.{body_piece, entries_of}
-use Rattle.dw_lists.specs.Causes.{Refused, SizeRefused, Is, IsNone, count_fails, size_fails, length_fails, words_fail, header_fails, list_fails, lists_fail, table_fails_of}
-use Rattle.dw_lists.proofs.Forms.{neither_cause}
-use Rattle.dw_lists.proofs.Refusals.{refused_after}
+use Rattle.dw_expr.specs.Trees.{Node}
+use Rattle.dw_expr.specs.Places.{place_by, MemoryOr}
+use Rattle.dw_expr.specs.Causes as expressions
+use Rattle.dw_expr.proofs.PartLaws.{size_refused as expression_unsized}
+use Rattle.dw_writer.specs.Causes.{HasRisen}
+use Rattle.dw_lists.specs.Parts.{Part}
+use Rattle.dw_lists.specs.Tables.{body_draft, entries_of}
+use Rattle.dw_lists.specs.Causes.{Refused, Is, IsNone, count_fails, size_fails, length_fails, words_fail, header_fails, unsized, parts_unsized, parts_unsized_in, lists_unsized, lists_unsized_in, located_fails, new_span_fails, new_part_fails, new_list_fails, list_fails, lists_fail, table_fails_by}
+use Rattle.dw_lists.proofs.Causes.{neither_cause}
+use Rattle.dw_lists.proofs.Refusals.{refused_after, larger}
 
--- a list with a fault among others
-pub lists_refused : (a b c : Meaning) (five base : Bool) (w : ℕ) (xs : List (List Range)) (i : ℕ) (x : List Range) → i < length xs → x ≡ get_or xs i x → IsSameWriter a b →
-    (e : Error) → Refused b c (Is (list_fails five base b.is_plain w x)) e → Refused a c (Is (lists_fail five base a.is_plain w xs)) e
-lists_refused a b c five base w xs i x below is same e h =
-    refused_after a b c (Is (list_fails five base b.is_plain w x)) (Is (lists_fail five base a.is_plain w xs)) same
-    (λ err k. list_any_at (λ y. list_fails five base a.is_plain w y err) xs i x below
-    (subst (λ y. IsTrue (list_fails five base a.is_plain w y err)) is (subst (λ plain. IsTrue (list_fails five base plain w x err)) same.kind k))) e h
+module _ (v : Encoding) (known : Option (ℕ → Option ℕ)) where
+  -- a list with a fault among others
+  pub lists_refused : (a b c : Meaning) (five base : Bool) (xs : List (List Part)) (i : ℕ) (x : List Part) → i < length xs → x ≡ get_or xs i x → IsSameWriter a b →
+      (e : Error) → Refused b c (Is (list_fails v known b.is_plain five base x)) e → Refused a c (Is (lists_fail v known a.is_plain five base xs)) e
+  lists_refused a b c five base xs i x below is same e h =
+      refused_after a b c (Is (list_fails v known b.is_plain five base x)) (Is (lists_fail v known a.is_plain five base xs)) same
+      (λ err k. list_any_at (λ y. list_fails v known a.is_plain five base y err) xs i x below
+      (subst (λ y. IsTrue (list_fails v known a.is_plain five base y err)) is (subst (λ plain. IsTrue (list_fails v known plain five base x err)) same.kind k))) e h
 
-past : (n m : ℕ) → n ≤ m → IsTrue (nat_le n m)
-past n m h = le-leb n m h
+  -- what has no size can't be written
+  module _ (plain base : Bool) where
+    unsized_located : (x : Option (List Node)) (e : Error) → Is (unsized v known x) e → Is (located_fails v known plain true x) e
+    unsized_located None e h = h
+    unsized_located (Some x) e h = or_left _ _ (or_left _ _ h)
+
+    unsized_any : {A : Type 0} (f g : A → Bool) → ((x : A) → IsTrue (f x) → IsTrue (g x)) → (xs : List A) → IsTrue (list_any f xs) → IsTrue (list_any g xs)
+    unsized_any f g more [] h = h
+    unsized_any f g more (x ∷ xs) h = by (f x) (list_any f xs) (more x) (unsized_any f g more xs) h
+      where
+        by : (a b : Bool) → (IsTrue a → IsTrue (g x)) → (IsTrue b → IsTrue (list_any g xs)) → IsTrue (a || b) → IsTrue (g x || list_any g xs)
+        by true b p q h = or_left (g x) (list_any g xs) (p refl)
+        by false b p q h = or_right (g x) (list_any g xs) (q h)
+
+    unsized_list : (x : List Part) (e : Error) → Is (parts_unsized v known x) e → Is (new_list_fails v known plain x) e
+    unsized_list x e h =
+        unsized_any (λ p. unsized v known p.expression e) (λ p. new_part_fails v known plain p e)
+        (λ p k. or_right (new_span_fails plain v.address_size p.range e) (located_fails v known plain true p.expression e) (unsized_located p.expression e k)) x h
+
+    pub unsized_lists : (xs : List (List Part)) (e : Error) → Is (lists_unsized v known xs) e → Is (lists_fail v known plain true base xs) e
+    unsized_lists xs e h = unsized_any (λ x. parts_unsized v known x e) (λ x. list_fails v known plain true base x e) (λ x k. unsized_list x e k) xs h
+
+  -- a part without a size, and a list without one
+  pub part_unsized : (m n : ℕ) (ps : List Part) (i : ℕ) (d : Part) → i < length ps → m ≤ n → (e : Error) → IsTrue (size_fails m e || unsized v known (get_or ps i d).expression e) → Is (parts_unsized_in v known n ps) e
+  part_unsized m n ps i d below within e h = by (size_fails m e) (unsized v known (get_or ps i d).expression e) (larger m n within e) (list_any_at (λ p. unsized v known p.expression e) ps i d below) h
+    where
+      by : (a b : Bool) → (IsTrue a → IsTrue (size_fails n e)) → (IsTrue b → IsTrue (parts_unsized v known ps e)) → IsTrue (a || b) → IsTrue (size_fails n e || parts_unsized v known ps e)
+      by true b p q h = or_left (size_fails n e) (parts_unsized v known ps e) (p refl)
+      by false b p q h = or_right (size_fails n e) (parts_unsized v known ps e) (q h)
+
+  pub list_unsized : (m n : ℕ) (xs : List (List Part)) (i : ℕ) (x : List Part) → i < length xs → x ≡ get_or xs i x → m ≤ n → (e : Error) → Is (parts_unsized_in v known m x) e → Is (lists_unsized_in v known n xs) e
+  list_unsized m n xs i x below is within e h =
+      by (size_fails m e) (parts_unsized v known x e) (larger m n within e)
+      (λ k. list_any_at (λ y. parts_unsized v known y e) xs i x below (subst (λ y. IsTrue (parts_unsized v known y e)) is k)) h
+    where
+      by : (a b : Bool) → (IsTrue a → IsTrue (size_fails n e)) → (IsTrue b → IsTrue (lists_unsized v known xs e)) → IsTrue (a || b) → IsTrue (size_fails n e || lists_unsized v known xs e)
+      by true b p q h = or_left (size_fails n e) (lists_unsized v known xs e) (p refl)
+      by false b p q h = or_right (size_fails n e) (lists_unsized v known xs e) (q h)
+
+-- no fault of a writer hinders sizes
+module _ (v : Encoding) (known : Option (ℕ → Option ℕ)) (m : Meaning) where
+  pub unsized_quiet : (x : Option (List Node)) → Is (unsized v known x) errors.WriteFault → ⊥
+  unsized_quiet None h = let k : false ≡ true = h in cc
+  unsized_quiet (Some x) h = let n : Meaning = record m { faults = 0 } in let risen : HasRisen n n = expression_unsized v known n n x (expressions.size_fails v known x) (λ err k. k) errors.WriteFault h in ⊎_elim (λ a. omega (arith, a)) (λ a. omega (arith, a)) risen
+
+  any_quiet : {A : Type 0} (f : A → Bool) → ((x : A) → IsTrue (f x) → ⊥) → (xs : List A) → IsTrue (list_any f xs) → ⊥
+  any_quiet f none [] h = let k : false ≡ true = h in cc
+  any_quiet f none (x ∷ xs) h = by (f x) (list_any f xs) (none x) (any_quiet f none xs) h
+    where
+      by : (a b : Bool) → (IsTrue a → ⊥) → (IsTrue b → ⊥) → IsTrue (a || b) → ⊥
+      by true b p q h = p refl
+      by false b p q h = q h
+
+  pub lists_quiet : (xs : List (List Part)) → Is (lists_unsized v known xs) errors.WriteFault → ⊥
+  lists_quiet xs h =
+      any_quiet (λ x. parts_unsized v known x errors.WriteFault)
+      (λ ps. any_quiet (λ p. unsized v known p.expression errors.WriteFault) (λ p. unsized_quiet p.expression) ps) xs h
 
 not_past : (k m : ℕ) → m < k → nat_le k m ≡ false
 not_past k m h = lt-leb k m h
@@ -36,38 +98,52 @@ pub size_none : (n : ℕ) → n < 2 ^ 64 → IsNone (size_fails n)
 size_none n h errors.ValueTooLarge = not_past (2 ^ 64) n h
 size_none n h e = refl
 
+pub memory_or : (f : Error → Bool) (e : Error) → Is f e → MemoryOr f e
+memory_or f errors.NoMemory h = tt
+memory_or f e h = h
+
 -- the causes of a table of version 5
-module _ (base plain : Bool) (format : Format) (w : ℕ) (xs : List (List Range)) where
-  pub in_count : (e : Error) → Is (count_fails (length xs)) e → Is (table_fails_of true base plain format w xs) e
-  in_count e h = or_left (header_fails format w xs e) (lists_fail true base plain w xs e) (or_left (count_fails (length xs) e) _ h)
+module _ (loc : Bool) (v : Encoding) (known : Option (ℕ → Option ℕ)) (base plain : Bool) (xs : List (List Part)) where
+  abbrev pub body_size : ℕ
+  body_size = (body_draft loc v (place_by known) xs).size
 
-  pub in_size : (e : Error) → Is (size_fails (body_piece format w xs).size) e → Is (table_fails_of true base plain format w xs) e
-  in_size e h =
-      or_left (header_fails format w xs e) (lists_fail true base plain w xs e)
-      (or_right (count_fails (length xs) e) _ (or_left (size_fails (body_piece format w xs).size e) _ h))
+  abbrev pub words : List ℕ
+  words = entries_of loc v (place_by known) xs
 
-  pub in_length : (e : Error) → Is (length_fails format (body_piece format w xs).size) e → Is (table_fails_of true base plain format w xs) e
-  in_length e h =
-      or_left (header_fails format w xs e) (lists_fail true base plain w xs e)
-      (or_right (count_fails (length xs) e) _ (or_right (size_fails (body_piece format w xs).size e) _ (or_left (length_fails format (body_piece format w xs).size e) _ h)))
+  pub in_header : (e : Error) → Is (header_fails loc v known xs) e → Is (table_fails_by loc v known true base plain xs) e
+  in_header e h = or_left (header_fails loc v known xs e) (lists_fail v known plain true base xs e) h
 
-  pub in_words : (e : Error) → Is (words_fail format (entries_of format w xs)) e → Is (table_fails_of true base plain format w xs) e
-  in_words e h =
-      or_left (header_fails format w xs e) (lists_fail true base plain w xs e)
-      (or_right (count_fails (length xs) e) _ (or_right (size_fails (body_piece format w xs).size e) _ (or_right (length_fails format (body_piece format w xs).size e) _ h)))
+  pub in_count : (e : Error) → Is (count_fails (length xs)) e → Is (table_fails_by loc v known true base plain xs) e
+  in_count e h = in_header e (or_left (count_fails (length xs) e) _ h)
 
-  pub in_lists : (e : Error) → Is (lists_fail true base plain w xs) e → Is (table_fails_of true base plain format w xs) e
-  in_lists e h = or_right (header_fails format w xs e) (lists_fail true base plain w xs e) h
+  pub in_size : (e : Error) → Is (size_fails body_size) e → Is (table_fails_by loc v known true base plain xs) e
+  in_size e h = in_header e (or_right (count_fails (length xs) e) _ (or_left (size_fails body_size e) _ h))
+
+  pub in_length : (e : Error) → Is (length_fails v.format body_size) e → Is (table_fails_by loc v known true base plain xs) e
+  in_length e h = in_header e (or_right (count_fails (length xs) e) _ (or_right (size_fails body_size e) _ (or_left (length_fails v.format body_size e) _ h)))
+
+  pub in_words : (e : Error) → Is (words_fail v.format words) e → Is (table_fails_by loc v known true base plain xs) e
+  in_words e h = in_header e (or_right (count_fails (length xs) e) _ (or_right (size_fails body_size e) _ (or_right (length_fails v.format body_size e) _ h)))
+
+  pub in_lists : (e : Error) → Is (lists_fail v known plain true base xs) e → Is (table_fails_by loc v known true base plain xs) e
+  in_lists e h = or_right (header_fails loc v known xs e) (lists_fail v known plain true base xs e) h
+
+  in_sizes : (n : ℕ) → n ≤ body_size → (e : Error) → Is (lists_unsized_in v known n xs) e → Is (table_fails_by loc v known true base plain xs) e
+  in_sizes n within e h = by (size_fails n e) (lists_unsized v known xs e) (λ k. in_size e (larger n body_size within e k)) (λ k. in_lists e (unsized_lists v known plain base xs e k)) h
+    where
+      by : (a b : Bool) → (IsTrue a → Is (table_fails_by loc v known true base plain xs) e) → (IsTrue b → Is (table_fails_by loc v known true base plain xs) e) → IsTrue (a || b) → Is (table_fails_by loc v known true base plain xs) e
+      by true b p q h = p refl
+      by false b p q h = q h
 
   -- sums that pass 64 bits are those of the whole body
-  pub size_refused : (m : Meaning) (n : ℕ) → n ≤ (body_piece format w xs).size → (e : Error) → SizeRefused n e → Refused m m (Is (table_fails_of true base plain format w xs)) e
+  pub size_refused : (m : Meaning) (n : ℕ) → n ≤ body_size → (e : Error) → MemoryOr (lists_unsized_in v known n xs) e → Refused m m (Is (table_fails_by loc v known true base plain xs)) e
   size_refused m n within errors.NoMemory h = tt
-  size_refused m n within errors.ValueTooLarge h = in_size errors.ValueTooLarge (past (2 ^ 64) (body_piece format w xs).size (omega (arith, h, within)))
-  size_refused m n within e h = absurd h
+  size_refused m n within errors.WriteFault h = absurd (lists_quiet v known m xs h)
+  size_refused m n within e h = in_sizes n within e h
 
-  pub new_none : IsNone (count_fails (length xs)) → IsNone (size_fails (body_piece format w xs).size) → IsNone (length_fails format (body_piece format w xs).size) →
-      IsNone (words_fail format (entries_of format w xs)) → IsNone (lists_fail true base plain w xs) → IsNone (table_fails_of true base plain format w xs)
-  new_none c s l ws xs_none =
-      neither_cause (header_fails format w xs) (lists_fail true base plain w xs)
-      (neither_cause (count_fails (length xs)) _ c (neither_cause (size_fails (body_piece format w xs).size) _ s (neither_cause (length_fails format (body_piece format w xs).size) (words_fail format (entries_of format w xs)) l ws)))
-      xs_none
+  pub new_none : IsNone (count_fails (length xs)) → IsNone (size_fails body_size) → IsNone (length_fails v.format body_size) →
+      IsNone (words_fail v.format words) → IsNone (lists_fail v known plain true base xs) → IsNone (table_fails_by loc v known true base plain xs)
+  new_none c s l ws none =
+      neither_cause (header_fails loc v known xs) (lists_fail v known plain true base xs)
+      (neither_cause (count_fails (length xs)) _ c (neither_cause (size_fails body_size) _ s (neither_cause (length_fails v.format body_size) (words_fail v.format words) l ws)))
+      none

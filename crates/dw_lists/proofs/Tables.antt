@@ -1,46 +1,95 @@
 -- What calls that write a table come to.
-use Rattle.std.specs.Prelude.{◌≡◌, ℕ, ◌+◌, ◌*◌, ◌<◌, ◌≤◌, ◌^◌, Bool, true, false, List, [], ◌∷◌, ◌++◌, length, drop, get_or, Some, None, refl, IsTrue}
-use Rattle.std.proofs.Common.{sym, ◌∙◌, ap, subst, arith, append-nil, append_assoc, length-append}
+use Rattle.std.specs.Prelude.{◌≡◌, ℕ, ◌+◌, ◌*◌, ◌<◌, ◌≤◌, ◌^◌, Bool, true, false, List, [], ◌∷◌, ◌++◌, length, drop, take, map, get_or, Option, Some, None, refl, IsTrue}
+use Rattle.std.proofs.Common.{sym, ◌∙◌, ap, subst, arith, append-nil, append_assoc, length-append, take_all}
 use Rattle.std.proofs.lemmas.List.{at_drop_more}
 use Rattle.std.proofs.lemmas.Bool.{lt-ltb}
 use Rattle.dw_base.specs.Numbers.{when, num, word_of, escape_of, length_fits}
+use Rattle.dw_base.specs.declared.common.Encoding.{Encoding}
 use Rattle.dw_base.specs.declared.common.Format.{Format}
 use Rattle.dw_writer.specs.Texts.{Text, num_text, followed, zeros}
-use Rattle.dw_writer.specs.Meaning.{Meaning, Model, Adds, Replaces, Patches}
+use Rattle.dw_writer.specs.Meaning.{Meaning, Model, Adds, Appends, Replaces, Patches}
 use Rattle.dw_writer.specs.SectionTexts.{number_text}
+use Rattle.dw_writer.specs.Drafts.{Draft, then_draft, all_drafts, shifted, IsDraft, AreClear, Drafts}
+use Rattle.dw_writer.specs.declared.fixup.DebugInfoFixup.{DebugInfoFixup}
 use Rattle.dw_writer.proofs.Places.{length-zeros}
-use Rattle.dw_writer.proofs.Laws.{length-num}
+use Rattle.dw_writer.proofs.Laws.{length-num, length-num_text}
 use Rattle.dw_writer.proofs.Plain.{Adds-number, Replaces-number}
-use Rattle.dw_writer.proofs.Steps.{Appends-as, Patches-by, Adds-filled}
-use Rattle.dw_lists.specs.declared.range.Range.{Range}
-use Rattle.dw_lists.specs.Pieces.{Piece, both, fields_size, word_piece, words_piece, fields_piece, length_piece, IsWritten}
-use Rattle.dw_lists.specs.Texts.{list_piece, places_from, lists_piece}
-use Rattle.dw_lists.specs.Tables.{entries_of, body_piece, new_table_piece, base_from, Offsets, new_offsets}
-use Rattle.dw_lists.proofs.Pieces.{piece_is, both_size, bytes_piece, num_piece, written-nothing, written-both, written-is, written-byte, written-number}
+use Rattle.dw_writer.proofs.Steps.{Appends-as, Appends-then, Patches-by, Adds-filled}
+use Rattle.dw_writer.proofs.WriteLaws.{Drafts-then, Drafts-whole, Drafts-nothing}
+use Rattle.dw_writer.proofs.DraftLaws.{all-more, all-drafts, whole-draft}
+use Rattle.dw_lists.specs.declared.kinds.Kinds.{Kinds}
+use Rattle.dw_lists.specs.Kinds.{kinds_of}
+use Rattle.dw_lists.specs.Parts.{Part}
+use Rattle.dw_lists.specs.Pieces.{fields_size, word_draft, words_draft, fields_draft, length_draft, IsWritten}
+use Rattle.dw_lists.specs.Texts.{parts_draft, close_draft, list_draft, lists_draft, places_from}
+use Rattle.dw_lists.specs.Tables.{entries_of, body_draft, new_table, base_from, Offsets, new_offsets}
+use Rattle.dw_lists.proofs.Spans.{written-byte, written-number}
+
+pub then_size : (d f : Draft) → (then_draft d f).size ≡ d.size + f.size
+unfolding then_draft
+then_size d f = refl
+
+pub written-nothing : (m : Meaning) → Appends m m 0 (λ big l. Some [])
+written-nothing m = (Drafts-nothing m []).text
+
+-- an element's draft after those of the elements before it
+pub written-more : {A : Type 0} (g : A → Draft) (xs : List A) (i : ℕ) (e : A) {a b c : Meaning} → i < length xs → e ≡ get_or xs i e →
+    IsWritten a b (all_drafts (map g (take i xs))) → IsWritten b c (g e) → IsWritten a c (all_drafts (map g (take (i + 1) xs)))
+unfolding then_draft
+written-more g xs i e {a} {b} {c} below is p q = subst (λ d. IsWritten a c d) (sym (all-more g xs i e below is)) (Appends-then p q)
 
 -- Places
 
-module _ (five : Bool) (w : ℕ) (xs : List (List Range)) (i : ℕ) (x : List Range) (below : i < length xs) (is : x ≡ get_or xs i x) (at to : ℕ) (further : to ≡ at + (list_piece five w x).size) where
-  pub places_more : (all more whole : List ℕ) → more ≡ all ++ at ∷ [] → all ++ places_from five w at (drop i xs) ≡ whole → more ++ places_from five w to (drop (i + 1) xs) ≡ whole
-  places_more all more whole e h =
-      ap (λ a. a ++ places_from five w to (drop (i + 1) xs)) e
-      ∙ append_assoc all (at ∷ []) (places_from five w to (drop (i + 1) xs))
-      ∙ ap (λ n. all ++ at ∷ places_from five w n (drop (i + 1) xs)) further
-      ∙ ap (λ ys. all ++ ys) (sym (at_drop_more (places_from five w at) xs i x below ∙ ap (λ y. places_from five w at (y ∷ drop (i + 1) xs)) (sym is)))
-      ∙ h
+module _ (five : Bool) (v : Encoding) (place : ℕ → Option ℕ) (k : Kinds) where
+  pub list_is : (ps : List Part) (i : ℕ) → length ps ≤ i → then_draft (parts_draft five v place k (take i ps)) (close_draft five k v.address_size) ≡ list_draft five v place k ps
+  list_is ps i h = ap (λ x. then_draft (parts_draft five v place k x) (close_draft five k v.address_size)) (take_all i ps h)
 
-  pub end_more : (total : ℕ) → at + (lists_piece five w (drop i xs)).size ≡ total → to + (lists_piece five w (drop (i + 1) xs)).size ≡ total
-  end_more total h =
-      let more : (lists_piece five w (drop i xs)).size ≡ (lists_piece five w (x ∷ drop (i + 1) xs)).size = at_drop_more (λ ys. (lists_piece five w ys).size) xs i x below ∙ ap (λ y. (lists_piece five w (y ∷ drop (i + 1) xs)).size) (sym is) in
-      omega (arith, more, h, further, both_size (list_piece five w x) (lists_piece five w (drop (i + 1) xs)))
+  module _ (xs : List (List Part)) (i : ℕ) (x : List Part) (below : i < length xs) (is : x ≡ get_or xs i x) where
+    pub places_more : (at to : ℕ) → to ≡ at + (list_draft five v place k x).size → (all more whole : List ℕ) → more ≡ all ++ at ∷ [] → all ++ places_from five v place k at (drop i xs) ≡ whole → more ++ places_from five v place k to (drop (i + 1) xs) ≡ whole
+    places_more at to further all more whole e h =
+        ap (λ a. a ++ places_from five v place k to (drop (i + 1) xs)) e
+        ∙ append_assoc all (at ∷ []) (places_from five v place k to (drop (i + 1) xs))
+        ∙ ap (λ n. all ++ at ∷ places_from five v place k n (drop (i + 1) xs)) further
+        ∙ ap (λ ys. all ++ ys) (sym (at_drop_more (places_from five v place k at) xs i x below ∙ ap (λ y. places_from five v place k at (y ∷ drop (i + 1) xs)) (sym is)))
+        ∙ h
 
-pub length-places : (five : Bool) (w at : ℕ) (xs : List (List Range)) → length (places_from five w at xs) ≡ length xs
-length-places five w at [] = refl
-length-places five w at (x ∷ xs) = let e = length-places five w (at + (list_piece five w x).size) xs in omega (arith, e)
+    more_size : (lists_draft five v place k (drop i xs)).size ≡ (list_draft five v place k x).size + (lists_draft five v place k (drop (i + 1) xs)).size
+    more_size =
+        at_drop_more (λ ys. (lists_draft five v place k ys).size) xs i x below ∙ ap (λ y. (lists_draft five v place k (y ∷ drop (i + 1) xs)).size) (sym is)
+        ∙ then_size (list_draft five v place k x) (lists_draft five v place k (drop (i + 1) xs))
 
-pub words_size : (format : Format) (ns : List ℕ) → (words_piece format ns).size ≡ length ns * word_of format
+    pub end_more : (at to total : ℕ) → to ≡ at + (list_draft five v place k x).size → at + (lists_draft five v place k (drop i xs)).size ≡ total → to + (lists_draft five v place k (drop (i + 1) xs)).size ≡ total
+    end_more at to total further h = omega (arith, more_size, h, further)
+
+    pub end_within : (at total : ℕ) → at + (lists_draft five v place k (drop i xs)).size ≡ total → at + (list_draft five v place k x).size ≤ total
+    end_within at total h = omega (arith, more_size, h)
+
+  pub length-places : (at : ℕ) (xs : List (List Part)) → length (places_from five v place k at xs) ≡ length xs
+  length-places at [] = refl
+  length-places at (x ∷ xs) = let e = length-places (at + (list_draft five v place k x).size) xs in omega (arith, e)
+
+pub words_size : (format : Format) (ns : List ℕ) → (words_draft format ns).size ≡ length ns * word_of format
 words_size format [] = omega arith
-words_size format (n ∷ ns) = let e = words_size format ns in omega (arith, e, both_size (word_piece format n) (words_piece format ns))
+words_size format (n ∷ ns) = let e = words_size format ns in omega (arith, e, then_size (word_draft format n) (words_draft format ns))
+
+-- words have no references
+word-draft : (format : Format) (n : ℕ) → IsDraft (word_draft format n)
+word-draft format n = whole-draft (word_of format) (λ big l. num_text big (word_of format) n) (λ big l xs e. length-num_text big (word_of format) n xs e)
+
+no_holes : (format : Format) (ns : List ℕ) → (words_draft format ns).holes ≡ []
+unfolding then_draft
+no_holes format [] = refl
+no_holes format (n ∷ ns) = ap (shifted (word_of format)) (no_holes format ns)
+
+drafts_words : {a b : Meaning} (format : Format) (x : List DebugInfoFixup) (ns : List ℕ) → IsWritten a b (words_draft format ns) → Drafts a b x x (words_draft format ns)
+drafts_words {a} {b} format x ns h =
+    let none : shifted a.size (words_draft format ns).holes ≡ [] = ap (shifted a.size) (no_holes format ns) in
+    record {
+      is = all-drafts (word_draft format) ns (word-draft format);
+      text = h;
+      fixups = sym (ap (λ hs. x ++ hs) none ∙ append-nil x);
+      clear = λ tidy. subst (AreClear b) (sym none) tt;
+    }
 
 -- The header
 
@@ -49,20 +98,14 @@ unfolding followed
 four_by xs w None = refl
 four_by xs w (Some ys) = ap Some (sym (append_assoc xs (w ∷ 0 ∷ []) ys))
 
-number_piece : ℕ → ℕ → Piece
-number_piece w n = record { size = w; text = λ big l. Some (num big w n) }
-
-written-fixed : {a b : Meaning} (w n : ℕ) → Adds a b (num a.is_big w n) → IsWritten a b (number_piece w n)
-unfolding number_text number_piece
+written-fixed : {a b : Meaning} (w n : ℕ) → Adds a b (num a.is_big w n) → Appends a b w (λ big l. Some (num big w n))
+unfolding number_text
 written-fixed w n p = Adds-number w n p
 
-fields_is : (w n : ℕ) → both (number_piece 2 5) (both (bytes_piece (w ∷ [])) (both (bytes_piece (0 ∷ [])) (num_piece 4 n))) ≡ fields_piece w n
-unfolding both number_piece
-fields_is w n = piece_is _ _ _ _ refl (λ big l. four_by (num big 2 5) w (num_text big 4 n))
-
-pub written-fields : {a b c d e : Meaning} (w n : ℕ) → w < 256 → n < 2 ^ 32 → Adds a b (num a.is_big 2 5) → Adds b c (num b.is_big 1 w) → Adds c d (num c.is_big 1 0) → Adds d e (num d.is_big 4 n) → IsWritten a e (fields_piece w n)
+pub written-fields : {a b c d e : Meaning} (w n : ℕ) → w < 256 → n < 2 ^ 32 → Adds a b (num a.is_big 2 5) → Adds b c (num b.is_big 1 w) → Adds c d (num c.is_big 1 0) → Adds d e (num d.is_big 4 n) → IsWritten a e (fields_draft w n)
 written-fields w n small few p q r s =
-    written-is _ _ (written-both (written-fixed 2 5 p) (written-both (written-byte w small q) (written-both (written-byte 0 (omega arith) r) (written-number 4 n (refl, lt-ltb _ _ few) s)))) (fields_is w n)
+    Appends-as (Appends-then (written-fixed 2 5 p) (Appends-then (written-byte w small q) (Appends-then (written-byte 0 (omega arith) r) (written-number 4 n (refl, lt-ltb _ _ few) s)))) refl
+    (λ big l. four_by (num big 2 5) w (num_text big 4 n))
 
 length_by : (f : Bool) (escape xs : List ℕ) → followed (Some escape) (followed (when f (Some xs)) (Some [])) ≡ when f (Some (escape ++ xs))
 unfolding followed
@@ -78,7 +121,7 @@ when_wide true xs ys e = let k : xs ≡ ys = cc in ap length (sym k)
 when_wide false xs ys e = absurd (let k : ◌≡◌ {A = Text} None (Some ys) = e in cc)
 
 pub written-length : {a b d : Meaning} (format : Format) (n at : ℕ) → Adds a b (escape_of format ++ zeros (word_of format)) → at ≡ a.size + length (escape_of format) → IsTrue (length_fits format n) →
-    Replaces b d at (num b.is_big (word_of format) n) → IsWritten a d (length_piece format n)
+    Replaces b d at (num b.is_big (word_of format) n) → IsWritten a d (length_draft format n)
 unfolding number_text
 written-length {a} {b} {d} format n at p place fit q =
     let w = word_of format in
@@ -89,38 +132,38 @@ written-length {a} {b} {d} format n at p place fit q =
     let all = Adds-filled (escape_of format) (zeros w) p (written-nothing b) patch in
     Appends-as all (omega (arith, length-zeros w)) (λ big l. length_by (length_fits format n) (escape_of format) (num big w n))
 
--- The table
-
-pub written-table : {a b c d e : Meaning} (format : Format) (w count start end size : ℕ) (ns : List ℕ) (xs : List (List Range)) →
-    IsWritten a b (length_piece format size) → IsWritten b c (fields_piece w count) → IsWritten c d (words_piece format ns) → IsWritten d e (lists_piece true w xs) →
-    count ≡ length xs → ns ≡ places_from true w start xs → start ≡ length xs * word_of format → end ≡ start + (lists_piece true w xs).size → size ≡ 8 + end →
-    IsWritten a e (new_table_piece format w xs)
-written-table {a} {b} {c} {d} {e} format w count start end size ns xs p q r s counted placed begin last sized =
-    let entries : ns ≡ entries_of format w xs = placed ∙ ap (λ n. places_from true w n xs) begin in
-    let words = words_piece format (entries_of format w xs) in
-    let body : size ≡ (body_piece format w xs).size = omega (arith, sized, last, begin, both_size (fields_piece w (length xs)) (both words (lists_piece true w xs)), both_size words (lists_piece true w xs), words_size format (entries_of format w xs) ∙ ap (λ n. n * word_of format) (length-places true w (length xs * word_of format) xs)) in
-    written-both (subst (λ n. IsWritten a b (length_piece format n)) body p)
-    (written-both (subst (λ n. IsWritten b c (fields_piece w n)) counted q)
-    (written-both (subst (λ k. IsWritten c d (words_piece format k)) entries r) s))
-
 -- an opened length ends where the section does
 pub opened_size : {a b : Meaning} (format : Format) (at : ℕ) → Adds a b (escape_of format ++ zeros (word_of format)) → at ≡ a.size + length (escape_of format) → at + word_of format ≤ b.size
 opened_size format at p place = omega (arith, place, p.size, length-append (escape_of format) (zeros (word_of format)), length-zeros (word_of format))
 
-pub end_within : (five : Bool) (w : ℕ) (xs : List (List Range)) (i : ℕ) (x : List Range) → i < length xs → x ≡ get_or xs i x → (at total : ℕ) → at + (lists_piece five w (drop i xs)).size ≡ total → at + (list_piece five w x).size ≤ total
-end_within five w xs i x below is at total h =
-    let more : (lists_piece five w (drop i xs)).size ≡ (lists_piece five w (x ∷ drop (i + 1) xs)).size = at_drop_more (λ ys. (lists_piece five w ys).size) xs i x below ∙ ap (λ y. (lists_piece five w (y ∷ drop (i + 1) xs)).size) (sym is) in
-    omega (arith, more, h, both_size (list_piece five w x) (lists_piece five w (drop (i + 1) xs)))
+-- The table
+
+module _ (loc : Bool) (v : Encoding) (place : ℕ → Option ℕ) (xs : List (List Part)) where
+  -- the size of a table's body
+  pub body_size : (body_draft loc v place xs).size ≡ fields_size + (length xs * word_of v.format + (lists_draft true v place (kinds_of loc) xs).size)
+  body_size =
+      let words = words_draft v.format (entries_of loc v place xs) in
+      let lists = lists_draft true v place (kinds_of loc) xs in
+      omega (
+        arith,
+        then_size (fields_draft v.address_size (length xs)) (then_draft words lists),
+        then_size words lists,
+        words_size v.format (entries_of loc v place xs) ∙ ap (λ n. n * word_of v.format) (length-places true v place (kinds_of loc) (length xs * word_of v.format) xs),
+      )
+
+  pub written-table : {a b c d e : Meaning} {x y : List DebugInfoFixup} (count start size : ℕ) (ns : List ℕ) →
+      IsWritten a b (length_draft v.format size) → IsWritten b c (fields_draft v.address_size count) → IsWritten c d (words_draft v.format ns) → Drafts d e x y (lists_draft true v place (kinds_of loc) xs) →
+      count ≡ length xs → ns ≡ places_from true v place (kinds_of loc) start xs → start ≡ length xs * word_of v.format → size ≡ (body_draft loc v place xs).size →
+      Drafts a e x y (new_table loc v place xs)
+  written-table {a} {b} {c} {d} {e} {x} {y} count start size ns p q r s counted placed begin sized =
+      let entries : ns ≡ entries_of loc v place xs = placed ∙ ap (λ n. places_from true v place (kinds_of loc) n xs) begin in
+      Drafts-then (Drafts-whole x (subst (λ n. IsWritten a b (length_draft v.format n)) sized p))
+      (Drafts-then (Drafts-whole x (subst (λ n. IsWritten b c (fields_draft v.address_size n)) counted q))
+      (Drafts-then (drafts_words v.format x (entries_of loc v place xs) (subst (λ k. IsWritten c d (words_draft v.format k)) entries r)) s))
 
 -- what a table of version 5 answers
-pub new_offsets_are : (format : Format) (w at base k : ℕ) (xs : List (List Range)) (places : List ℕ) → base ≡ base_from format at → k ≡ base + length xs * word_of format → places ≡ places_from true w k xs →
-    ◌≡◌ {A = Offsets} (record { base = Some base; places = places }) (new_offsets format w at xs)
-new_offsets_are format w at base k xs places e h q =
-    let all : places ≡ places_from true w (base_from format at + length xs * word_of format) xs = q ∙ ap (λ n. places_from true w n xs) (h ∙ ap (λ b. b + length xs * word_of format) e) in
+pub new_offsets_are : (loc : Bool) (v : Encoding) (place : ℕ → Option ℕ) (at base k : ℕ) (xs : List (List Part)) (places : List ℕ) → base ≡ base_from v.format at → k ≡ base + length xs * word_of v.format → places ≡ places_from true v place (kinds_of loc) k xs →
+    ◌≡◌ {A = Offsets} (record { base = Some base; places = places }) (new_offsets loc v place at xs)
+new_offsets_are loc v place at base k xs places e h q =
+    let all : places ≡ places_from true v place (kinds_of loc) (base_from v.format at + length xs * word_of v.format) xs = q ∙ ap (λ n. places_from true v place (kinds_of loc) n xs) (h ∙ ap (λ b. b + length xs * word_of v.format) e) in
     λ i. record { base = Some (e i); places = all i }
-
--- the size of a table's body
-pub body_size : (format : Format) (w : ℕ) (xs : List (List Range)) → (body_piece format w xs).size ≡ fields_size + (length xs * word_of format + (lists_piece true w xs).size)
-body_size format w xs =
-    let words = words_piece format (entries_of format w xs) in
-    omega (arith, both_size (fields_piece w (length xs)) (both words (lists_piece true w xs)), both_size words (lists_piece true w xs), words_size format (entries_of format w xs) ∙ ap (λ n. n * word_of format) (length-places true w (length xs * word_of format) xs))

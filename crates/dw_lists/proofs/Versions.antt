@@ -1,21 +1,20 @@
 -- A table by its version.
-use Rattle.std.specs.Prelude.{◌≡◌, ℕ, zero, suc, ◌<◌, ◌≤◌, Bool, true, false, not, ◌&&◌, ◌==◌, nat_le, List, [], ◌∷◌, length, All, refl}
+use Rattle.std.specs.Prelude.{◌≡◌, ℕ, zero, suc, ◌<◌, ◌≤◌, Bool, true, false, not, ◌&&◌, ◌==◌, nat_le, List, [], ◌∷◌, length, Option, refl}
 use Rattle.std.proofs.Common.{sym, ◌∙◌, subst, arith, true≢false}
 use Rattle.std.proofs.lemmas.Bool.{le-leb, eq-eqb, ne_eqb, or_right}
 use Rattle.dw_base.specs.declared.common.Encoding.{Encoding}
-use Rattle.dw_base.specs.declared.common.Format.{Format}
 use Rattle.dw_base.specs.declared.error.Error.{Error}
 use Rattle.dw_base.specs.declared.error.Error.TheVariants as errors
 use Rattle.dw_writer.specs.Contents.{Meaning}
-use Rattle.dw_writer.specs.declared.sections.Sections.{Sections}
-use Rattle.dw_lists.specs.declared.range.Range.{Range}
+use Rattle.dw_writer.specs.Drafts.{Drafts}
+use Rattle.dw_writer.specs.declared.fixup.DebugInfoFixup.{DebugInfoFixup}
+use Rattle.dw_writer.proofs.WriteLaws.{Drafts-nothing}
+use Rattle.dw_lists.specs.Parts.{Part}
 use Rattle.dw_lists.specs.Items.{is_five}
-use Rattle.dw_lists.specs.Pieces.{IsWritten}
-use Rattle.dw_lists.specs.Texts.{AreRanged}
-use Rattle.dw_lists.specs.Tables.{new_table_piece, table_piece_of, table_piece, list_section}
-use Rattle.dw_lists.specs.Causes.{Refused, Is, IsNone, is_supported, version_fails, table_fails_of, table_fails}
-use Rattle.dw_lists.proofs.Forms.{neither_cause}
-use Rattle.dw_lists.proofs.Pieces.{written-nothing}
+use Rattle.dw_lists.specs.Tables.{new_table, old_table, table_by, table_draft, new_offsets, old_offsets, offsets_by, offsets_from}
+use Rattle.dw_lists.specs.Causes.{Refused, Is, IsNone, is_supported, version_fails, table_fails_by, table_fails}
+use Rattle.dw_lists.proofs.Causes.{neither_cause}
+use Rattle.dw_lists.proofs.Refusals.{weaker}
 
 pub five_is : (e : Encoding) → e.version ≡ 5 → is_five e ≡ true
 five_is e v = eq-eqb e.version 5 v
@@ -40,16 +39,6 @@ version_none : (v : ℕ) → 2 ≤ v → v ≤ 5 → IsNone (version_fails v)
 version_none v low high (errors.UnsupportedVersion n) = and_none (n == v) (is_supported v) (supported v low high)
 version_none v low high err = refl
 
-weaker : (old new : Meaning) (p q : Error → Type 0) → ((e : Error) → p e → q e) → (e : Error) → Refused old new p e → Refused old new q e
-weaker old new p q f errors.NoMemory h = tt
-weaker old new p q f errors.WriteFault h = h
-weaker old new p q f e h = f e h
-
--- a table without lists isn't written
-pub written-none : (e : Encoding) (m : Meaning) (xs : List (List Range)) → length xs ≡ 0 → IsWritten m m (table_piece e xs)
-written-none e m [] h = written-nothing m
-written-none e m (x ∷ xs) h = absurd (omega arith)
-
 pub some_of : (n : ℕ) → (n == 0) ≡ false → 0 < n
 some_of zero h = absurd cc
 some_of (suc n) h = omega arith
@@ -58,34 +47,44 @@ pub none_of : (n : ℕ) → (n == 0) ≡ true → n ≡ 0
 none_of zero h = refl
 none_of (suc n) h = absurd (true≢false (sym h ∙ ne_eqb (suc n) 0 (λ z. omega (arith, z))))
 
-pub new_table_is : (format : Format) (w : ℕ) (xs : List (List Range)) → 0 < length xs → new_table_piece format w xs ≡ table_piece_of true format w xs
-new_table_is format w [] some = absurd (omega arith)
-new_table_is format w (x ∷ xs) some = refl
+module _ (loc : Bool) (e : Encoding) (place : ℕ → Option ℕ) where
+  pub new_table_is : is_five e ≡ true → (xs : List (List Part)) → 0 < length xs → new_table loc e place xs ≡ table_draft loc e place xs
+  new_table_is five [] some = absurd (omega arith)
+  new_table_is five (x ∷ xs) some = subst (λ b. new_table loc e place (x ∷ xs) ≡ table_by loc e place b (x ∷ xs)) (sym five) refl
 
-module _ {W : Type 0} (meaning : W → Meaning) (old new : Sections W) (e : Encoding) (base five : Bool) (is : is_five e ≡ five) where
-  pub written-table_of : (xs : List (List Range)) → 0 < length xs → IsWritten (meaning (list_section five old)) (meaning (list_section five new)) (table_piece_of five e.format e.address_size xs) →
-      IsWritten (meaning (list_section (is_five e) old)) (meaning (list_section (is_five e) new)) (table_piece e xs)
-  written-table_of xs some h = subst (λ b. IsWritten (meaning (list_section b old)) (meaning (list_section b new)) (table_piece_of b e.format e.address_size xs)) (sym is) h
+  pub old_table_is : is_five e ≡ false → (xs : List (List Part)) → 0 < length xs → old_table loc e place xs ≡ table_draft loc e place xs
+  old_table_is four [] some = absurd (omega arith)
+  old_table_is four (x ∷ xs) some = subst (λ b. old_table loc e place (x ∷ xs) ≡ table_by loc e place b (x ∷ xs)) (sym four) refl
 
-  pub table_none : 2 ≤ e.version → e.version ≤ 5 → (xs : List (List Range)) → 0 < length xs → IsNone (table_fails_of five base (meaning (list_section five old)).is_plain e.format e.address_size xs) →
-      IsNone (table_fails e base (meaning (list_section (is_five e) old)).is_plain xs)
+  pub new_offsets_is : is_five e ≡ true → (at : ℕ) (xs : List (List Part)) → 0 < length xs → new_offsets loc e place at xs ≡ offsets_from loc e place at xs
+  new_offsets_is five at [] some = absurd (omega arith)
+  new_offsets_is five at (x ∷ xs) some = subst (λ b. new_offsets loc e place at (x ∷ xs) ≡ offsets_by loc e place b at (x ∷ xs)) (sym five) refl
+
+  pub old_offsets_is : is_five e ≡ false → (at : ℕ) (xs : List (List Part)) → 0 < length xs → old_offsets loc e place at xs ≡ offsets_from loc e place at xs
+  old_offsets_is four at [] some = absurd (omega arith)
+  old_offsets_is four at (x ∷ xs) some = subst (λ b. old_offsets loc e place at (x ∷ xs) ≡ offsets_by loc e place b at (x ∷ xs)) (sym four) refl
+
+module _ (loc : Bool) (e : Encoding) (known : Option (ℕ → Option ℕ)) (base five : Bool) (is : is_five e ≡ five) (plain : Bool) where
+  pub table_none : 2 ≤ e.version → e.version ≤ 5 → (xs : List (List Part)) → 0 < length xs → IsNone (table_fails_by loc e known five base plain xs) → IsNone (table_fails loc e known base plain xs)
   table_none low high [] some h = absurd (omega arith)
   table_none low high (x ∷ xs) some h =
-      neither_cause (version_fails e.version) (table_fails_of (is_five e) base (meaning (list_section (is_five e) old)).is_plain e.format e.address_size (x ∷ xs))
+      neither_cause (version_fails e.version) (table_fails_by loc e known (is_five e) base plain (x ∷ xs))
       (version_none e.version low high)
-      (subst (λ b. IsNone (table_fails_of b base (meaning (list_section b old)).is_plain e.format e.address_size (x ∷ xs))) (sym is) h)
+      (subst (λ b. IsNone (table_fails_by loc e known b base plain (x ∷ xs))) (sym is) h)
 
-  pub table_refused : (xs : List (List Range)) → 0 < length xs → (err : Error) →
-      Refused (meaning (list_section five old)) (meaning (list_section five new)) (Is (table_fails_of five base (meaning (list_section five old)).is_plain e.format e.address_size xs)) err →
-      Refused (meaning (list_section (is_five e) old)) (meaning (list_section (is_five e) new)) (Is (table_fails e base (meaning (list_section (is_five e) old)).is_plain xs)) err
-  table_refused [] some err h = absurd (omega arith)
-  table_refused (x ∷ xs) some err h =
-      let m = meaning (list_section (is_five e) old) in
-      let n = meaning (list_section (is_five e) new) in
-      weaker m n (Is (table_fails_of (is_five e) base m.is_plain e.format e.address_size (x ∷ xs))) (Is (table_fails e base m.is_plain (x ∷ xs)))
-      (λ k cause. or_right (version_fails e.version k) (table_fails_of (is_five e) base m.is_plain e.format e.address_size (x ∷ xs) k) cause) err
-      (subst (λ b. Refused (meaning (list_section b old)) (meaning (list_section b new)) (Is (table_fails_of b base (meaning (list_section b old)).is_plain e.format e.address_size (x ∷ xs))) err) (sym is) h)
+  pub table_refused : (old new : Meaning) (xs : List (List Part)) → 0 < length xs → (err : Error) → Refused old new (Is (table_fails_by loc e known five base plain xs)) err → Refused old new (Is (table_fails loc e known base plain xs)) err
+  table_refused old new [] some err h = absurd (omega arith)
+  table_refused old new (x ∷ xs) some err h =
+      weaker old new (Is (table_fails_by loc e known five base plain (x ∷ xs))) (Is (table_fails loc e known base plain (x ∷ xs)))
+      (λ k cause. or_right (version_fails e.version k) (table_fails_by loc e known (is_five e) base plain (x ∷ xs) k)
+      (subst (λ b. Is (table_fails_by loc e known b base plain (x ∷ xs)) k) (sym is) cause)) err h
 
--- a table of one version is no table of the other
-pub old_unranged : (e : Encoding) (xs : List (List Range)) → is_five e ≡ false → is_five e ≡ true → All AreRanged xs
-old_unranged e xs four five = absurd (true≢false (sym five ∙ four))
+-- a table without lists
+module _ (loc : Bool) (e : Encoding) (place : ℕ → Option ℕ) where
+  pub none_written : (m : Meaning) (x : List DebugInfoFixup) (xs : List (List Part)) → length xs ≡ 0 → Drafts m m x x (table_draft loc e place xs)
+  none_written m x [] h = Drafts-nothing m x
+  none_written m x (y ∷ ys) h = absurd (omega arith)
+
+-- what a match on the version tells
+pub not_five : (e : Encoding) → (e.version ≡ 5 → ⊥) → is_five e ≡ false
+not_five e h = ne_eqb e.version 5 h

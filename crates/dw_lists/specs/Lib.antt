@@ -1,6 +1,10 @@
 pub mod Equal
 pub mod Lists
+pub mod Kinds
 pub mod Items
+pub mod Codes
+pub mod Parts
+pub mod EqualLocations
 pub mod Pieces
 pub mod Texts
 pub mod Tables

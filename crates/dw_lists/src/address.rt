@@ -1,7 +1,8 @@
 //! Addresses of list items, which range lists and location lists share.
 
 ghost use Rattle.std.specs.Prelude.{◌≡◌, ◌+◌, ◌^◌, ◌≤◌, OnOk, IfOk, IfErr, IsTrue, IsFalse};
-ghost use Rattle.dw_base.specs.declared.error.Error.TheVariants.{UnsupportedWordSize, ValueTooLarge};
+ghost use Rattle.dw_base.specs.declared.error.Error.TheVariants.{UnsupportedWordSize};
+ghost use Rattle.dw_base.specs.declared.error.Error.TheVariants.{ValueTooLarge};
 ghost use Rattle.dw_base.specs.Numbers.{is_width};
 ghost use Rattle.dw_lists.specs.Equal.{address_eq};
 ghost use Rattle.dw_lists.specs.Items.{marker as marker_of};

@@ -1,30 +1,30 @@
-//! Items of range lists.
+//! The addresses of items.
 
-ghost use Rattle.std.specs.Prelude.{◌≡◌, ◌||◌, true, false, IsTrue, OnOk, IfErr};
-ghost use Rattle.dw_lists.specs.Items.{marker as marker_of};
+ghost use Rattle.std.specs.Prelude.{◌≡◌, ◌||◌, Some, true, false, OnOk, IfErr};
+ghost use Rattle.dw_writer.specs.Meaning.{IsSameWriter};
+ghost use Rattle.dw_lists.specs.Kinds.{range_kinds, AreBytes};
 ghost use Rattle.dw_lists.specs.Pieces.{IsWritten};
-ghost use Rattle.dw_lists.specs.Texts.{IsRangedItem, range_size, range_piece};
-ghost use Rattle.dw_lists.specs.Causes.{Refused, Is, IsNone, is_base, form_fails, numbers_fail, new_fails};
+ghost use Rattle.dw_lists.specs.Texts.{IsRanged, range_size, span_draft};
+ghost use Rattle.dw_lists.specs.Causes.{Refused, Is, IsNone, is_base, form_fails, numbers_fail};
+ghost use Rattle.dw_lists.specs.Causes.{new_fails};
 
 use crate::address::{further, is_marker, is_same, marker};
+use crate::kinds::Kinds;
 use crate::range::Range;
-use dw_base::constants::{
-    DW_RLE_base_address, DW_RLE_offset_pair, DW_RLE_start_end, DW_RLE_start_length,
-};
 use dw_base::{Error, Result, uleb128_size};
 use dw_writer::Writer;
 
-impl Range {
-    /// Tells that a base is in force behind the item.
-    pub(crate) fn has_base_after(&self, has_base: bool) -> bool
-        ensures { result ≡ (has_base || is_base self.now) }
-    {
-        match self {
-            Range::BaseAddress { .. } => true,
-            _ => has_base,
-        }
+/// Tells that a base is in force behind an item.
+pub(crate) fn has_base_after(range: Option<Range>, has_base: bool) -> bool
+    ensures { result ≡ (has_base || is_base range) }
+{
+    match range {
+        Some(Range::BaseAddress { .. }) => true,
+        _ => has_base,
     }
+}
 
+impl Range {
     /// Refuses an item that has no form up to version 4.
     pub(crate) fn check_form(&self, address_size: u8, has_base: bool) -> Result<()>
         ensures sound { OnOk result (IsNone (form_fails has_base address_size self.now)) }
@@ -67,12 +67,13 @@ impl Range {
     pub(crate) fn write_old<W: Writer>(&self, address_size: u8, w: &mut W) -> Result<()>
         ensures ok { OnOk result
             (IsWritten (W.meaning w.old) (W.meaning w.new)
-            (range_piece false address_size self.now)) }
+            (span_draft false range_kinds address_size (Some self.now))) }
         ensures sound { OnOk result
             (IsNone (numbers_fail (W.meaning w.old).is_plain address_size self.now)) }
         ensures err { IfErr result
             (Refused (W.meaning w.old) (W.meaning w.new)
             (Is (numbers_fail (W.meaning w.old).is_plain address_size self.now))) }
+        ensures same { IsSameWriter (W.meaning w.old) (W.meaning w.new) }
     {
         match *self {
             Range::BaseAddress { address } => {
@@ -110,35 +111,42 @@ impl Range {
         }
     }
 
-    /// Writes an item of version 5: its kind, and its operands (DWARF 5, 7.25).
-    pub(crate) fn write_new<W: Writer>(&self, address_size: u8, w: &mut W) -> Result<()>
+    /// Writes an item of version 5: its kind, and its operands (DWARF 5, 7.25 and 7.7.3).
+    pub(crate) fn write_new<W: Writer>(
+        &self,
+        kinds: Kinds,
+        address_size: u8,
+        w: &mut W,
+    ) -> Result<()>
+        requires { AreBytes kinds }
         ensures ok { OnOk result
             (IsWritten (W.meaning w.old) (W.meaning w.new)
-            (range_piece true address_size self.now)) }
-        ensures ranged { OnOk result (IsRangedItem self.now) }
+            (span_draft true kinds address_size (Some self.now))) }
+        ensures ranged { OnOk result (IsRanged (Some self.now)) }
         ensures sound { OnOk result
             (IsNone (new_fails (W.meaning w.old).is_plain address_size self.now)) }
         ensures err { IfErr result
             (Refused (W.meaning w.old) (W.meaning w.new)
             (Is (new_fails (W.meaning w.old).is_plain address_size self.now))) }
+        ensures same { IsSameWriter (W.meaning w.old) (W.meaning w.new) }
     {
         match *self {
             Range::BaseAddress { address } => {
-                w.write_u8(DW_RLE_base_address.0)?;
+                w.write_u8(kinds.base_address)?;
                 w.write_address(address, address_size)
             }
             Range::OffsetPair { begin, end } => {
-                w.write_u8(DW_RLE_offset_pair.0)?;
+                w.write_u8(kinds.offset_pair)?;
                 w.write_uleb128(begin)?;
                 w.write_uleb128(end)
             }
             Range::StartEnd { begin, end } => {
-                w.write_u8(DW_RLE_start_end.0)?;
+                w.write_u8(kinds.start_end)?;
                 w.write_address(begin, address_size)?;
                 w.write_address(end, address_size)
             }
             Range::StartLength { begin, length } => {
-                w.write_u8(DW_RLE_start_length.0)?;
+                w.write_u8(kinds.start_length)?;
                 w.write_address(begin, address_size)?;
                 w.write_uleb128(length)
             }

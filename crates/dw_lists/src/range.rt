@@ -7,7 +7,10 @@ ghost use Rattle.dw_base.specs.declared.error.Error.TheVariants.{NoMemory};
 ghost use Rattle.dw_lists.specs.Equal.{range_eq, range_fed, range_per, range_equiv, range-fed};
 ghost use Rattle.dw_lists.specs.Equal.{list_eq, list_fed, list_per, list_equiv, list-fed};
 
+use crate::item_list::ItemList;
+use crate::kinds::Kinds;
 use dw_base::{Address, Result};
+use dw_expr::Expression;
 use std::hash::{Hash, Hasher};
 use std::marker::Model;
 
@@ -123,13 +126,6 @@ impl Model for RangeList {
 }
 
 impl RangeList {
-    /// The items, in order.
-    pub(crate) fn items(&self) -> &[Range]
-        ensures { result.now ≡ self.now }
-    {
-        self.0.as_slice()
-    }
-
     /// A second list that equals this one.
     pub fn try_clone(&self) -> Result<RangeList>
         ensures ok { IfOk result (λ copy. copy ≡ self.now) }
@@ -160,5 +156,30 @@ impl Hash for RangeList {
 
     fn hash<H: Hasher>(&self, state: &mut H) {
         self.0.hash(state);
+    }
+}
+
+impl ItemList for RangeList {
+    ghost use Rattle.std.specs.Prelude.{false};
+    ghost use Rattle.dw_lists.specs.Parts.{ranges_parts};
+
+    ghost is_location = { false };
+
+    ghost parts = { λ list. ranges_parts list };
+
+    fn kinds() -> Kinds {
+        Kinds::of_ranges()
+    }
+
+    fn count(&self) -> usize {
+        self.0.len()
+    }
+
+    fn range(&self, index: usize) -> Option<Range> {
+        Some(self.0[index])
+    }
+
+    fn expression(&self, _index: usize) -> Option<&Expression> {
+        None
     }
 }

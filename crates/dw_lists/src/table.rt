@@ -1,18 +1,23 @@
 //! The range lists of a unit.
 
-ghost use Rattle.std.specs.Prelude.{All, true, ◌≡◌, ◌<◌, [], length, Some, slice_get, OnOk, OnErr, IfOk, IfErr};
+ghost use Rattle.std.specs.Prelude.{All, false, true, ◌≡◌, ◌<◌, [], length, None, Some, slice_get};
+ghost use Rattle.std.specs.Prelude.{OnOk, OnErr, IfOk, IfErr};
 ghost use Rattle.dw_base.specs.declared.error.Error.TheVariants.{NoMemory};
+ghost use Rattle.dw_writer.specs.Meaning.{IsSameWriter};
+ghost use Rattle.dw_lists.specs.Equal.{list_eq};
 ghost use Rattle.dw_lists.specs.Lists.{list_index, with_list, AllDiffer};
 ghost use Rattle.dw_lists.specs.Items.{is_five};
 ghost use Rattle.dw_lists.specs.Pieces.{IsWritten};
-ghost use Rattle.dw_lists.specs.Tables.{table_piece, offsets_from, lists_of, AreNumbered, OthersStay, IsReadAgain};
+ghost use Rattle.dw_lists.specs.Tables.{table_draft, offsets_from, ranges_in, no_place, ranges_of};
+ghost use Rattle.dw_lists.specs.Tables.{AreNumbered, OthersStay, IsReadAgain};
 ghost use Rattle.dw_lists.specs.Causes.{Refused, Is, IsNone, table_fails};
 
-use crate::lists::{write_ranges, write_rnglists};
+use crate::lists::write_table;
 use crate::offsets::RangeListOffsets;
+use crate::places::NoPlaces;
 use crate::range::RangeList;
-use dw_base::{Encoding, Error, RangeListId, Result};
-use dw_writer::{Sections, Writer};
+use dw_base::{Encoding, RangeListId, Result};
+use dw_writer::{FixupList, Sections, Writer};
 use indexmap::IndexSet;
 use std::alloc::Global;
 use std::marker::Model;
@@ -50,8 +55,8 @@ impl RangeListTable {
 
     /// The id of a list, which is added if none equals it. One that is there already is dropped.
     pub fn add(&mut self, range_list: RangeList) -> Result<RangeListId>
-        ensures id { IfOk result (λ id. id.0 ≡ list_index self.old range_list) }
-        ensures ok { OnOk result (self.new ≡ with_list self.old range_list) }
+        ensures id { IfOk result (λ id. id.0 ≡ list_index list_eq self.old range_list) }
+        ensures ok { OnOk result (self.new ≡ with_list list_eq self.old range_list) }
         ensures named { IfOk result (λ id. slice_get self.new id.0 ≡ Some range_list) }
         ensures err { IfErr result (λ e. e ≡ NoMemory) }
         ensures kept { OnErr result (self.new ≡ self.old) }
@@ -90,50 +95,69 @@ impl RangeListTable {
         have_base_address: bool,
     ) -> Result<RangeListOffsets>
         ensures ok { OnOk result
-            (IsWritten (lists_of W.meaning encoding sections.old)
-            (lists_of W.meaning encoding sections.new) (table_piece encoding self.now)) }
+            (IsWritten (ranges_of W.meaning encoding sections.old)
+            (ranges_of W.meaning encoding sections.new)
+            (table_draft false encoding no_place (ranges_in self.now))) }
         ensures offsets { IfOk result
-            (λ r. r ≡ offsets_from encoding
-            (lists_of W.meaning encoding sections.old).size self.now) }
-        ensures again { OnOk result (IsReadAgain encoding self.now) }
+            (λ r. r ≡ offsets_from false encoding no_place
+            (ranges_of W.meaning encoding sections.old).size (ranges_in self.now)) }
+        ensures again { OnOk result (IsReadAgain false encoding no_place (ranges_in self.now)) }
         // A plain writer takes no symbols, so there each list is found.
         ensures numbered { OnOk result
-            ((lists_of W.meaning encoding sections.old).is_plain ≡ true →
-            All AreNumbered self.now) }
+            ((ranges_of W.meaning encoding sections.old).is_plain ≡ true →
+            All AreNumbered (ranges_in self.now)) }
         ensures others { OthersStay (is_five encoding) sections.old sections.new }
         ensures sound { OnOk result
-            (IsNone (table_fails encoding have_base_address
-            (lists_of W.meaning encoding sections.old).is_plain self.now)) }
+            (IsNone (table_fails false encoding None have_base_address
+            (ranges_of W.meaning encoding sections.old).is_plain (ranges_in self.now))) }
         ensures err { IfErr result
-            (Refused (lists_of W.meaning encoding sections.old)
-            (lists_of W.meaning encoding sections.new)
-            (Is (table_fails encoding have_base_address
-            (lists_of W.meaning encoding sections.old).is_plain self.now))) }
+            (Refused (ranges_of W.meaning encoding sections.old)
+            (ranges_of W.meaning encoding sections.new)
+            (Is (table_fails false encoding None have_base_address
+            (ranges_of W.meaning encoding sections.old).is_plain (ranges_in self.now)))) }
+        ensures same { IsSameWriter (ranges_of W.meaning encoding sections.old)
+            (ranges_of W.meaning encoding sections.new) }
     {
         let alloc = *self.lists.allocator();
         let lists = self.lists.as_slice();
-        if lists.is_empty() {
-            return Ok(RangeListOffsets {
-                base: None,
-                places: Vec::new(alloc),
-            });
-        }
-        match encoding.version {
-            2..=4 => write_ranges(
-                alloc,
-                lists,
-                encoding,
-                have_base_address,
-                &mut sections.debug_ranges.0,
-            ),
-            5 => write_rnglists(
-                alloc,
-                lists,
-                encoding,
-                have_base_address,
-                &mut sections.debug_rnglists.0,
-            ),
-            version => Err(Error::UnsupportedVersion(version)),
+        if encoding.version == 5 {
+            let w = &mut sections.debug_rnglists.0;
+            write_ranges(alloc, lists, encoding, have_base_address, w)
+        } else {
+            let w = &mut sections.debug_ranges.0;
+            write_ranges(alloc, lists, encoding, have_base_address, w)
         }
     }
+}
+
+/// Writes range lists to the section of their version.
+fn write_ranges<W: Writer>(
+    alloc: Global,
+    lists: &[RangeList],
+    encoding: Encoding,
+    has_base: bool,
+    w: &mut W,
+) -> Result<RangeListOffsets>
+    ensures ok { OnOk result
+        (IsWritten (W.meaning w.old) (W.meaning w.new)
+        (table_draft false encoding no_place (ranges_in lists.now))) }
+    ensures offsets { IfOk result
+        (λ r. r ≡ offsets_from false encoding no_place
+        (W.meaning w.old).size (ranges_in lists.now)) }
+    ensures again { OnOk result (IsReadAgain false encoding no_place (ranges_in lists.now)) }
+    ensures numbered { OnOk result
+        ((W.meaning w.old).is_plain ≡ true → All AreNumbered (ranges_in lists.now)) }
+    ensures sound { OnOk result
+        (IsNone (table_fails false encoding None has_base
+        (W.meaning w.old).is_plain (ranges_in lists.now))) }
+    ensures err { IfErr result
+        (Refused (W.meaning w.old) (W.meaning w.new)
+        (Is (table_fails false encoding None has_base
+        (W.meaning w.old).is_plain (ranges_in lists.now)))) }
+    ensures same { IsSameWriter (W.meaning w.old) (W.meaning w.new) }
+{
+    let places = None::<&NoPlaces>;
+    let mut fixups = FixupList::new(alloc);
+    let lists = write_table(alloc, lists, encoding, has_base, places, w, &mut fixups)?;
+    Ok(RangeListOffsets { lists })
 }

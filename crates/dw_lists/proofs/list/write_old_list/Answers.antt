@@ -1,75 +1,155 @@
-use Rattle.std.proofs.Common.{◌∙◌, ◌<◌, ◌+◌, sym, ap, subst, length, get_or, drop, false, refl}
+use Rattle.std.proofs.Common.{◌∙◌, ◌<◌, ◌≤◌, ◌+◌, sym, ap, subst, take_all, arith, length, get_or, drop, false, None, refl}
+use Rattle.std.proofs.lemmas.List.Elements.{All-nil}
 use Rattle.std.proofs.lemmas.Result.{err_from_is_err_and}
-use Rattle.dw_base.specs.declared.address.Address.TheVariants as addresses
 use Rattle.dw_writer.proofs.Outcomes.{OnOk-map, IfErr-map}
-use Rattle.dw_writer.proofs.Steps.{IsSameWriter-trans}
-use Rattle.dw_lists.specs.declared.range.Range.TheVariants as built
-use Rattle.dw_lists.specs.Texts.{range_piece}
-use Rattle.dw_lists.specs.Causes.{IsNone, form_fails, numbers_fail, old_fails, old_list_fails}
-use Rattle.dw_lists.proofs.Forms.{neither_cause, old_more}
-use Rattle.dw_lists.proofs.Pieces.{written-nothing, written-more, written-is, written-both, written-number, read_there, old_close_is, list_is, OnOk-both}
-use Rattle.dw_lists.proofs.Refusals.{old_form_refused, old_numbers_refused, old_close_refused, old_none}
+use Rattle.dw_writer.proofs.WriteLaws.{Drafts-nothing, Drafts-whole, Drafts-then, Drafts-more, Drafts-is}
+use Rattle.dw_writer.proofs.Steps.{IsSameWriter-trans, Appends-then}
+use Rattle.dw_expr.specs.Places.{known_by, place_by}
+use Rattle.dw_lists.specs.Kinds.{kinds_of, range_kinds}
+use Rattle.dw_lists.specs.Parts.{Part}
+use Rattle.dw_lists.specs.Texts.{part_draft, IsReadable, AreReadable}
+use Rattle.dw_lists.specs.Causes.{IsNone, old_fails, old_list_fails}
+use Rattle.dw_lists.proofs.Causes.{old_more, read_there, All-more, OnOk-both}
+use Rattle.dw_lists.proofs.Located.{without_kinds}
+use Rattle.dw_lists.proofs.Spans.{written-number}
+use Rattle.dw_lists.proofs.Refusals.{old_part_refused, old_close_refused, old_none}
+use Rattle.dw_lists.proofs.Tables.{list_is}
 use Rattle.dw_lists.proofs.list.write_old_list.Goals as goal
 
-pub loop-range-init : goal.loop-range-init
-loop-range-init g c = record { written = written-nothing (g.W.Writer.meaning c.args.w.now); none = λ e. refl }
+pub loop-index-init : goal.loop-index-init
+loop-index-init g c = record {
+  end = c.count-index-end.ensures;
+  written = Drafts-nothing (g.W.Writer.meaning c.args.w.now) c.args.fixups.now;
+  readable = All-nil (IsReadable false c.args.encoding (place_by (known_by g.P.EntryPlaces.places c.args.places)));
+  none = λ e. refl;
+}
 
-pub loop-range-preserved : goal.loop-range-preserved
-loop-range-preserved g c =
-    let xs = c.args.ranges.now in
-    let w = c.args.address_size in
-    let i = c.loop-range.range-index in
-    let base = c.loop-range.base in
-    let d = built.BaseAddress (addresses.Constant 0) in
-    let x = get_or xs i d in
-    let below : i < length xs = c.loop-range-test.true in
+pub loop-index-preserved : goal.loop-index-preserved
+loop-index-preserved g c =
+    let v = c.args.encoding in
+    let parts = g.L.ItemList.parts c.args.list.now in
+    let known = known_by g.P.EntryPlaces.places c.args.places in
+    let place = place_by known in
+    let k = kinds_of g.L.ItemList.is_location in
     let plain = (g.W.Writer.meaning c.args.w.now).is_plain in
-    let numbers : IsNone (numbers_fail plain w x) = subst (λ p. IsNone (numbers_fail p w x)) c.loop-range.invariant.written.same.kind c.in_ok-write_old.ensures.sound in
-    let here : IsNone (old_fails base plain w x) = neither_cause (form_fails base w x) (numbers_fail plain w x) c.in_ok-check_form.ensures.sound numbers in
+    let i = c.loop-index.index in
+    let d : Part = record { range = None; expression = None } in
+    let x = get_or parts i d in
+    let below : i < length parts = omega (arith, c.loop-index-test.true, c.loop-index.invariant.end) in
+    let base = c.loop-index.base in
+    let there = read_there parts i d below in
+    let ok = rw (c.range-range.ensures, c.expression-expression.ensures) at c.in_ok-write_old_part.ensures.ok in
+    let readable = rw c.expression-expression.ensures at c.in_ok-write_old_part.ensures.readable in
+    let sound = rw (c.range-range.ensures, c.expression-expression.ensures) at c.in_ok-write_old_part.ensures.sound in
+    let behind = rw c.range-range.ensures at c.has_base_after-base.ensures in
+    let none : IsNone (old_fails v known plain base x) = subst (λ p. IsNone (old_fails v known p base x)) c.loop-index.invariant.written.text.same.kind sound in
     record {
-      written = written-more (range_piece false w) xs i x below (read_there xs i d below) c.loop-range.invariant.written c.in_ok-write_old.ensures.ok;
-      none = λ e. c.loop-range.invariant.none e ∙ old_more base plain w xs i d below here e ∙ ap (λ b. old_list_fails b plain w (drop (i + 1) xs) e) (sym c.has_base_after-base.ensures);
+      end = c.loop-index.invariant.end;
+      written = Drafts-more (part_draft false v place k) parts i x below there c.loop-index.invariant.written (Drafts-is ok (without_kinds v place range_kinds k x));
+      readable = All-more (IsReadable false v place) parts i x below there c.loop-index.invariant.readable readable;
+      none = λ e. c.loop-index.invariant.none e ∙ old_more v known base plain parts i d below none e ∙ ap (λ b. old_list_fails v known plain b (drop (i + 1) parts) e) (sym behind);
     }
 
-pub returns-in_err-check_form-clause-err : goal.returns-in_err-check_form-clause-err
-returns-in_err-check_form-clause-err g c =
-    let xs = c.args.ranges.now in
-    let below : c.loop-range.range-index < length xs = c.loop-range-test.true in
-    let m = g.W.Writer.meaning c.loop-range.w in
+pub returns-in_err-write_old_part-clause-err : goal.returns-in_err-write_old_part-clause-err
+returns-in_err-write_old_part-clause-err g c =
+    let v = c.args.encoding in
+    let parts = g.L.ItemList.parts c.args.list.now in
+    let known = known_by g.P.EntryPlaces.places c.args.places in
+    let place = place_by known in
+    let k = kinds_of g.L.ItemList.is_location in
+    let plain = (g.W.Writer.meaning c.args.w.now).is_plain in
+    let i = c.loop-index.index in
+    let d : Part = record { range = None; expression = None } in
+    let x = get_or parts i d in
+    let below : i < length parts = omega (arith, c.loop-index-test.true, c.loop-index.invariant.end) in
     let p = err_from_is_err_and c.from_residual.result c.from_residual.ensures.1 in
-    rw (p.1, p.2) (old_form_refused (g.W.Writer.meaning c.args.w.now) m m c.args.has_base c.loop-range.base c.args.address_size xs c.loop-range.range-index c.loop-range.invariant.written.same c.loop-range.invariant.none
-    (built.BaseAddress (addresses.Constant 0)) below refl c.in_err-check_form.field-0.0 c.in_err-check_form.ensures.err)
+    let refused = rw (c.range-range.ensures, c.expression-expression.ensures) at c.in_err-write_old_part.ensures.err in
+    rw (p.1, p.2) (old_part_refused (g.W.Writer.meaning c.args.w.now) (g.W.Writer.meaning c.loop-index.w) (g.W.Writer.meaning c.write_old_part.new.w) v known c.args.has_base c.loop-index.base parts i
+    c.loop-index.invariant.written.text.same c.loop-index.invariant.none d below c.in_err-write_old_part.field-0.0 refused)
 
-pub returns-in_err-write_old-clause-err : goal.returns-in_err-write_old-clause-err
-returns-in_err-write_old-clause-err g c =
-    let xs = c.args.ranges.now in
-    let below : c.loop-range.range-index < length xs = c.loop-range-test.true in
-    let p = err_from_is_err_and c.from_residual-in_err-write_old.result c.from_residual-in_err-write_old.ensures.1 in
-    rw (p.1, p.2) (old_numbers_refused (g.W.Writer.meaning c.args.w.now) (g.W.Writer.meaning c.loop-range.w) (g.W.Writer.meaning c.write_old.new.w) c.args.has_base c.loop-range.base c.args.address_size xs c.loop-range.range-index c.loop-range.invariant.written.same c.loop-range.invariant.none
-    (built.BaseAddress (addresses.Constant 0)) below c.in_err-write_old.field-0.0 c.in_err-write_old.ensures.err)
+pub returns-in_err-write_old_part-clause-same : goal.returns-in_err-write_old_part-clause-same
+returns-in_err-write_old_part-clause-same g c = IsSameWriter-trans c.loop-index.invariant.written.text.same c.in_err-write_old_part.ensures.same
 
 pub returns-clause-ok : goal.returns-clause-ok
 returns-clause-ok g c =
-    let xs = c.args.ranges.now in
-    let w = c.args.address_size in
-    let all = list_is false w xs c.loop-range.range-index c.loop-range-test.false in
+    let v = c.args.encoding in
+    let parts = g.L.ItemList.parts c.args.list.now in
+    let known = known_by g.P.EntryPlaces.places c.args.places in
+    let place = place_by known in
+    let k = kinds_of g.L.ItemList.is_location in
+    let plain = (g.W.Writer.meaning c.args.w.now).is_plain in
+    let i = c.loop-index.index in
+    let d : Part = record { range = None; expression = None } in
+    let x = get_or parts i d in
+    let past : length parts ≤ i = omega (arith, c.loop-index-test.false, c.loop-index.invariant.end) in
+    let w = v.address_size in
     OnOk-both c.write_udata-2.result c.write_udata-2.ensures.fits c.write_udata-2.ensures.ok
-    (λ fits p. written-is _ _ (written-both c.loop-range.invariant.written (written-is _ _ (written-both (written-number w 0 c.in_ok-write_udata.ensures.fits c.in_ok-write_udata.ensures.ok) (written-number w 0 fits p)) (old_close_is w))) all)
+    (λ fits p. Drafts-is (Drafts-then c.loop-index.invariant.written (Drafts-whole c.loop-index.fixups (Appends-then (written-number w 0 c.in_ok-write_udata.ensures.fits c.in_ok-write_udata.ensures.ok) (written-number w 0 fits p)))) (list_is false v place k parts i past))
+
+pub returns-clause-readable : goal.returns-clause-readable
+returns-clause-readable g c =
+    let v = c.args.encoding in
+    let parts = g.L.ItemList.parts c.args.list.now in
+    let known = known_by g.P.EntryPlaces.places c.args.places in
+    let place = place_by known in
+    let k = kinds_of g.L.ItemList.is_location in
+    let plain = (g.W.Writer.meaning c.args.w.now).is_plain in
+    let i = c.loop-index.index in
+    let d : Part = record { range = None; expression = None } in
+    let x = get_or parts i d in
+    let past : length parts ≤ i = omega (arith, c.loop-index-test.false, c.loop-index.invariant.end) in
+    OnOk-map c.write_udata-2.result c.write_udata-2.ensures.ok (λ p. subst (AreReadable false v place) (take_all i parts past) c.loop-index.invariant.readable)
 
 pub returns-clause-sound : goal.returns-clause-sound
 returns-clause-sound g c =
-    let m = g.W.Writer.meaning c.loop-range.w in
+    let v = c.args.encoding in
+    let parts = g.L.ItemList.parts c.args.list.now in
+    let known = known_by g.P.EntryPlaces.places c.args.places in
+    let place = place_by known in
+    let k = kinds_of g.L.ItemList.is_location in
+    let plain = (g.W.Writer.meaning c.args.w.now).is_plain in
+    let i = c.loop-index.index in
+    let d : Part = record { range = None; expression = None } in
+    let x = get_or parts i d in
+    let past : length parts ≤ i = omega (arith, c.loop-index-test.false, c.loop-index.invariant.end) in
+    let m = g.W.Writer.meaning c.loop-index.w in
     OnOk-map c.write_udata-2.result c.write_udata-2.ensures.fits
-    (λ fits. old_none (g.W.Writer.meaning c.args.w.now) m m c.args.has_base c.loop-range.base c.args.address_size c.args.ranges.now c.loop-range.range-index c.loop-range.invariant.written.same c.loop-range.invariant.none c.loop-range-test.false fits.0)
+    (λ fits. old_none (g.W.Writer.meaning c.args.w.now) m m v known c.args.has_base c.loop-index.base parts i c.loop-index.invariant.written.text.same c.loop-index.invariant.none past fits.0)
 
 pub returns-in_err-write_udata-clause-err : goal.returns-in_err-write_udata-clause-err
 returns-in_err-write_udata-clause-err g c =
+    let v = c.args.encoding in
+    let parts = g.L.ItemList.parts c.args.list.now in
+    let known = known_by g.P.EntryPlaces.places c.args.places in
+    let place = place_by known in
+    let k = kinds_of g.L.ItemList.is_location in
+    let plain = (g.W.Writer.meaning c.args.w.now).is_plain in
+    let i = c.loop-index.index in
+    let d : Part = record { range = None; expression = None } in
+    let x = get_or parts i d in
+    let past : length parts ≤ i = omega (arith, c.loop-index-test.false, c.loop-index.invariant.end) in
     let p = err_from_is_err_and c.from_residual-in_err-write_udata.result c.from_residual-in_err-write_udata.ensures.1 in
-    rw (p.1, p.2) (old_close_refused (g.W.Writer.meaning c.args.w.now) (g.W.Writer.meaning c.loop-range.w) (g.W.Writer.meaning c.write_udata.new.self) c.args.has_base c.loop-range.base c.args.address_size c.args.ranges.now c.loop-range.range-index c.loop-range.invariant.written.same c.loop-range.invariant.none
-    c.loop-range-test.false c.in_err-write_udata.field-0.0 c.in_err-write_udata.ensures.err)
+    rw (p.1, p.2) (old_close_refused (g.W.Writer.meaning c.args.w.now) (g.W.Writer.meaning c.loop-index.w) (g.W.Writer.meaning c.write_udata.new.self) v known c.args.has_base c.loop-index.base parts i
+    c.loop-index.invariant.written.text.same c.loop-index.invariant.none past c.in_err-write_udata.field-0.0 c.in_err-write_udata.ensures.err)
+
+pub returns-in_err-write_udata-clause-same : goal.returns-in_err-write_udata-clause-same
+returns-in_err-write_udata-clause-same g c = IsSameWriter-trans c.loop-index.invariant.written.text.same c.in_err-write_udata.ensures.same
 
 pub returns-clause-err : goal.returns-clause-err
 returns-clause-err g c =
-    let after = IsSameWriter-trans c.loop-range.invariant.written.same c.in_ok-write_udata.ensures.ok.same in
+    let v = c.args.encoding in
+    let parts = g.L.ItemList.parts c.args.list.now in
+    let known = known_by g.P.EntryPlaces.places c.args.places in
+    let place = place_by known in
+    let k = kinds_of g.L.ItemList.is_location in
+    let plain = (g.W.Writer.meaning c.args.w.now).is_plain in
+    let i = c.loop-index.index in
+    let d : Part = record { range = None; expression = None } in
+    let x = get_or parts i d in
+    let past : length parts ≤ i = omega (arith, c.loop-index-test.false, c.loop-index.invariant.end) in
+    let after = IsSameWriter-trans c.loop-index.invariant.written.text.same c.in_ok-write_udata.ensures.ok.same in
     IfErr-map c.write_udata-2.result c.write_udata-2.ensures.err
-    (old_close_refused (g.W.Writer.meaning c.args.w.now) (g.W.Writer.meaning c.write_udata.new.self) (g.W.Writer.meaning c.write_udata-2.new.self) c.args.has_base c.loop-range.base c.args.address_size c.args.ranges.now c.loop-range.range-index after c.loop-range.invariant.none c.loop-range-test.false)
+    (old_close_refused (g.W.Writer.meaning c.args.w.now) (g.W.Writer.meaning c.write_udata.new.self) (g.W.Writer.meaning c.write_udata-2.new.self) v known c.args.has_base c.loop-index.base parts i after c.loop-index.invariant.none past)
+
+pub returns-clause-same : goal.returns-clause-same
+returns-clause-same g c = IsSameWriter-trans c.loop-index.invariant.written.text.same (IsSameWriter-trans c.in_ok-write_udata.ensures.same c.write_udata-2.ensures.same)

@@ -1,40 +1,65 @@
-use Rattle.std.proofs.Common.{◌∙◌, ◌+◌, ap, true, arith}
+use Rattle.std.proofs.Common.{◌∙◌, ◌<◌, ◌+◌, ap, map, length, true, arith}
+use Rattle.std.proofs.lemmas.List.{length-map}
 use Rattle.std.proofs.lemmas.Result.{err_from_is_err_and}
-use Rattle.dw_lists.specs.Texts.{lists_piece}
+use Rattle.std.proofs.lemmas.Bool.{or_left}
+use Rattle.dw_expr.specs.Places.{known_by, place_by}
+use Rattle.dw_lists.specs.Kinds.{kinds_of}
+use Rattle.dw_lists.specs.Texts.{lists_draft}
+use Rattle.dw_lists.specs.Causes.{lists_unsized_in, size_fails}
+use Rattle.dw_lists.proofs.Causes.{map_there}
 use Rattle.dw_lists.proofs.Tables.{places_more, end_more, end_within}
+use Rattle.dw_lists.proofs.TableCauses.{list_unsized, memory_or}
 use Rattle.dw_lists.proofs.Refusals.{passes}
 use Rattle.dw_lists.proofs.lists.entries.Goals as goal
 
 pub loop-list-preserved : goal.loop-list-preserved
-loop-list-preserved c =
-    let xs = c.args.lists.now in
-    let w = c.args.address_size in
+loop-list-preserved g c =
+    let f = g.L.ItemList.parts in
+    let v = c.args.encoding in
+    let xs = map f c.args.lists.now in
+    let place = place_by (known_by g.P.EntryPlaces.places c.args.places) in
+    let k = kinds_of g.L.ItemList.is_location in
     let i = c.loop-list.list-index in
-    let x = c.list-item.result in
-    let below = c.loop-list-test.true in
-    let size = rw c.items.ensures at c.in_ok-size.ensures.ok in
-    let further = c.in_ok-at.ensures.ok ∙ ap (λ n. c.loop-list.at + n) size in
+    let x = f c.list-item.result in
+    let below : i < length xs = omega (arith, c.loop-list-test.true, length-map c.args.lists.now f) in
+    let is = map_there f c.args.lists.now i c.list-item.result c.loop-list-test.true c.list-item.is in
+    let further = c.in_ok-at.ensures.ok ∙ ap (λ n. c.loop-list.at + n) c.in_ok-size.ensures.ok in
     record {
-      places = places_more true w xs i x below c.list-item.is c.loop-list.at c.in_ok-at.at further c.loop-list.all.items _ _ c.in_ok-push.ensures.items c.loop-list.invariant.places;
-      end = end_more true w xs i x below c.list-item.is c.loop-list.at c.in_ok-at.at further _ c.loop-list.invariant.end;
+      places = places_more true v place k xs i x below is c.loop-list.at c.in_ok-at.at further c.loop-list.all.items _ _ c.in_ok-push.ensures.items c.loop-list.invariant.places;
+      end = end_more true v place k xs i x below is c.loop-list.at c.in_ok-at.at _ further c.loop-list.invariant.end;
     }
 
 pub returns-in_err-size-clause-err : goal.returns-in_err-size-clause-err
-returns-in_err-size-clause-err c =
-    let xs = c.args.lists.now in
-    let w = c.args.address_size in
-    let total = c.args.start + (lists_piece true w xs).size in
+returns-in_err-size-clause-err g c =
+    let f = g.L.ItemList.parts in
+    let v = c.args.encoding in
+    let xs = map f c.args.lists.now in
+    let known = known_by g.P.EntryPlaces.places c.args.places in
+    let place = place_by known in
+    let k = kinds_of g.L.ItemList.is_location in
+    let i = c.loop-list.list-index in
+    let x = f c.list-item.result in
+    let below : i < length xs = omega (arith, c.loop-list-test.true, length-map c.args.lists.now f) in
+    let is = map_there f c.args.lists.now i c.list-item.result c.loop-list-test.true c.list-item.is in
+    let total = c.args.start + (lists_draft true v place k xs).size in
+    let within = end_within true v place k xs i x below is c.loop-list.at total c.loop-list.invariant.end in
     let p = err_from_is_err_and c.from_residual-in_err-size.result c.from_residual-in_err-size.ensures.1 in
-    let refused = rw c.items.ensures at c.in_err-size.ensures.err in
-    let within = end_within true w xs c.loop-list.list-index c.list-item.result c.loop-list-test.true c.list-item.is c.loop-list.at total c.loop-list.invariant.end in
-    rw (p.1, p.2) (passes _ total c.in_err-size.field-0.0 refused (omega (arith, within)))
+    rw (p.1, p.2) (memory_or (lists_unsized_in v known total xs) c.in_err-size.field-0.0 (list_unsized v known _ total xs i x below is (omega (arith, within)) c.in_err-size.field-0.0 c.in_err-size.ensures.err))
 
 pub returns-in_err-at-clause-err : goal.returns-in_err-at-clause-err
-returns-in_err-at-clause-err c =
-    let xs = c.args.lists.now in
-    let w = c.args.address_size in
-    let total = c.args.start + (lists_piece true w xs).size in
+returns-in_err-at-clause-err g c =
+    let f = g.L.ItemList.parts in
+    let v = c.args.encoding in
+    let xs = map f c.args.lists.now in
+    let known = known_by g.P.EntryPlaces.places c.args.places in
+    let place = place_by known in
+    let k = kinds_of g.L.ItemList.is_location in
+    let i = c.loop-list.list-index in
+    let x = f c.list-item.result in
+    let below : i < length xs = omega (arith, c.loop-list-test.true, length-map c.args.lists.now f) in
+    let is = map_there f c.args.lists.now i c.list-item.result c.loop-list-test.true c.list-item.is in
+    let total = c.args.start + (lists_draft true v place k xs).size in
+    let within = end_within true v place k xs i x below is c.loop-list.at total c.loop-list.invariant.end in
     let p = err_from_is_err_and c.from_residual-in_err-at.result c.from_residual-in_err-at.ensures.1 in
-    let size = rw c.items.ensures at c.in_ok-size.ensures.ok in
-    let within = end_within true w xs c.loop-list.list-index c.list-item.result c.loop-list-test.true c.list-item.is c.loop-list.at total c.loop-list.invariant.end in
-    rw (p.1, p.2) (passes _ total c.in_err-at.field-0.0 c.in_err-at.ensures.err (omega (arith, within, size)))
+    rw (p.1, p.2) (memory_or (lists_unsized_in v known total xs) c.in_err-at.field-0.0
+    (or_left (size_fails total c.in_err-at.field-0.0) _ (passes _ total c.in_err-at.field-0.0 c.in_err-at.ensures.err (omega (arith, within, c.in_ok-size.ensures.ok)))))

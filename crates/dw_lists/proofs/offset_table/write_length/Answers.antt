@@ -1,7 +1,7 @@
 use Rattle.dw_base.specs.Numbers.{word_of}
 use Rattle.dw_writer.proofs.Outcomes.{OnOk-map, IfErr-map}
 use Rattle.dw_lists.specs.Causes.{Is, length_fails}
-use Rattle.dw_lists.proofs.Pieces.{OnOk-both}
+use Rattle.dw_lists.proofs.Causes.{OnOk-both}
 use Rattle.dw_lists.proofs.Refusals.{length_none, length_refused, refused_after}
 use Rattle.dw_lists.proofs.Tables.{written-length, opened_size}
 use Rattle.dw_lists.proofs.offset_table.write_length.Goals as goal

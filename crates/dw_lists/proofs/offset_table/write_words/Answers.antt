@@ -1,10 +1,11 @@
 use Rattle.std.proofs.Common.{◌∙◌, ◌<◌, length, get_or, refl}
 use Rattle.std.proofs.lemmas.Result.{err_from_is_err_and}
 use Rattle.dw_base.specs.Numbers.{word_of}
-use Rattle.dw_lists.specs.Pieces.{word_piece}
+use Rattle.dw_lists.specs.Pieces.{word_draft}
 use Rattle.dw_lists.specs.Causes.{number_fails}
-use Rattle.dw_lists.proofs.Forms.{any_more, any_ended}
-use Rattle.dw_lists.proofs.Pieces.{written-nothing, written-more, written-number, read_there}
+use Rattle.dw_lists.proofs.Causes.{any_more, any_ended, read_there}
+use Rattle.dw_lists.proofs.Spans.{written-number}
+use Rattle.dw_lists.proofs.Tables.{written-nothing, written-more}
 use Rattle.dw_lists.proofs.Refusals.{number_none, word_refused}
 use Rattle.dw_lists.proofs.offset_table.write_words.Goals as goal
 
@@ -21,7 +22,7 @@ loop-word-preserved g c =
     let fits = rw c.word_size.ensures at c.in_ok-write_udata.ensures.fits in
     let ok = rw c.word_size.ensures at c.in_ok-write_udata.ensures.ok in
     record {
-      written = written-more (word_piece c.args.format) xs i x below (read_there xs i 0 below) c.loop-word.invariant.written (written-number w x fits ok);
+      written = written-more (word_draft c.args.format) xs i x below (read_there xs i 0 below) c.loop-word.invariant.written (written-number w x fits ok);
       none = λ e. c.loop-word.invariant.none e ∙ any_more (number_fails w) xs i x below (read_there xs i 0 below) (number_none w x fits.0 fits.1) e;
     }
 

@@ -1,5 +1,5 @@
 use Rattle.std.proofs.Common.{arith}
-use Rattle.dw_lists.proofs.Pieces.{uleb_short}
+use Rattle.dw_lists.proofs.Spans.{uleb_short}
 use Rattle.dw_lists.proofs.range.Range.new_size.Goals as goal
 
 pub overflow_add-result-in-OffsetPair : goal.overflow_add-result-in-OffsetPair

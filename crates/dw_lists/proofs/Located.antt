@@ -1,0 +1,104 @@
+-- Items with the expressions of locations: their sizes, what is written of them, and why they are refused.
+use Rattle.std.specs.Prelude.{◌≡◌, ℕ, zero, suc, ◌+◌, ◌<◌, ◌^◌, Bool, true, false, List, [], ◌∷◌, length, Option, Some, None, refl, IsTrue}
+use Rattle.std.proofs.Common.{sym, ◌∙◌, ap, subst}
+use Rattle.std.proofs.lemmas.Bool.{leb-false, or_left}
+use Rattle.std.proofs.Math.Path.{fun_ext}
+use Rattle.dw_base.specs.Numbers.{◌>>=◌, num, is_width, fits}
+use Rattle.dw_base.specs.Leb128.{uleb}
+use Rattle.dw_base.specs.declared.common.Encoding.{Encoding}
+use Rattle.dw_base.specs.declared.error.Error.{Error}
+use Rattle.dw_base.specs.declared.error.Error.TheVariants as errors
+use Rattle.dw_writer.specs.Meaning.{Meaning, Adds}
+use Rattle.dw_writer.specs.SectionTexts.{bytes_text}
+use Rattle.dw_writer.proofs.Steps.{Adds-appends}
+use Rattle.dw_writer.specs.Drafts.{whole, then_draft, Drafts}
+use Rattle.dw_writer.specs.declared.fixup.DebugInfoFixup.{DebugInfoFixup}
+use Rattle.dw_writer.proofs.WriteLaws.{Drafts-then, Drafts-whole}
+use Rattle.dw_expr.specs.Trees.{Node}
+use Rattle.dw_expr.specs.Places.{place_by}
+use Rattle.dw_expr.specs.Spelling.{expression_draft, expression_size}
+use Rattle.dw_expr.specs.Causes as expressions
+use Rattle.dw_lists.specs.declared.kinds.Kinds.{Kinds}
+use Rattle.dw_lists.specs.declared.range.Range.{Range}
+use Rattle.dw_lists.specs.Items.{Span, is_five}
+use Rattle.dw_lists.specs.Parts.{Part, part_at, ranges_parts}
+use Rattle.dw_lists.specs.Pieces.{IsWritten}
+use Rattle.dw_lists.specs.Texts.{count_draft, located, part_draft, span_draft, span_in, span_text, span_size}
+use Rattle.dw_lists.specs.Causes.{Refused, Is, IsNone, located_fails, old_span_fails, new_span_fails, old_fails, new_part_fails, form_fails, numbers_fail}
+use Rattle.dw_lists.proofs.Causes.{neither_cause, first_none}
+use Rattle.dw_lists.proofs.Spans.{written-number}
+use Rattle.dw_lists.proofs.TableCauses.{unsized_quiet}
+
+-- Sizes
+
+pub located_sum : (v : Encoding) (place : ℕ → Option ℕ) (x : List Node) → (located true v place (Some x)).size ≡ length (uleb (expression_size v place x)) + expression_size v place x
+unfolding then_draft
+located_sum v place x = refl
+
+pub part_size_is : (v : Encoding) (place : ℕ → Option ℕ) (k : Kinds) (p : Part) (r : Option Range) (x : Option (List Node)) → r ≡ p.range → x ≡ p.expression →
+    span_size true v.address_size r + (located true v place x).size ≡ (part_draft true v place k p).size
+unfolding then_draft
+part_size_is v place k p r x e f = ap (λ s. span_size true v.address_size s + (located true v place x).size) e ∙ ap (λ y. span_size true v.address_size p.range + (located true v place y).size) f
+
+-- an expression that has a size has one of 64 bits
+pub sized_small : (v : Encoding) (known : Option (ℕ → Option ℕ)) (x : List Node) → IsNone (expressions.size_fails v known x) → expression_size v (place_by known) x < 2 ^ 64
+sized_small v known x h =
+    leb-false (2 ^ 64) (expression_size v (place_by known) x)
+    (first_none (expressions.length_fails (expression_size v (place_by known) x)) (expressions.nodes_unplaced v known x) h errors.ValueTooLarge)
+
+-- What is written, and why it isn't
+
+module _ (v : Encoding) (known : Option (ℕ → Option ℕ)) (plain : Bool) where
+  -- why an expression has no size is why it can't be written
+  pub size_located : (old new : Meaning) (five : Bool) (x : List Node) (e : Error) → Is (expressions.size_fails v known x) e → Refused old new (Is (located_fails v known plain five (Some x))) e
+  size_located old new five x errors.NoMemory h = tt
+  size_located old new five x errors.WriteFault h = absurd (unsized_quiet v known old (Some x) h)
+  size_located old new five x e h = or_left _ _ (or_left _ _ h)
+
+  pub old_part_none : (base : Bool) (r : Range) (x : Option (List Node)) → IsNone (form_fails base v.address_size r) → IsNone (numbers_fail plain v.address_size r) → IsNone (located_fails v known plain false x) →
+      IsNone (old_fails v known plain base (record { range = Some r; expression = x }))
+  old_part_none base r x f n h =
+      neither_cause (old_span_fails base plain v.address_size (Some r)) (located_fails v known plain false x)
+      (neither_cause (form_fails base v.address_size r) (numbers_fail plain v.address_size r) f n) h
+
+  pub new_part_none : (r : Option Range) (x : Option (List Node)) → IsNone (new_span_fails plain v.address_size r) → IsNone (located_fails v known plain true x) → IsNone (new_part_fails v known plain (record { range = r; expression = x }))
+  new_part_none r x n h = neither_cause (new_span_fails plain v.address_size r) (located_fails v known plain true x) n h
+
+pub part_drafts : {a b c : Meaning} {x y : List DebugInfoFixup} (five is : Bool) (v : Encoding) (place : ℕ → Option ℕ) (k : Kinds) (r : Option Range) (e : Option (List Node)) → is ≡ five →
+    IsWritten a b (span_draft five k v.address_size r) → Drafts b c x y (located is v place e) → Drafts a c x y (part_draft five v place k (record { range = r; expression = e }))
+part_drafts {a} {b} {c} {x} {y} five is v place k r e same p q = Drafts-then (Drafts-whole x p) (subst (λ i. Drafts b c x y (located i v place e)) same q)
+
+pub located_drafts : {a b c : Meaning} {x y : List DebugInfoFixup} (five : Bool) (v : Encoding) (place : ℕ → Option ℕ) (n : ℕ) (e : List Node) → n ≡ expression_size v place e →
+    IsWritten a b (count_draft five n) → Drafts b c x y (expression_draft v place e) → Drafts a c x y (located five v place (Some e))
+located_drafts {a} {b} {c} {x} {y} five v place n e same p q =
+    let counted : IsWritten a b (count_draft five (expression_size v place e)) = subst (λ m. IsWritten a b (count_draft five m)) same p in
+    Drafts-then (drafts_count five x (expression_size v place e) counted) q
+  where
+    drafts_count : {a b : Meaning} (five : Bool) (x : List DebugInfoFixup) (n : ℕ) → IsWritten a b (count_draft five n) → Drafts a b x x (count_draft five n)
+    drafts_count true x n h = Drafts-whole x h
+    drafts_count false x n h = Drafts-whole x h
+
+-- range lists have no expressions
+pub no_expression : (rs : List Range) (i : ℕ) → (part_at (ranges_parts rs) i).expression ≡ None
+no_expression [] i = refl
+no_expression (r ∷ rs) zero = refl
+no_expression (r ∷ rs) (suc i) = no_expression rs i
+
+-- up to version 4 items have no kinds
+pub without_kinds : (v : Encoding) (place : ℕ → Option ℕ) (j k : Kinds) (p : Part) → part_draft false v place j p ≡ part_draft false v place k p
+without_kinds v place j k p =
+    ap (λ t. then_draft (whole (span_size false v.address_size p.range) t) (located false v place p.expression))
+    (fun_ext (λ big. fun_ext (λ l. by big (span_in false l p.range))))
+  where
+    by : (big : Bool) (o : Option Span) → (o >>= span_text false j big v.address_size) ≡ (o >>= span_text false k big v.address_size)
+    by big None = refl
+    by big (Some s) = refl
+
+-- Lengths of expressions
+
+pub counted_new : {a b : Meaning} (v : Encoding) (n : ℕ) → is_five v ≡ true → Adds a b (uleb n) → IsWritten a b (count_draft (is_five v) n)
+unfolding bytes_text
+counted_new {a} {b} v n five p = subst (λ i. IsWritten a b (count_draft i n)) (sym five) (Adds-appends p)
+
+pub counted_old : {a b : Meaning} (v : Encoding) (n : ℕ) → is_five v ≡ false → IsTrue (is_width 2) × IsTrue (fits 2 n) → Adds a b (num a.is_big 2 n) → IsWritten a b (count_draft (is_five v) n)
+counted_old {a} {b} v n four h p = subst (λ i. IsWritten a b (count_draft i n)) (sym four) (written-number 2 n h p)
