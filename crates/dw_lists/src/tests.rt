@@ -6,6 +6,9 @@ use dw_writer::{EndianVec, Sections};
 use std::alloc::Global;
 use std::test::Fail;
 
+mod locations;
+mod symbols;
+
 const LITTLE: RunTimeEndian = RunTimeEndian::Little;
 
 const BIG: RunTimeEndian = RunTimeEndian::Big;
