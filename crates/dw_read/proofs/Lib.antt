@@ -1,4 +1,9 @@
 pub mod Numbers
+pub mod KindLaws
+pub mod OperandLaws
+pub mod AttributeLaws
+pub mod FormLaws
+pub mod RowLaws
 pub mod Groups
 pub mod Lefts
 pub mod Laws

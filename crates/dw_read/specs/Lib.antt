@@ -3,6 +3,11 @@ pub mod Reading
 pub mod Reasons
 pub mod Numbers
 pub mod Took
+pub mod Kinds
+pub mod Operands
+pub mod FormReasons
+pub mod Attributes
+pub mod Rows
 pub mod Specifications
 pub mod Declarations
 pub mod Tables

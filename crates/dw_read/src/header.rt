@@ -10,21 +10,12 @@ ghost use Rattle.dw_read.specs.Headers.{optional_read};
 ghost use Rattle.dw_read.specs.Fields.{header_of};
 
 use crate::error::{ReadError, ReadResult};
+use crate::fields::Fields;
 use crate::reader::{Reader, is_address_size};
 use dw_base::constants::{
     DW_UT_compile, DW_UT_skeleton, DW_UT_split_compile, DW_UT_split_type, DW_UT_type,
 };
 use dw_base::{DwUt, Encoding, Format};
-
-/// What a header says after its length.
-#[derive(Clone, Copy, Debug, PartialEq, Eq)]
-pub(crate) struct Fields {
-    pub(crate) encoding: Encoding,
-    pub(crate) unit_type: Option<DwUt>,
-    pub(crate) table_offset: usize,
-    pub(crate) identity: Option<u64>,
-    pub(crate) type_offset: Option<usize>,
-}
 
 /// Reads the fields after the length.
 pub(crate) fn read_fields<R: Reader>(input: &mut R, format: Format) -> ReadResult<Fields>

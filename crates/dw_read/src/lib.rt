@@ -4,12 +4,19 @@
 
 mod abbreviation;
 mod abbreviations;
+mod attribute;
+mod attributes;
 mod declaration;
 mod endian_slice;
+mod entries;
+mod entry;
 mod error;
+mod fields;
 mod header;
+mod kind;
 mod leb128;
 mod number;
+mod operand;
 mod reader;
 #[cfg(test)]
 mod tests;
@@ -18,7 +25,10 @@ mod unit_header;
 
 pub use abbreviation::{Abbreviation, AttributeSpecification};
 pub use abbreviations::Abbreviations;
+pub use attribute::Attribute;
 pub use endian_slice::EndianSlice;
+pub use entries::EntriesRaw;
+pub use entry::DebuggingInformationEntry;
 pub use error::{ReadError, ReadResult};
 pub use reader::Reader;
 pub use unit_header::{UnitHeader, UnitHeadersIter};

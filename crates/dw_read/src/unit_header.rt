@@ -7,7 +7,8 @@ ghost use Rattle.dw_read.specs.Headers.{header_read};
 ghost use Rattle.dw_read.specs.UnitHeaders.{IsHeaderRead, ReadsHeader, starts_at};
 
 use crate::error::{ReadError, ReadResult};
-use crate::header::{Fields, read_fields};
+use crate::fields::Fields;
+use crate::header::read_fields;
 use crate::reader::Reader;
 use dw_base::constants::DW_UT_compile;
 use dw_base::{DebugInfoOffset, DwUt, Encoding};
