@@ -4,6 +4,7 @@ pub mod OperandLaws
 pub mod AttributeLaws
 pub mod FormLaws
 pub mod RowLaws
+pub mod ValueLaws
 pub mod Groups
 pub mod Lefts
 pub mod Laws

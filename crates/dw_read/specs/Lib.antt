@@ -7,6 +7,7 @@ pub mod Kinds
 pub mod Operands
 pub mod FormReasons
 pub mod Attributes
+pub mod Values
 pub mod Rows
 pub mod Specifications
 pub mod Declarations

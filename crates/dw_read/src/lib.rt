@@ -5,6 +5,7 @@
 mod abbreviation;
 mod abbreviations;
 mod attribute;
+mod attribute_value;
 mod attributes;
 mod declaration;
 mod endian_slice;
@@ -22,6 +23,7 @@ mod reader;
 mod tests;
 mod text;
 mod unit_header;
+mod value;
 
 pub use abbreviation::{Abbreviation, AttributeSpecification};
 pub use abbreviations::Abbreviations;
@@ -32,3 +34,4 @@ pub use entry::DebuggingInformationEntry;
 pub use error::{ReadError, ReadResult};
 pub use reader::Reader;
 pub use unit_header::{UnitHeader, UnitHeadersIter};
+pub use value::{AttributeValue, Expression};

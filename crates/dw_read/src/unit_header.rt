@@ -11,7 +11,7 @@ use crate::fields::Fields;
 use crate::header::read_fields;
 use crate::reader::Reader;
 use dw_base::constants::DW_UT_compile;
-use dw_base::{DebugInfoOffset, DwUt, Encoding};
+use dw_base::{DebugAbbrevOffset, DebugInfoOffset, DwUt, Encoding};
 
 /// The header of a unit, with what follows it in the unit.
 #[derive(Drop)]
@@ -34,6 +34,21 @@ impl<R: Reader> UnitHeader<R> {
         ensures { result ≡ self.now.fields.encoding }
     {
         self.fields.encoding
+    }
+
+    /// The place of the unit's abbreviation table in `.debug_abbrev`.
+    pub fn debug_abbrev_offset(&self) -> DebugAbbrevOffset
+        ensures { result.0 ≡ self.now.fields.table_offset }
+    {
+        DebugAbbrevOffset(self.fields.table_offset)
+    }
+
+    /// The eight bytes after the offset that some types of unit have: the id of a skeleton or a
+    /// split compile unit, or a type unit's signature.
+    pub fn identity(&self) -> Option<u64>
+        ensures { result ≡ self.now.fields.identity }
+    {
+        self.fields.identity
     }
 
     /// The unit's type. Below version 5 a header tells none, and it is compile.
