@@ -1,0 +1,3 @@
+pub mod LookupLaws
+pub mod RootLaws
+pub mod UnitLaws
