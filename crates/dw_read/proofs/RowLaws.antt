@@ -1,21 +1,27 @@
 -- Rows, from their codes and their attributes.
-use Rattle.std.proofs.Common.{◌≡◌, ◌∙◌, sym, ap, subst, ℕ, Bool, List, Option, Some, None, Ok, Err, ◌⊎◌, inl, inr, refl}
+use Rattle.std.proofs.Common.{◌≡◌, ◌∙◌, sym, ap, subst, ℕ, ◌<◌, ◌≤◌, length, ⊎_elim, Bool, List, Option, Some, None, Ok, Err, ◌⊎◌, inl, inr, refl}
 use borrow.Author.Tests.{ne_eqb}
-use Rattle.dw_base.specs.Numbers.{Parser}
+use Rattle.std.proofs.lemmas.Bool.{cases_lt}
+use Rattle.dw_base.specs.Numbers.{bytes_at}
 use Rattle.dw_base.specs.Leb128.{uleb_at}
 use Rattle.dw_base.specs.Abbreviations.{Specification, Shape, Declaration, shape_of_code}
 use Rattle.dw_base.specs.Entries.{ReadAttribute, ReadEntry, Mark, Open, Null, attributes_at, mark_at}
 use Rattle.dw_base.specs.declared.common.Encoding.{Encoding}
 use Rattle.dw_read.specs.Reading.{Reading, Reads, Refuses, left}
 use Rattle.dw_read.specs.Took.{Took, RefusesOrFull}
-use Rattle.dw_read.specs.Reasons.{uleb_read}
+use Rattle.dw_read.specs.Reasons.{bytes_read, uleb_read}
 use Rattle.dw_read.specs.FormReasons.{attributes_read, mark_read}
 use Rattle.dw_read.specs.Rows.{NoCode}
 use Rattle.dw_read.specs.declared.error.ReadError.{ReadError}
 use Rattle.dw_read.specs.declared.error.ReadError.TheVariants.{NoMemory, UnknownAbbreviation}
 use Rattle.dw_read.proofs.Laws.{refuses, uleb_law}
+use Rattle.dw_read.proofs.Reasoned.{enough}
 use Rattle.dw_read.proofs.Chain.{took, went, went_then, went_order, reads_of}
 use Rattle.dw_read.proofs.FormLaws.{attributes_law, mark_law}
+
+-- so many bytes aren't there
+pub too_short : (n : ℕ) (old : Reading) (e : ReadError) → Refuses (List ℕ) (bytes_at n) (bytes_read n) old e → length (left old) < n
+too_short n old e h = ⊎_elim (λ (l : length (left old) < n). l) (λ (g : n ≤ length (left old)). absurd (enough n old e g h)) (cases_lt (length (left old)) n)
 
 -- a code that can't be read
 pub no_code_read : (table : List Declaration) (old : Reading) (e : ReadError) → uleb_read (left old) ≡ Err e → NoCode table old e

@@ -1,12 +1,13 @@
 -- What calls over the rows of a unit read.
-use Rattle.std.specs.Prelude.{◌≡◌, ◌⊎◌, ℕ, ◌+◌, ◌-◌, ◌^◌, min, List, map, All, Bool, true, false, Option, Some, None, Result, Ok, Err, ℤ, pos}
+use Rattle.std.specs.Prelude.{◌≡◌, ◌⊎◌, ℕ, ◌+◌, ◌-◌, ◌<◌, ◌≤◌, length, ◌^◌, min, List, map, All, Bool, true, false, Option, Some, None, Result, Ok, Err, ℤ, pos}
 use Rattle.std.specs.Borrow.{Bor}
 use Rattle.dw_base.specs.Numbers.{Parser}
 use Rattle.dw_base.specs.Leb128.{uleb_at}
 use Rattle.dw_base.specs.Abbreviations.{Declaration, shape_of_code}
 use Rattle.dw_base.specs.Entries.{ReadAttribute, ReadEntry, Mark, Open, Null, attributes_at, mark_at}
 use Rattle.dw_base.specs.declared.common.Encoding.{Encoding}
-use Rattle.dw_read.specs.Reading.{Reading, Read, Reads, Refuses, left}
+use Rattle.dw_read.specs.Reading.{Reading, Read, Passes, Reads, Refuses, left}
+use Rattle.dw_read.specs.UnitHeaders.{header_size}
 use Rattle.dw_read.specs.Took.{Took}
 use Rattle.dw_read.specs.Reasons.{uleb_read}
 use Rattle.dw_read.specs.Attributes.{attribute_of}
@@ -15,7 +16,7 @@ use Rattle.dw_read.specs.declared.entries.EntriesRaw.{EntriesRaw}
 use Rattle.dw_read.specs.declared.entry.DebuggingInformationEntry.{DebuggingInformationEntry}
 use Rattle.dw_read.specs.declared.unit_header.UnitHeader.{UnitHeader}
 use Rattle.dw_read.specs.declared.error.ReadError.{ReadError}
-use Rattle.dw_read.specs.declared.error.ReadError.TheVariants.{NoMemory}
+use Rattle.dw_read.specs.declared.error.ReadError.TheVariants.{NoMemory, OffsetOutOfBounds}
 
 -- how many lists of children are open after an entry; a count stays at its type's end
 abbrev pub deeper : Bool → ℕ → ℕ
@@ -42,6 +43,19 @@ pub record BeginsAt {R E : Type 0} (reading : R → Reading) (h : UnitHeader R E
   pub fields : u.fields.now ≡ h.fields
   pub start : u.start ≡ h.offset.0
   pub lists : u.open_lists ≡ 0
+
+-- the rows of a unit from an offset on
+pub record BeginsIn {R E : Type 0} (reading : R → Reading) (h : UnitHeader R E) (table : List Declaration) (offset : ℕ) (u : EntriesRaw R E) : Type 0 where
+  pub behind : header_size reading h ≤ offset
+  pub input : Passes (offset - header_size reading h) (reading h.body) (reading u.input)
+  pub declarations : u.abbreviations.now ≡ table
+  pub fields : u.fields.now ≡ h.fields
+  pub start : u.start ≡ h.offset.0
+  pub lists : u.open_lists ≡ 0
+
+-- an offset lies in the header, or past the unit's end
+abbrev pub IsOutside : {R E : Type 0} → (R → Reading) → UnitHeader R E → ℕ → ReadError → Type 0
+IsOutside reading h offset e = (e ≡ OffsetOutOfBounds offset) × ((offset < header_size reading h) ⊎ (length (left (reading h.body)) < offset - header_size reading h))
 
 -- the same unit
 pub record IsSameUnit {R E : Type 0} (old new : EntriesRaw R E) : Type 0 where

@@ -1,5 +1,5 @@
 -- What the walk over the headers of units answers.
-use Rattle.std.specs.Prelude.{◌≡◌, ◌⊎◌, ℕ, ◌+◌, length, true, false, Option, Some, None, Result, Ok, Err}
+use Rattle.std.specs.Prelude.{◌≡◌, ◌⊎◌, ℕ, ◌+◌, ◌-◌, ◌≤◌, ◌<◌, length, true, false, Option, Some, None, Result, Ok, Err}
 use Rattle.dw_base.specs.Headers.{HeaderRead, header_at}
 use Rattle.dw_read.specs.Reading.{Reading, Passes, left}
 use Rattle.dw_read.specs.Headers.{header_read}
@@ -24,6 +24,14 @@ pub record IsHeaderRead {R E : Type 0} (reading : R → Reading) (old new : Read
   pub body : reading h.body ≡ record old { place = old.place + read.size; end = new.place }
   pub entries : left (reading h.body) ≡ read.body
   pub rest : left new ≡ read.rest
+
+-- the bytes of a unit's header, by the place of what follows it
+abbrev pub header_size : {R E : Type 0} → (R → Reading) → UnitHeader R E → ℕ
+header_size reading h = (reading h.body).place - h.offset.0
+
+-- an offset lies behind the header, and in the unit
+abbrev pub IsInside : {R E : Type 0} → (R → Reading) → UnitHeader R E → ℕ → Type 0
+IsInside reading h offset = (header_size reading h ≤ offset) × (offset - header_size reading h < length (left (reading h.body)))
 
 -- the same by the grammar, which the walk goes on from
 pub record PassesUnit {R E : Type 0} (reading : R → Reading) (old new : UnitHeadersIter R E) (h : UnitHeader R E) : Type 0 where

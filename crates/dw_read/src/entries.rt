@@ -2,7 +2,7 @@
 
 ghost use Rattle.std.specs.Prelude.{◌≡◌, ◌↔◌, ◌-◌, IfOk, IfErr, IsTrue, length};
 ghost use Rattle.dw_read.specs.Reading.{left};
-ghost use Rattle.dw_read.specs.Rows.{BeginsAt, deeper, shown_depth};
+ghost use Rattle.dw_read.specs.Rows.{BeginsAt, BeginsIn, IsOutside, deeper, shown_depth};
 ghost use Rattle.dw_read.specs.Rows.{HasCode, NoCode};
 ghost use Rattle.dw_read.specs.Rows.{ReadsAbbreviation, SkipsAttributes, ReadsRow};
 
@@ -42,6 +42,34 @@ impl<'a, R: Reader> EntriesRaw<'a, R> {
         }
     }
 
+    /// The rows of a unit from an offset on, at which a row is to begin. It is an offset into the
+    /// unit, behind its header.
+    pub fn at(
+        header: &'a UnitHeader<R>,
+        abbreviations: &'a Abbreviations,
+        offset: UnitOffset,
+    ) -> ReadResult<EntriesRaw<'a, R>>
+        ensures ok { IfOk result
+            (BeginsIn R.reading header.now abbreviations.now offset.0) }
+        ensures err { IfErr result (IsOutside R.reading header.now offset.0) }
+    {
+        let begin = header.size();
+        if offset.0 < begin {
+            return Err(ReadError::OffsetOutOfBounds(offset.0 as u64));
+        }
+        let mut input = header.body.duplicate();
+        match input.skip(offset.0 - begin) {
+            Ok(()) => Ok(EntriesRaw {
+                input,
+                abbreviations,
+                fields: &header.fields,
+                start: header.offset.0,
+                open_lists: 0,
+            }),
+            Err(_) => Err(ReadError::OffsetOutOfBounds(offset.0 as u64)),
+        }
+    }
+
     /// Whether all rows were read.
     pub fn is_empty(&self) -> bool
         ensures { IsTrue result ↔ (length (left (R.reading self.now.input)) ≡ 0) }
@@ -70,7 +98,7 @@ impl<'a, R: Reader> EntriesRaw<'a, R> {
                 Ok(Some(abbreviation))
             }
             None => {
-                self.open_lists = self.open_lists.saturating_sub(1);
+                self.open_lists = shallower(self.open_lists);
                 self.input = after;
                 Ok(None)
             }
@@ -94,7 +122,7 @@ impl<'a, R: Reader> EntriesRaw<'a, R> {
         let offset = self.next_offset();
         let mut after = self.input.duplicate();
         let Some(abbreviation) = read_code(self.abbreviations, &mut after)? else {
-            self.open_lists = self.open_lists.saturating_sub(1);
+            self.open_lists = shallower(self.open_lists);
             self.input = after;
             return Ok(false);
         };
@@ -143,6 +171,13 @@ fn deeper(has_children: bool, lists: usize) -> usize
     } else {
         lists
     }
+}
+
+/// How many lists of children are open after the zero that closes one.
+fn shallower(lists: usize) -> usize
+    ensures { result ≡ lists - 1 }
+{
+    lists.saturating_sub(1)
 }
 
 /// The depth of a row as callers see it.

@@ -1,17 +1,18 @@
 //! The headers of a section's units, one after the other (DWARF 5, 7.5.1).
 
-ghost use Rattle.std.specs.Prelude.{◌≡◌, IfOk, IfErr, Err, unwrap_or};
+ghost use Rattle.std.specs.Prelude.{◌≡◌, ◌↔◌, IsTrue, IfOk, IfErr, Err, unwrap_or};
 ghost use Rattle.dw_base.specs.declared.constants.TheConstants.{DW_UT_compile};
 ghost use Rattle.dw_read.specs.Reading.{left};
 ghost use Rattle.dw_read.specs.Headers.{header_read};
 ghost use Rattle.dw_read.specs.UnitHeaders.{IsHeaderRead, ReadsHeader, starts_at};
+ghost use Rattle.dw_read.specs.UnitHeaders.{header_size, IsInside};
 
 use crate::error::{ReadError, ReadResult};
 use crate::fields::Fields;
 use crate::header::read_fields;
 use crate::reader::Reader;
 use dw_base::constants::DW_UT_compile;
-use dw_base::{DebugAbbrevOffset, DebugInfoOffset, DwUt, Encoding};
+use dw_base::{DebugAbbrevOffset, DebugInfoOffset, DwUt, Encoding, UnitOffset};
 
 /// The header of a unit, with what follows it in the unit.
 #[derive(Drop)]
@@ -34,6 +35,21 @@ impl<R: Reader> UnitHeader<R> {
         ensures { result ≡ self.now.fields.encoding }
     {
         self.fields.encoding
+    }
+
+    /// The bytes of the header, which are the offset of the unit's first row.
+    pub fn size(&self) -> usize
+        ensures { result ≡ header_size R.reading self.now }
+    {
+        self.body.place().saturating_sub(self.offset.0)
+    }
+
+    /// Whether an offset lies behind the header, and in the unit.
+    pub fn contains(&self, offset: UnitOffset) -> bool
+        ensures { IsTrue result ↔ IsInside R.reading self.now offset.0 }
+    {
+        let begin = self.size();
+        offset.0 >= begin && offset.0 - begin < self.body.len()
     }
 
     /// The place of the unit's abbreviation table in `.debug_abbrev`.

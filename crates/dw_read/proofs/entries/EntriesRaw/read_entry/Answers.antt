@@ -24,7 +24,7 @@ returns-in_default g c =
       record {
         unit = record { table = refl; fields = refl; start = refl };
         row = reads_null (g.R.Reader.reading u.input).is_big u.fields.now.encoding u.abbreviations.now _ _ _ c.duplicate-after.ensures h;
-        lists = c.saturating_sub-self.ensures;
+        lists = c.shallower-self.ensures;
       },
       refl,
     )
