@@ -5,3 +5,4 @@ pub mod Roots
 pub mod RootFields
 pub mod Texts
 pub mod UnitReads
+pub mod Begins

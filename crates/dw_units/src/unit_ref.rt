@@ -1,6 +1,8 @@
 //! A unit with the sections of its file: what operands of its entries lead to.
 
-ghost use Rattle.std.specs.Prelude.{◌≡◌, IfOk, IfErr};
+ghost use Rattle.std.specs.Prelude.{◌≡◌, ◌↔◌, IsTrue, IfOk, IfErr};
+ghost use Rattle.dw_read.specs.UnitHeaders.{IsInside};
+ghost use Rattle.dw_units.specs.Begins.{Begins, BeginsNowhere};
 ghost use Rattle.dw_base.specs.Numbers.{number_at};
 ghost use Rattle.dw_base.specs.Forms.{text_at};
 ghost use Rattle.dw_read.specs.Reading.{left};
@@ -11,9 +13,10 @@ ghost use Rattle.dw_units.specs.Units.{word_in, address_in};
 use crate::dwarf::{Dwarf, Unit};
 use crate::lookup::{indexed_address, indexed_list, indexed_word, text_from};
 use dw_base::{
-    DebugLineStrOffset, DebugStrOffset, Encoding, LocationListsOffset, RangeListsOffset,
+    DebugLineStrOffset, DebugStrOffset, Encoding, LocationListsOffset, RangeListsOffset, UnitOffset,
 };
-use dw_read::{ReadResult, Reader};
+use dw_read::{EntriesRaw, ReadResult, Reader};
+use std::alloc::Global;
 
 /// A unit with the sections of its file.
 #[derive(Drop)]
@@ -29,6 +32,33 @@ impl<'a, R: Reader> UnitRef<'a, R> {
         ensures { result ≡ self.now.unit.now.header.fields.encoding }
     {
         self.unit.header.encoding()
+    }
+
+    /// Whether an offset lies behind the unit's header, and in the unit.
+    pub fn contains(&self, offset: UnitOffset) -> bool
+        ensures { IsTrue result ↔ IsInside R.reading self.now.unit.now.header offset.0 }
+    {
+        self.unit.header.contains(offset)
+    }
+
+    /// The unit's rows: from the first on, or from an offset at which a row begins. They take no
+    /// memory.
+    pub fn entries_raw(
+        &self,
+        _alloc: Global,
+        offset: Option<UnitOffset>,
+    ) -> ReadResult<EntriesRaw<'a, R>>
+        ensures ok { IfOk result (Begins R.reading self.now.unit.now offset) }
+        ensures err { IfErr result (BeginsNowhere R.reading self.now.unit.now offset) }
+    {
+        let unit = self.unit;
+        match offset {
+            Some(offset) => {
+                let rows = EntriesRaw::at(&unit.header, &unit.abbreviations, offset)?;
+                Ok(rows)
+            }
+            None => Ok(EntriesRaw::new(&unit.header, &unit.abbreviations)),
+        }
     }
 
     /// The text at an offset of `.debug_str`.
