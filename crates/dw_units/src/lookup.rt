@@ -37,7 +37,8 @@ pub(crate) fn text_from<R: Reader>(section: &R, offset: usize) -> ReadResult<R>
 /// The word at an offset of a section.
 pub(crate) fn word_from<R: Reader>(section: &R, offset: usize, format: Format) -> ReadResult<usize>
     ensures ok { IfOk result (StandsAt _
-        (number_at (R.reading section.now).is_big (word_of format)) offset (R.reading section.now)) }
+        (number_at (R.reading section.now).is_big (word_of format))
+        offset (R.reading section.now)) }
     ensures err { IfErr result (IsMissing _
         (number_at (R.reading section.now).is_big (word_of format))
         (number_read (R.reading section.now).is_big (word_of format))
