@@ -44,6 +44,13 @@ fn first<'a>(alloc: Global, dwarf: &Dwarf<Little<'a>>) -> ReadResult<Unit<Little
     dwarf.unit(alloc, header)
 }
 
+fn first_value<'a>(
+    entry: &DebuggingInformationEntry<Little<'a>>,
+) -> Result<AttributeValue<Little<'a>>, Fail> {
+    let attribute = entry.attrs.first().ok_or("an attribute")?;
+    Ok(attribute.value())
+}
+
 // Version 4: a root with children, a base type of 4 bytes, a subprogram of that type, a zero.
 const INFO: &[u8] = b"\x10\x00\x00\x00\x04\x00\x00\x00\x00\x00\x04\
     \x01\x02\x04\x03\x0c\x00\x00\x00\x00";
@@ -69,7 +76,7 @@ fn reads_rows_in_order(rt: HostRuntime) -> Result<(), Fail> {
         (12, 1, DW_TAG_base_type)
     );
     assert_eq!(rt;
-        matches!(entry.attrs[0].value(), AttributeValue::Data1(4)),
+        matches!(first_value(&entry)?, AttributeValue::Data1(4)),
         true
     );
     assert_eq!(rt; rows.read_entry(&mut entry)?, true);
@@ -79,7 +86,7 @@ fn reads_rows_in_order(rt: HostRuntime) -> Result<(), Fail> {
     );
     assert_eq!(rt;
         matches!(
-            entry.attrs[0].value(),
+            first_value(&entry)?,
             AttributeValue::UnitRef(UnitOffset(12))
         ),
         true
