@@ -1,4 +1,5 @@
 pub mod Limits
+pub mod Signed
 pub mod Places
 pub mod Cuts
 pub mod Digits

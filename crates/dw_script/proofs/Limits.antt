@@ -1,7 +1,9 @@
 -- Numbers below a limit, and below a smaller one.
-use Rattle.std.proofs.Common.{◌≡◌, ◌∙◌, ℕ, ◌<◌, ◌≤◌, true, Option, Some, None, Result, Ok, Err, option_and_then, nat_lt, ap, sym, arith}
+use Rattle.std.proofs.Common.{◌≡◌, ◌∙◌, ℕ, ◌<◌, ◌≤◌, true, Option, Some, None, Result, Ok, Err, option_and_then, nat_lt, ap, sym, arith, inl, inr}
 use Rattle.std.specs.Result.{OkIff, result_ok}
 use Rattle.std.proofs.lemmas.Option.{cond_some}
+use Rattle.std.proofs.lemmas.Bool.{cases_lt}
+use Rattle.std.proofs.lemmas.Bool.Decides.{nat_tests}
 use Rattle.std.proofs.lemmas.Grind.{common_steps}
 use Rattle.dw_script.specs.Numbers.{below}
 
@@ -13,8 +15,13 @@ below-past limit n h = grind (arith, common_steps)
 pub below-within : (limit n : ℕ) → n < limit → below limit n ≡ Some n
 below-within limit n h = grind (arith, common_steps)
 
+-- and the other way round
+pub past-below : (limit n : ℕ) → below limit n ≡ None → limit ≤ n
+past-below limit n e =
+    elim (cases_lt n limit) [ inl h ↦ absurd (grind (arith, nat_tests, e, h)) | inr h ↦ h ]
+
 -- what was below a limit was the number itself
-below_some : (limit n : ℕ) (number : Option ℕ) → option_and_then (below limit) number ≡ Some n → number ≡ Some n
+pub below_some : (limit n : ℕ) (number : Option ℕ) → option_and_then (below limit) number ≡ Some n → number ≡ Some n
 below_some limit n None e = cc
 below_some limit n (Some m) e = let p : (nat_lt m limit ≡ true) × (m ≡ n) = cond_some _ _ _ e in ap Some p.1
 

@@ -1,6 +1,7 @@
--- Numbers as they are spelled: decimal digits, or `0x` and digits of base 16.
-use Rattle.std.specs.Prelude.{ℕ, ◌+◌, ◌-◌, ◌*◌, ◌^◌, List, [], ◌∷◌, length, drop, Option, Some, None, option_map, option_and_then, nat_lt, nat_le, nat_eq, ◌&&◌, if◌then◌else◌, codes}
+-- Numbers as they are spelled: decimal digits, or `0x` and digits of base 16; `-` before them where they may be below 0.
+use Rattle.std.specs.Prelude.{ℕ, ◌+◌, ◌-◌, ◌*◌, ◌^◌, List, [], ◌∷◌, length, drop, Option, Some, None, option_map, option_and_then, nat_lt, nat_le, nat_eq, ◌&&◌, if◌then◌else◌, codes, ℤ, pos, neg_ℤ}
 use Rattle.std.specs.List.{starts_with}
+use Rattle.dw_base.specs.Leb128.{fits_i64}
 
 -- the number, if it is below the limit
 abbrev pub below : ℕ → ℕ → Option ℕ
@@ -39,3 +40,17 @@ number_of field = if starts_with nat_eq field (codes "0x") then number_in 16 (dr
 -- the number that a field spells, if it is below the limit
 abbrev pub number_below : ℕ → List ℕ → Option ℕ
 number_below limit field = option_and_then (below limit) (number_of field)
+
+-- the number that a field spells, `-` before it where it is below 0
+abbrev pub signed_of : List ℕ → Option ℤ
+signed_of field =
+    if starts_with nat_eq field (codes "-") then option_map (λ n. neg_ℤ (pos n)) (number_of (drop 1 field))
+    else option_map pos (number_of field)
+
+-- the number, if it has a spelling in 64 bits
+abbrev pub within_i64 : ℤ → Option ℤ
+within_i64 z = if fits_i64 z then Some z else None
+
+-- the number from -2^63 to 2^63 - 1 that a field spells
+abbrev pub signed_number : List ℕ → Option ℤ
+signed_number field = option_and_then within_i64 (signed_of field)
