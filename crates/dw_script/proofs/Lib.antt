@@ -4,3 +4,4 @@ pub mod Places
 pub mod Cuts
 pub mod Digits
 mod Worked
+mod WorkedValues

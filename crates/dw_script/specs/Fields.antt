@@ -1,5 +1,6 @@
 -- The typed fields of a line, each read from the front of those that are left.
-use Rattle.std.specs.Prelude.{ℕ, ◌^◌, Bool, true, false, List, [], ◌∷◌, Result, Ok, Err, ok_or, ◌==◌, if◌then◌else◌, bytes_eq, codes}
+use Rattle.std.specs.Prelude.{ℕ, ℤ, ◌^◌, Bool, true, false, List, [], ◌∷◌, Result, Ok, Err, ok_or, ◌==◌, if◌then◌else◌, bytes_eq, codes}
+use Rattle.dw_base.specs.declared.address.Address.{Address}
 use Rattle.dw_base.specs.declared.common.Format.{Format}
 use Rattle.dw_base.specs.declared.common.Format.TheVariants.{Dwarf32, Dwarf64}
 use Rattle.dw_base.specs.declared.endianity.RunTimeEndian.{RunTimeEndian}
@@ -7,7 +8,8 @@ use Rattle.dw_base.specs.declared.endianity.RunTimeEndian.TheVariants.{Little, B
 use Rattle.dw_script.specs.declared.reason.Reason.{Reason}
 use Rattle.dw_script.specs.declared.reason.Reason.TheVariants.{UnknownWord, BadNumber, WrongFields}
 use Rattle.dw_script.specs.declared.word.Word.{Word}
-use Rattle.dw_script.specs.Numbers.{number_below}
+use Rattle.dw_script.specs.Addresses.{address_of}
+use Rattle.dw_script.specs.Numbers.{number_below, signed_number}
 use Rattle.dw_script.specs.Words.{word_of}
 
 -- the fields of a line from some place on
@@ -52,6 +54,20 @@ number_field limit fields = do
   (field, fields) ← next_field fields
   n ← ok_or (number_below limit field) BadNumber
   Ok (n, fields)
+
+-- a number from -2^63 to 2^63 - 1, and the fields after it
+abbrev pub signed_field : Fields → Outcome (ℤ × Fields)
+signed_field fields = do
+  (field, fields) ← next_field fields
+  z ← ok_or (signed_number field) BadNumber
+  Ok (z, fields)
+
+-- an address, and the fields after it
+abbrev pub address_field : Fields → Outcome (Address × Fields)
+address_field fields = do
+  (field, fields) ← next_field fields
+  address ← ok_or (address_of field) BadNumber
+  Ok (address, fields)
 
 -- the width of offsets in bits, and the fields after it
 abbrev pub format_field : Fields → Outcome (Format × Fields)

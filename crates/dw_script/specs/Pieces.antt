@@ -12,6 +12,10 @@ newline = 10
 abbrev pub space : ℕ
 space = 32
 
+-- what stands between the parts of an address
+abbrev pub colon : ℕ
+colon = 58
+
 -- the parts between the separators, some of them empty; with no separator the one part is the whole
 abbrev pub pieces : ℕ → List ℕ → List (List ℕ)
 pieces separator bytes = slice_split (λ b. b == separator) bytes

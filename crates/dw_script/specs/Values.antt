@@ -2,6 +2,8 @@
 use Rattle.std.specs.Prelude.{ℕ, ◌^◌, List, Ok, Err, ok_or}
 use Rattle.dw_base.specs.declared.constants.DwTag.{DwTag}
 use Rattle.dw_base.specs.declared.constants.DwAt.{DwAt}
+use Rattle.dw_script.specs.declared.kind.ConstantKind.{ConstantKind}
+use Rattle.dw_script.specs.declared.kind.ConstantKind.TheVariants as constant
 use Rattle.dw_script.specs.declared.kind.Kind.{Kind}
 use Rattle.dw_script.specs.declared.kind.Kind.TheVariants as kind
 use Rattle.dw_script.specs.declared.reason.Reason.TheVariants.{UnknownWord, BadHex, NotBuilt}
@@ -9,7 +11,7 @@ use Rattle.dw_script.specs.declared.value.Value.{Value}
 use Rattle.dw_script.specs.declared.value.Value.TheVariants as value
 use Rattle.dw_script.specs.Bytes.{hex_bytes}
 use Rattle.dw_script.specs.Codes.{tag_of, attribute_of}
-use Rattle.dw_script.specs.Fields.{Fields, Outcome, ◌>>=◌, next_field, number_field}
+use Rattle.dw_script.specs.Fields.{Fields, Outcome, ◌>>=◌, next_field, number_field, signed_field, flag_field, address_field}
 use Rattle.dw_script.specs.Kinds.{kind_of}
 
 -- a tag, and the fields after it
@@ -40,20 +42,49 @@ kind_field fields = do
   kind ← ok_or (kind_of field) UnknownWord
   Ok (kind, fields)
 
+-- the value that is made of a field, and the fields after it
+abbrev pub made : {T : Type 0} → (T → Value) → Outcome (T × Fields) → Outcome (Value × Fields)
+made make outcome = do
+  (x, fields) ← outcome
+  Ok (make x, fields)
+
+-- a number that the standard gives meanings, and the fields after it
+abbrev pub constant_of_kind : ConstantKind → Fields → Outcome (Value × Fields)
+constant_of_kind constant.Encoding fields = made (λ n. value.Encoding (record { 0 = n })) (number_field (2 ^ 8) fields)
+constant_of_kind constant.DecimalSign fields = made (λ n. value.DecimalSign (record { 0 = n })) (number_field (2 ^ 8) fields)
+constant_of_kind constant.Endianity fields = made (λ n. value.Endianity (record { 0 = n })) (number_field (2 ^ 8) fields)
+constant_of_kind constant.Accessibility fields = made (λ n. value.Accessibility (record { 0 = n })) (number_field (2 ^ 8) fields)
+constant_of_kind constant.Visibility fields = made (λ n. value.Visibility (record { 0 = n })) (number_field (2 ^ 8) fields)
+constant_of_kind constant.Virtuality fields = made (λ n. value.Virtuality (record { 0 = n })) (number_field (2 ^ 8) fields)
+constant_of_kind constant.Language fields = made (λ n. value.Language (record { 0 = n })) (number_field (2 ^ 16) fields)
+constant_of_kind constant.AddressClass fields = made (λ n. value.AddressClass (record { 0 = n })) (number_field (2 ^ 64) fields)
+constant_of_kind constant.IdentifierCase fields = made (λ n. value.IdentifierCase (record { 0 = n })) (number_field (2 ^ 8) fields)
+constant_of_kind constant.CallingConvention fields = made (λ n. value.CallingConvention (record { 0 = n })) (number_field (2 ^ 8) fields)
+constant_of_kind constant.Inline fields = made (λ n. value.Inline (record { 0 = n })) (number_field (2 ^ 8) fields)
+constant_of_kind constant.Ordering fields = made (λ n. value.Ordering (record { 0 = n })) (number_field (2 ^ 8) fields)
+
 -- a value of a kind, and the fields after it
 abbrev pub value_of_kind : Kind → Fields → Outcome (Value × Fields)
-value_of_kind kind.String fields = do
-  (bytes, fields) ← hex_field fields
-  Ok (value.String bytes, fields)
-value_of_kind kind.Udata fields = do
-  (n, fields) ← number_field (2 ^ 64) fields
-  Ok (value.Udata n, fields)
-value_of_kind kind.Data1 fields = do
-  (n, fields) ← number_field (2 ^ 8) fields
-  Ok (value.Data1 n, fields)
-value_of_kind kind.UnitRef fields = do
-  (entry, fields) ← number_field (2 ^ 64) fields
-  Ok (value.UnitRef entry, fields)
+value_of_kind kind.Address fields = made value.Address (address_field fields)
+value_of_kind kind.Block fields = made value.Block (hex_field fields)
+value_of_kind kind.Data1 fields = made value.Data1 (number_field (2 ^ 8) fields)
+value_of_kind kind.Data2 fields = made value.Data2 (number_field (2 ^ 16) fields)
+value_of_kind kind.Data4 fields = made value.Data4 (number_field (2 ^ 32) fields)
+value_of_kind kind.Data8 fields = made value.Data8 (number_field (2 ^ 64) fields)
+value_of_kind kind.Data16 fields = made value.Data16 (number_field (2 ^ 128) fields)
+value_of_kind kind.Sdata fields = made value.Sdata (signed_field fields)
+value_of_kind kind.Udata fields = made value.Udata (number_field (2 ^ 64) fields)
+value_of_kind kind.ImplicitConst fields = made value.ImplicitConst (signed_field fields)
+value_of_kind kind.Flag fields = made value.Flag (flag_field fields)
+value_of_kind kind.FlagPresent fields = Ok (value.FlagPresent, fields)
+value_of_kind kind.UnitRef fields = made value.UnitRef (number_field (2 ^ 64) fields)
+value_of_kind kind.DebugInfoRefSup fields = made (λ n. value.DebugInfoRefSup (record { 0 = n })) (number_field (2 ^ 64) fields)
+value_of_kind kind.DebugMacinfoRef fields = made (λ n. value.DebugMacinfoRef (record { 0 = n })) (number_field (2 ^ 64) fields)
+value_of_kind kind.DebugMacroRef fields = made (λ n. value.DebugMacroRef (record { 0 = n })) (number_field (2 ^ 64) fields)
+value_of_kind kind.DebugTypesRef fields = made (λ n. value.DebugTypesRef (record { 0 = n })) (number_field (2 ^ 64) fields)
+value_of_kind kind.DebugStrRefSup fields = made (λ n. value.DebugStrRefSup (record { 0 = n })) (number_field (2 ^ 64) fields)
+value_of_kind kind.String fields = made value.String (hex_field fields)
+value_of_kind (kind.Constant kind) fields = constant_of_kind kind fields
 value_of_kind kind.Unbuilt fields = Err NotBuilt
 
 -- a value, its kind before it, and the fields after it

@@ -3,17 +3,20 @@
 
 ghost use Rattle.std.specs.Prelude.{◌≡◌, ◌^◌, Ok, Err, MatchResult};
 ghost use Rattle.dw_script.specs.Pieces.{pieces_left};
-ghost use Rattle.dw_script.specs.Fields.{byte_order_field, end_of_fields, flag_field, format_field, next_field, number_field, with_rest, word_field};
+ghost use Rattle.dw_script.specs.Fields.{address_field, byte_order_field, end_of_fields, flag_field, format_field, next_field, number_field, signed_field, with_rest, word_field};
 ghost use Rattle.dw_script.specs.Values.{attribute_field, hex_field, kind_field, tag_field};
 
+use crate::address::parse_address;
 use crate::code::{parse_attribute, parse_tag};
 use crate::hex_bytes::HexBytes;
 use crate::kind::Kind;
-use crate::number::{parse_u8, parse_u16, parse_u64};
+use crate::number::{
+    parse_i64, parse_u8, parse_u16, parse_u32, parse_u64, parse_u128, parse_usize,
+};
 use crate::pieces::Pieces;
 use crate::reason::Reason;
 use crate::word::Word;
-use dw_base::{DwAt, DwTag, Format, RunTimeEndian};
+use dw_base::{Address, DwAt, DwTag, Format, RunTimeEndian};
 
 /// Any field, as it stands.
 pub(crate) fn next_field<'a>(fields: &mut Pieces<'a>) -> Result<&'a [u8], Reason>
@@ -32,12 +35,36 @@ pub(crate) fn next_word(fields: &mut Pieces<'_>) -> Result<Word, Reason>
     Word::read(next_field(fields)?).ok_or(Reason::UnknownWord)
 }
 
+/// A number below 2^128.
+pub(crate) fn next_u128(fields: &mut Pieces<'_>) -> Result<u128, Reason>
+    ensures { with_rest result (pieces_left fields.new) ≡
+        number_field (2 ^ 128) (pieces_left fields.old) }
+{
+    parse_u128(next_field(fields)?).ok_or(Reason::BadNumber)
+}
+
 /// A number below 2^64.
 pub(crate) fn next_u64(fields: &mut Pieces<'_>) -> Result<u64, Reason>
     ensures { with_rest result (pieces_left fields.new) ≡
         number_field (2 ^ 64) (pieces_left fields.old) }
 {
     parse_u64(next_field(fields)?).ok_or(Reason::BadNumber)
+}
+
+/// A place: a number below 2^64.
+pub(crate) fn next_usize(fields: &mut Pieces<'_>) -> Result<usize, Reason>
+    ensures { with_rest result (pieces_left fields.new) ≡
+        number_field (2 ^ 64) (pieces_left fields.old) }
+{
+    parse_usize(next_field(fields)?).ok_or(Reason::BadNumber)
+}
+
+/// A number below 2^32.
+pub(crate) fn next_u32(fields: &mut Pieces<'_>) -> Result<u32, Reason>
+    ensures { with_rest result (pieces_left fields.new) ≡
+        number_field (2 ^ 32) (pieces_left fields.old) }
+{
+    parse_u32(next_field(fields)?).ok_or(Reason::BadNumber)
 }
 
 /// A number below 2^16.
@@ -54,6 +81,22 @@ pub(crate) fn next_u8(fields: &mut Pieces<'_>) -> Result<u8, Reason>
         number_field (2 ^ 8) (pieces_left fields.old) }
 {
     parse_u8(next_field(fields)?).ok_or(Reason::BadNumber)
+}
+
+/// A number from -2^63 to 2^63 - 1.
+pub(crate) fn next_i64(fields: &mut Pieces<'_>) -> Result<i64, Reason>
+    ensures { with_rest result (pieces_left fields.new) ≡
+        signed_field (pieces_left fields.old) }
+{
+    parse_i64(next_field(fields)?).ok_or(Reason::BadNumber)
+}
+
+/// An address, by its number, or by a symbol and an addend.
+pub(crate) fn next_address(fields: &mut Pieces<'_>) -> Result<Address, Reason>
+    ensures { with_rest result (pieces_left fields.new) ≡
+        address_field (pieces_left fields.old) }
+{
+    parse_address(next_field(fields)?).ok_or(Reason::BadNumber)
 }
 
 /// A format, by the bits of its offsets.

@@ -2,6 +2,7 @@
 //! `parsed_line` in `specs/`.
 #![tactic(auto)]
 
+mod address;
 mod change;
 mod code;
 mod command;

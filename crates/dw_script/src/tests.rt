@@ -126,7 +126,7 @@ fn reads_lines(rt: HostRuntime) {
 
 #[test]
 fn reads_entries(rt: HostRuntime) {
-    let rows: [(&[u8], Result<Request, Reason>); 38] = [
+    let rows: [(&[u8], Result<Request, Reason>); 39] = [
         (b"add 0 0 0x34", add(0, 0, 0x34)),
         (b"add 0 0 DW_TAG_variable", add(0, 0, 0x34)),
         (b"add 1 2 DW_TAG_array_type", add(1, 2, 0x01)),
@@ -169,7 +169,8 @@ fn reads_entries(rt: HostRuntime) {
         (b"set 0 0 3 string ", Err(Reason::BadHex)),
         (b"set 0 0 3 string", Err(Reason::WrongFields)),
         (b"set 0 0 3 string 61 62", Err(Reason::WrongFields)),
-        (b"set 0 0 3 address 1", Err(Reason::NotBuilt)),
+        (b"set 0 0 3 block 6", Err(Reason::BadHex)),
+        (b"set 0 0 3 range_ref 1", Err(Reason::NotBuilt)),
         (b"set 0 0 3 info_ref 0 1", Err(Reason::NotBuilt)),
         (b"set 0 0 3 file_index", Err(Reason::NotBuilt)),
         (b"set 0 0 3 frob", Err(Reason::UnknownWord)),
@@ -303,10 +304,8 @@ fn refuses_words_that_are_not_built(rt: HostRuntime) -> Result<(), Fail> {
 }
 
 /// The kinds of values that aren't built.
-const UNBUILT_KINDS: &str = "address block data2 data4 data8 data16 sdata implicit_const exprloc
-flag flag_present info_ref info_ref_sup line_program_ref loc_ref macinfo_ref macro_ref range_ref
-types_ref str_ref str_ref_sup line_str_ref encoding decimal_sign endianity accessibility visibility
-virtuality language address_class identifier_case calling_convention inline ordering file_index";
+const UNBUILT_KINDS: &str = "exprloc info_ref line_program_ref loc_ref range_ref str_ref
+line_str_ref file_index";
 
 /// The fields after a kind that isn't built aren't looked at.
 #[test]
@@ -322,47 +321,255 @@ fn refuses_kinds_that_are_not_built(rt: HostRuntime) -> Result<(), Fail> {
     Ok(())
 }
 
-// The bytes of a string, or a number: in one byte, or in eight, the highest first.
+// The value that a line sets, as it is shown for debugging, or the reason that there is none.
+fn shown(alloc: Global, kind_and_fields: &str) -> Result<String, Fail> {
+    let line = format!(in alloc; "set 0 1 3 {kind_and_fields}")?;
+    match parse_line(line.as_bytes()) {
+        Ok(
+            Some(
+                Command::Change {
+                    change: Change::Set { value, .. },
+                    ..
+                },
+            ),
+        ) => Ok(format!(in alloc; "{value:?}")?),
+        Ok(_) => Ok(String::new(alloc)),
+        Err(reason) => Ok(format!(in alloc; "{}", reason.text())?),
+    }
+}
+
+#[test]
+fn reads_numbers(rt: HostRuntime) -> Result<(), Fail> {
+    let rows = [
+        ("data1 255", "Data1(255)"),
+        ("data1 256", "bad number"),
+        ("data2 65535", "Data2(65535)"),
+        ("data2 0x10000", "bad number"),
+        ("data4 0xFFFFffff", "Data4(4294967295)"),
+        ("data4 4294967296", "bad number"),
+        ("data8 18446744073709551615", "Data8(18446744073709551615)"),
+        ("data8 18446744073709551616", "bad number"),
+        ("data8 -0", "bad number"),
+        ("udata 0x0102", "Udata(258)"),
+        ("udata 18446744073709551616", "bad number"),
+        ("udata", "wrong fields"),
+        ("unit_ref 0x0304", "UnitRef(772)"),
+    ];
+    for (line, want) in rows {
+        assert_eq!(rt; shown(rt.alloc(), line)?.as_str(), want, "at {line}");
+    }
+    Ok(())
+}
+
+/// The greatest number of 128 bits, in both bases, and the one past it.
+#[test]
+fn reads_numbers_of_sixteen_bytes(rt: HostRuntime) -> Result<(), Fail> {
+    let greatest = "Data16(340282366920938463463374607431768211455)";
+    let rows = [
+        ("data16 340282366920938463463374607431768211455", greatest),
+        ("data16 0xffffffffffffffffffffffffffffffff", greatest),
+        (
+            "data16 340282366920938463463374607431768211456",
+            "bad number",
+        ),
+        ("data16 0x100000000000000000000000000000000", "bad number"),
+        (
+            "data16 3402823669209384634633746074317682114550",
+            "bad number",
+        ),
+        (
+            "data16 18446744073709551616",
+            "Data16(18446744073709551616)",
+        ),
+        ("data16 -1", "bad number"),
+        ("data16 0X1", "bad number"),
+    ];
+    for (line, want) in rows {
+        assert_eq!(rt; shown(rt.alloc(), line)?.as_str(), want, "at {line}");
+    }
+    Ok(())
+}
+
+#[test]
+fn reads_numbers_with_signs(rt: HostRuntime) -> Result<(), Fail> {
+    let rows = [
+        ("sdata 9223372036854775807", "Sdata(9223372036854775807)"),
+        ("sdata 9223372036854775808", "bad number"),
+        ("sdata 18446744073709551616", "bad number"),
+        ("sdata -0x8000000000000000", "Sdata(-9223372036854775808)"),
+        ("sdata -9223372036854775809", "bad number"),
+        ("sdata -18446744073709551616", "bad number"),
+        ("sdata -0", "Sdata(0)"),
+        ("sdata -007", "Sdata(-7)"),
+        ("sdata --1", "bad number"),
+        ("sdata -", "bad number"),
+        ("sdata +1", "bad number"),
+        ("sdata 0x-1", "bad number"),
+        ("sdata -0X1", "bad number"),
+        ("implicit_const -0x10", "ImplicitConst(-16)"),
+        ("implicit_const 1 2", "wrong fields"),
+    ];
+    for (line, want) in rows {
+        assert_eq!(rt; shown(rt.alloc(), line)?.as_str(), want, "at {line}");
+    }
+    Ok(())
+}
+
+#[test]
+fn reads_addresses(rt: HostRuntime) -> Result<(), Fail> {
+    let rows = [
+        ("address 0x1000", "Address(Constant(4096))"),
+        ("address 18446744073709551616", "bad number"),
+        ("address -1", "bad number"),
+        ("address", "wrong fields"),
+        (
+            "address sym:0:-1",
+            "Address(Symbol { symbol: 0, addend: -1 })",
+        ),
+        (
+            "address sym:0:0x10",
+            "Address(Symbol { symbol: 0, addend: 16 })",
+        ),
+        (
+            "address sym:0xa:-0x2",
+            "Address(Symbol { symbol: 10, addend: -2 })",
+        ),
+        ("address sym:18446744073709551616:0", "bad number"),
+        ("address sym:0:9223372036854775808", "bad number"),
+        ("address sym:1", "bad number"),
+        ("address sym:1:", "bad number"),
+        ("address sym::1", "bad number"),
+        ("address sym:", "bad number"),
+        ("address sym", "bad number"),
+        ("address sym:-1:0", "bad number"),
+        ("address sym:1:2:3", "bad number"),
+        ("address sym:1:2:", "bad number"),
+        ("address Sym:1:2", "bad number"),
+        ("address sym:1 2", "bad number"),
+        ("address sym:1:2 3", "wrong fields"),
+    ];
+    for (line, want) in rows {
+        assert_eq!(rt; shown(rt.alloc(), line)?.as_str(), want, "at {line}");
+    }
+    Ok(())
+}
+
+#[test]
+fn reads_flags_and_places(rt: HostRuntime) -> Result<(), Fail> {
+    let rows = [
+        ("flag 0", "Flag(false)"),
+        ("flag 0x01", "Flag(true)"),
+        ("flag 2", "bad number"),
+        ("flag true", "bad number"),
+        ("flag", "wrong fields"),
+        ("flag_present", "FlagPresent"),
+        ("flag_present 1", "wrong fields"),
+        ("info_ref_sup 1", "DebugInfoRefSup(DebugInfoOffset(1))"),
+        ("info_ref_sup 18446744073709551616", "bad number"),
+        (
+            "macinfo_ref 0x1234",
+            "DebugMacinfoRef(DebugMacinfoOffset(4660))",
+        ),
+        ("macinfo_ref", "wrong fields"),
+        ("macro_ref 3", "DebugMacroRef(DebugMacroOffset(3))"),
+        ("macro_ref 3 4", "wrong fields"),
+        (
+            "types_ref 0xffffffffffffffff",
+            "DebugTypesRef(DebugTypeSignature(18446744073709551615))",
+        ),
+        ("types_ref -1", "bad number"),
+        ("str_ref_sup 5", "DebugStrRefSup(DebugStrOffset(5))"),
+        ("str_ref_sup none", "bad number"),
+    ];
+    for (line, want) in rows {
+        assert_eq!(rt; shown(rt.alloc(), line)?.as_str(), want, "at {line}");
+    }
+    Ok(())
+}
+
+#[test]
+fn reads_constants(rt: HostRuntime) -> Result<(), Fail> {
+    let rows = [
+        ("encoding 5", "Encoding(DwAte(5))"),
+        ("decimal_sign 2", "DecimalSign(DwDs(2))"),
+        ("endianity 3", "Endianity(DwEnd(3))"),
+        ("accessibility 1", "Accessibility(DwAccess(1))"),
+        ("visibility 4", "Visibility(DwVis(4))"),
+        ("virtuality 0", "Virtuality(DwVirtuality(0))"),
+        ("language 65535", "Language(DwLang(65535))"),
+        (
+            "address_class 18446744073709551615",
+            "AddressClass(DwAddr(18446744073709551615))",
+        ),
+        ("identifier_case 6", "IdentifierCase(DwId(6))"),
+        ("calling_convention 255", "CallingConvention(DwCc(255))"),
+        ("inline 7", "Inline(DwInl(7))"),
+        ("ordering 8", "Ordering(DwOrd(8))"),
+    ];
+    for (line, want) in rows {
+        assert_eq!(rt; shown(rt.alloc(), line)?.as_str(), want, "at {line}");
+    }
+    Ok(())
+}
+
+/// Each constant of one byte, given 256, and the two wider ones, past their ranges.
+#[test]
+fn refuses_constants_past_their_ranges(rt: HostRuntime) -> Result<(), Fail> {
+    let alloc = rt.alloc();
+    let narrow = "encoding decimal_sign endianity accessibility visibility virtuality
+        identifier_case calling_convention inline ordering";
+    for kind in narrow.split_whitespace() {
+        let line = format!(in alloc; "{kind} 256")?;
+        assert_eq!(rt; shown(alloc, &line)?.as_str(), "bad number", "at {line}");
+    }
+    let rows = [
+        ("language 65536", "bad number"),
+        ("address_class 18446744073709551616", "bad number"),
+        ("encoding DW_ATE_signed", "bad number"),
+        ("encoding", "wrong fields"),
+        ("inline 1 1", "wrong fields"),
+        ("Encoding 1", "unknown word"),
+    ];
+    for (line, want) in rows {
+        assert_eq!(rt; shown(alloc, line)?.as_str(), want, "at {line}");
+    }
+    Ok(())
+}
+
+// The bytes of a string, or of a block.
 fn set_bytes(alloc: Global, line: &[u8]) -> Result<Vec<u8>, Fail> {
-    let mut bytes = Vec::new(alloc);
     if let Ok(
         Some(
             Command::Change {
-                change: Change::Set { value, .. },
+                change: Change::Set {
+                    value: Value::String(spelled) | Value::Block(spelled),
+                    ..
+                },
                 ..
             },
         ),
     ) = parse_line(line)
     {
-        match value {
-            Value::String(spelled) => return Ok(spelled.decode(alloc)?),
-            Value::Udata(n) => bytes.extend_from_slice(&n.to_be_bytes())?,
-            Value::Data1(n) => bytes.push(n)?,
-            Value::UnitRef(entry) => bytes.extend_from_slice(&entry.to_be_bytes())?,
-        }
+        return Ok(spelled.decode(alloc)?);
     }
-    Ok(bytes)
+    Ok(Vec::new(alloc))
 }
 
 #[test]
-fn reads_values(rt: HostRuntime) -> Result<(), Fail> {
-    let alloc = rt.alloc();
-    let rows: [(&[u8], &[u8]); 6] = [
+fn reads_bytes(rt: HostRuntime) -> Result<(), Fail> {
+    let rows: [(&[u8], &[u8]); 5] = [
         (b"set 0 1 3 string 61", b"a"),
         (b"set 0 1 3 string 4a6B00fF", b"Jk\x00\xff"),
         (b"set 0 1 3 string -", b""),
-        (
-            b"set 0 1 3 udata 0x0102",
-            b"\x00\x00\x00\x00\x00\x00\x01\x02",
-        ),
-        (b"set 0 1 3 data1 255", b"\xff"),
-        (
-            b"set 0 1 73 unit_ref 0x0304",
-            b"\x00\x00\x00\x00\x00\x00\x03\x04",
-        ),
+        (b"set 0 1 3 block 00ff10", b"\x00\xff\x10"),
+        (b"set 0 1 3 block -", b""),
     ];
     for (line, want) in rows {
-        assert_eq!(rt; set_bytes(alloc, line)?.as_slice(), want, "at {line:?}");
+        assert_eq!(rt;
+            set_bytes(rt.alloc(), line)?.as_slice(),
+            want,
+            "at {line:?}"
+        );
     }
     Ok(())
 }

@@ -1,0 +1,31 @@
+//! Addresses: numbers, or symbols with an addend.
+
+ghost use Rattle.std.specs.Prelude.{◌≡◌};
+ghost use Rattle.dw_script.specs.Addresses.{address_of, symbol_address};
+ghost use Rattle.dw_script.specs.Pieces.{pieces_left};
+
+use crate::number::{parse_i64, parse_u64, parse_usize};
+use crate::pieces::Pieces;
+use dw_base::Address;
+
+/// The address that a field spells.
+pub(crate) fn parse_address(field: &[u8]) -> Option<Address>
+    ensures { result ≡ address_of field.now }
+{
+    match field {
+        [b's', b'y', b'm', b':', parts @ ..] => parse_symbol(Pieces::new(parts, b':')),
+        _ => Some(Address::Constant(parse_u64(field)?)),
+    }
+}
+
+// The address that a symbol's number and an addend are.
+fn parse_symbol(mut parts: Pieces<'_>) -> Option<Address>
+    ensures { result ≡ symbol_address (pieces_left parts.entry) }
+{
+    let symbol = parse_usize(parts.next()?)?;
+    let addend = parse_i64(parts.next()?)?;
+    match parts.next() {
+        None => Some(Address::Symbol { symbol, addend }),
+        Some(_) => None,
+    }
+}
