@@ -1,6 +1,4 @@
 pub mod Steps
-pub mod StringLaws
-pub mod Placing
 pub mod InstructionLaws
 pub mod RowLaws
 pub mod ProgramLaws

@@ -1,4 +1,3 @@
-pub mod Strings
 pub mod Parts
 pub mod LineMachine
 pub mod Instructions

@@ -6,7 +6,7 @@ use Rattle.dw_base.specs.declared.error.Error.TheVariants.{InvalidReference, Val
 use Rattle.dw_writer.specs.Meaning.{Model}
 use Rattle.dw_writer.specs.Causes.{offset_fits}
 use Rattle.dw_writer.specs.SectionTexts.{offset_text}
-use Rattle.dw_line.specs.Strings.{closed, string_place}
+use Rattle.dw_strings.specs.Strings.{closed, string_place}
 use Rattle.dw_line.specs.declared.line_string.LineString.{LineString}
 use Rattle.dw_line.specs.declared.line_string.LineString.TheVariants.{String, StringRef, LineStringRef}
 use Rattle.dw_line.specs.declared.line_string.FileInfo.{FileInfo}

@@ -14,11 +14,10 @@ ghost use Rattle.dw_line.specs.Parts.{sizes, texts, Refused};
 ghost use Rattle.dw_line.specs.RowTexts.{where_needed};
 
 use crate::line_string::{FileInfo, LineString};
-use crate::line_string_table::LineStringTable;
 use crate::name::write_name;
-use crate::string_table::StringTable;
 use dw_base::constants::DW_FORM_string;
 use dw_base::{DirectoryId, Format, Result};
+use dw_strings::{LineStringTable, StringTable};
 use dw_writer::Writer;
 use std::hash::{Hash, Hasher};
 

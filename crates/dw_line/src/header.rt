@@ -15,14 +15,13 @@ ghost use Rattle.dw_line.specs.RowTexts.{where_needed};
 
 use crate::file::{Columns, FileEntry, write_files};
 use crate::line_string::LineString;
-use crate::line_string_table::LineStringTable;
 use crate::name::write_names;
-use crate::string_table::StringTable;
 use dw_base::constants::{
     DW_FORM_data16, DW_FORM_string, DW_FORM_udata, DW_LNCT_LLVM_source, DW_LNCT_MD5,
     DW_LNCT_directory_index, DW_LNCT_path, DW_LNCT_size, DW_LNCT_timestamp,
 };
 use dw_base::{Encoding, Format, LineEncoding, Result};
+use dw_strings::{LineStringTable, StringTable};
 use dw_writer::Writer;
 
 /// The number of the first special opcode: the standard ones are below it.

@@ -15,13 +15,12 @@ ghost use Rattle.dw_line.specs.ProgramTexts.{directory_index, with_directory, en
 ghost use Rattle.dw_line.specs.declared.line_string.LineString.TheVariants.{String};
 
 use crate::line_string::{FileInfo, LineString};
-use crate::line_string_table::LineStringTable;
 use crate::program::Program;
 use crate::row::LineRow;
-use crate::string_table::StringTable;
 use dw_base::{
     Address, DebugLineOffset, DirectoryId, Encoding, Error, FileId, Format, LineEncoding, Result,
 };
+use dw_strings::{LineStringTable, StringTable};
 use dw_writer::{DebugLine, Writer};
 use std::alloc::Global;
 use std::marker::Model;

@@ -10,9 +10,8 @@ ghost use Rattle.dw_line.specs.Parts.{sizes, texts, Refused};
 ghost use Rattle.dw_line.specs.declared.line_string.LineString.TheVariants.{StringRef, LineStringRef};
 
 use crate::line_string::LineString;
-use crate::line_string_table::LineStringTable;
-use crate::string_table::StringTable;
 use dw_base::{Error, Format, LineStringId, Result, SectionId, StringId};
+use dw_strings::{LineStringTable, StringTable};
 use dw_writer::Writer;
 
 /// Adds the place of a string of `.debug_str`.

@@ -1,7 +1,7 @@
 use Rattle.std.proofs.Common.{◌≡◌, ◌+◌, ◌++◌, [], ◌∷◌, length, rules}
-use Rattle.dw_line.specs.Strings.{AreLaidOut}
-use Rattle.dw_line.proofs.Placing.{added_keys, laid_out_more}
-use Rattle.dw_line.proofs.string_list.StringList.add.Goals as goal
+use Rattle.dw_strings.specs.Strings.{AreLaidOut}
+use Rattle.dw_strings.proofs.Placing.{added_keys, laid_out_more}
+use Rattle.dw_strings.proofs.string_list.StringList.add.Goals as goal
 
 pub invariant_of-self-then-is_new : goal.invariant_of-self-then-is_new
 invariant_of-self-then-is_new c =

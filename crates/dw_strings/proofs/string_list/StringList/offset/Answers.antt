@@ -2,9 +2,9 @@ use Rattle.std.proofs.Common.{◌≡◌, ◌<◌, ◌∙◌, ap, subst, length, 
 use Rattle.std.specs.List.{All}
 use Rattle.std.proofs.lemmas.List.{get_or_default}
 use Rattle.dw_base.specs.Spellable.{IsText}
-use Rattle.dw_line.specs.Strings.{string_place, string_at, string_bytes}
-use Rattle.dw_line.proofs.StringLaws.{string_at-place}
-use Rattle.dw_line.proofs.string_list.StringList.offset.Goals as goal
+use Rattle.dw_strings.specs.Strings.{string_place, string_at, string_bytes}
+use Rattle.dw_strings.proofs.StringLaws.{string_at-place}
+use Rattle.dw_strings.proofs.string_list.StringList.offset.Goals as goal
 
 pub returns-clause-read : goal.returns-clause-read
 returns-clause-read c =

@@ -5,7 +5,7 @@ ghost use Rattle.dw_base.specs.Spellable.{IsText};
 ghost use Rattle.dw_base.specs.declared.error.Error.TheVariants.{NoMemory};
 ghost use Rattle.dw_writer.specs.Meaning.{IsSameWriter, Adds, AddsSome};
 ghost use Rattle.dw_writer.specs.Causes.{BytesRefused};
-ghost use Rattle.dw_line.specs.Strings.{string_at, string_bytes, string_index, string_place, with_string, AllDiffer};
+ghost use Rattle.dw_strings.specs.Strings.{string_at, string_bytes, string_index, string_place, with_string, AllDiffer};
 
 use dw_base::{Error, Result};
 use dw_writer::{Bytes, Writer};
@@ -25,7 +25,7 @@ pub(crate) struct StringList {
 
 impl Model for StringList {
     ghost use Rattle.std.specs.Prelude.{ℕ, List};
-    ghost use Rattle.dw_line.specs.Strings.{AreLaidOut};
+    ghost use Rattle.dw_strings.specs.Strings.{AreLaidOut};
 
     ghost Value = { List (List ℕ) };
 

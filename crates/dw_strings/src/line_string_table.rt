@@ -5,7 +5,7 @@ ghost use Rattle.dw_base.specs.Spellable.{IsText};
 ghost use Rattle.dw_base.specs.declared.error.Error.TheVariants.{NoMemory};
 ghost use Rattle.dw_writer.specs.Meaning.{IsSameWriter, Adds, AddsSome};
 ghost use Rattle.dw_writer.specs.Causes.{BytesRefused};
-ghost use Rattle.dw_line.specs.Strings.{string_at, string_bytes, string_index, string_place, with_string, AllDiffer};
+ghost use Rattle.dw_strings.specs.Strings.{string_at, string_bytes, string_index, string_place, with_string, AllDiffer};
 
 use crate::string_list::StringList;
 use dw_base::{DebugLineStrOffset, LineStringId, Result};

@@ -11,7 +11,7 @@ use Rattle.dw_base.specs.Numbers.{◌>>=◌}
 use Rattle.dw_base.specs.Forms.{text_at}
 use Rattle.dw_base.specs.Spellable.{IsText}
 use Rattle.dw_base.proofs.NumberLaws.{bind_is}
-use Rattle.dw_line.specs.Strings.{is_same_string, closed, string_bytes, string_place, string_at, AllDiffer}
+use Rattle.dw_strings.specs.Strings.{is_same_string, closed, string_bytes, string_place, string_at, AllDiffer}
 
 text-again : (t rest : List ℕ) → IsText t → text_at (t ++ 0 ∷ rest) ≡ Some (t, rest)
 unfolding text_at

@@ -2,9 +2,9 @@ use Rattle.std.proofs.Common.{◌<◌, length, arith}
 use Rattle.dw_writer.proofs.Outcomes.{OnErr-always}
 use Rattle.dw_writer.proofs.Plain.{num-byte}
 use Rattle.dw_writer.proofs.Steps.{Adds-then}
-use Rattle.dw_line.specs.Strings.{closed}
-use Rattle.dw_line.proofs.Steps.{Adds-none, Adds-element, AddsSome-more, AddsSome-then, AddsSome-element}
-use Rattle.dw_line.proofs.string_list.write_strings.Goals as goal
+use Rattle.dw_strings.specs.Strings.{closed}
+use Rattle.dw_strings.proofs.Steps.{Adds-none, Adds-element, AddsSome-more, AddsSome-then, AddsSome-element}
+use Rattle.dw_strings.proofs.string_list.write_strings.Goals as goal
 
 pub loop-string-init : goal.loop-string-init
 loop-string-init g c = Adds-none _

@@ -8,7 +8,7 @@ use Rattle.std.proofs.lemmas.List.{get_or_append_left, take-append-le, append-ni
 use Rattle.std.proofs.lemmas.List.Elements.{All-nil, All-cons, All-append}
 use Rattle.std.proofs.lemmas.List.Concat.{flat_map-append}
 use Rattle.dw_base.specs.Spellable.{IsText}
-use Rattle.dw_line.specs.Strings.{is_same_string, with_string, closed, string_bytes, string_place, AreLaidOut}
+use Rattle.dw_strings.specs.Strings.{is_same_string, with_string, closed, string_bytes, string_place, AreLaidOut}
 
 bytes_more : (ss : List (List ℕ)) (s : List ℕ) → length (string_bytes (ss ++ s ∷ [])) ≡ length (string_bytes ss) + length s + 1
 bytes_more ss s =
