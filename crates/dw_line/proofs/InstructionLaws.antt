@@ -7,6 +7,7 @@ use Rattle.dw_base.specs.Numbers.{◌>>=◌, number_at, num, fits}
 use Rattle.dw_base.specs.Leb128.{uleb_at, uleb, sleb}
 use Rattle.dw_base.proofs.NumberLaws.{bind_is, bytes_at-again, number-fits-again, length-num}
 use Rattle.dw_base.proofs.Leb128Laws.{uleb-again, uleb_short, sleb-again}
+use Rattle.dw_base.specs.declared.constants.TheConstants.{DW_LNS_copy, DW_LNS_advance_pc, DW_LNS_advance_line, DW_LNS_set_file, DW_LNS_set_column, DW_LNS_negate_stmt, DW_LNS_set_basic_block, DW_LNS_const_add_pc, DW_LNS_fixed_advance_pc, DW_LNS_set_prologue_end, DW_LNS_set_epilogue_begin, DW_LNS_set_isa, DW_LNE_end_sequence, DW_LNE_set_address, DW_LNE_set_discriminator}
 use Rattle.dw_line.specs.LineMachine.{LineHeader, Instruction, Copy, AdvancePc, AdvanceLine, SetFile, SetColumn, NegateStatement, SetBasicBlock, ConstAddPc, FixedAdvancePc, SetPrologueEnd, SetEpilogueBegin, SetIsa, Special, EndSequence, SetAddress, SetDiscriminator, Passed}
 use Rattle.dw_line.specs.Instructions.{with, standard_at, extended_of, extended_at, instruction_at, instructions_at, extended_bytes, instruction_bytes, IsSpellable, IsWrittenHeader}
 
@@ -39,7 +40,7 @@ extended_read h code operand rest i short e =
     let e2 = bytes_at-again (code ∷ operand) rest in
     ap (extended_at h) regrouped ∙ bind_is _ _ _ e1 ∙ bind_is _ _ _ e2 ∙ bind_is _ _ _ e
 
-address_of : (h : LineHeader) (w n : ℕ) → IsTrue (fits w n) → extended_of h (0x02 ∷ num h.is_big w n) ≡ Some (SetAddress w n)
+address_of : (h : LineHeader) (w n : ℕ) → IsTrue (fits w n) → extended_of h (DW_LNE_set_address.0 ∷ num h.is_big w n) ≡ Some (SetAddress w n)
 unfolding extended_of
 address_of h w n small =
     let e = number-fits-again h.is_big w n [] small in
@@ -47,33 +48,33 @@ address_of h w n small =
     ap (λ k. number_at h.is_big k (num h.is_big w n) >>= λ x. Some (SetAddress k x.0)) (length-num h.is_big w n)
     ∙ ap (λ bs. number_at h.is_big w bs >>= λ x. Some (SetAddress w x.0)) (sym whole) ∙ bind_is _ _ _ e
 
-discriminator_of : (h : LineHeader) (n : ℕ) → n < 2 ^ 64 → extended_of h (0x04 ∷ uleb n) ≡ Some (SetDiscriminator n)
+discriminator_of : (h : LineHeader) (n : ℕ) → n < 2 ^ 64 → extended_of h (DW_LNE_set_discriminator.0 ∷ uleb n) ≡ Some (SetDiscriminator n)
 unfolding extended_of
 discriminator_of h n small =
     ap (λ bs. uleb_at bs >>= λ x. Some (SetDiscriminator x.0)) (sym (append-nil (uleb n))) ∙ bind_is _ _ _ (uleb-again n [] small)
 
-end_of : (h : LineHeader) → extended_of h (0x01 ∷ []) ≡ Some EndSequence
+end_of : (h : LineHeader) → extended_of h (DW_LNE_end_sequence.0 ∷ []) ≡ Some EndSequence
 unfolding extended_of
 end_of h = refl
 
 pub instruction-again : (h : LineHeader) (i : Instruction) (rest : List ℕ) → IsWrittenHeader h → IsSpellable h i → instruction_at h (instruction_bytes h i ++ rest) ≡ Some (i, rest)
 unfolding standard_at
-instruction-again h Copy rest w s = standard_read h 0x01 rest w (omega arith) (omega arith)
-instruction-again h (AdvancePc n) rest w s = standard_read h 0x02 (uleb n ++ rest) w (omega arith) (omega arith) ∙ with_is AdvancePc _ _ _ (uleb-again n rest s)
-instruction-again h (AdvanceLine z) rest w s = standard_read h 0x03 (sleb z ++ rest) w (omega arith) (omega arith) ∙ with_is AdvanceLine _ _ _ (sleb-again z rest s)
-instruction-again h (SetFile n) rest w s = standard_read h 0x04 (uleb n ++ rest) w (omega arith) (omega arith) ∙ with_is SetFile _ _ _ (uleb-again n rest s)
-instruction-again h (SetColumn n) rest w s = standard_read h 0x05 (uleb n ++ rest) w (omega arith) (omega arith) ∙ with_is SetColumn _ _ _ (uleb-again n rest s)
-instruction-again h NegateStatement rest w s = standard_read h 0x06 rest w (omega arith) (omega arith)
-instruction-again h SetBasicBlock rest w s = standard_read h 0x07 rest w (omega arith) (omega arith)
-instruction-again h ConstAddPc rest w s = standard_read h 0x08 rest w (omega arith) (omega arith)
-instruction-again h (FixedAdvancePc n) rest w s = standard_read h 0x09 (num h.is_big 2 n ++ rest) w (omega arith) (omega arith) ∙ with_is FixedAdvancePc _ _ _ (number-fits-again h.is_big 2 n rest s)
-instruction-again h SetPrologueEnd rest w s = standard_read h 0x0a rest w (omega arith) (omega arith)
-instruction-again h SetEpilogueBegin rest w s = standard_read h 0x0b rest w (omega arith) (omega arith)
-instruction-again h (SetIsa n) rest w s = standard_read h 0x0c (uleb n ++ rest) w (omega arith) (omega arith) ∙ with_is SetIsa _ _ _ (uleb-again n rest s)
+instruction-again h Copy rest w s = standard_read h DW_LNS_copy.0 rest w (omega arith) (omega arith)
+instruction-again h (AdvancePc n) rest w s = standard_read h DW_LNS_advance_pc.0 (uleb n ++ rest) w (omega arith) (omega arith) ∙ with_is AdvancePc _ _ _ (uleb-again n rest s)
+instruction-again h (AdvanceLine z) rest w s = standard_read h DW_LNS_advance_line.0 (sleb z ++ rest) w (omega arith) (omega arith) ∙ with_is AdvanceLine _ _ _ (sleb-again z rest s)
+instruction-again h (SetFile n) rest w s = standard_read h DW_LNS_set_file.0 (uleb n ++ rest) w (omega arith) (omega arith) ∙ with_is SetFile _ _ _ (uleb-again n rest s)
+instruction-again h (SetColumn n) rest w s = standard_read h DW_LNS_set_column.0 (uleb n ++ rest) w (omega arith) (omega arith) ∙ with_is SetColumn _ _ _ (uleb-again n rest s)
+instruction-again h NegateStatement rest w s = standard_read h DW_LNS_negate_stmt.0 rest w (omega arith) (omega arith)
+instruction-again h SetBasicBlock rest w s = standard_read h DW_LNS_set_basic_block.0 rest w (omega arith) (omega arith)
+instruction-again h ConstAddPc rest w s = standard_read h DW_LNS_const_add_pc.0 rest w (omega arith) (omega arith)
+instruction-again h (FixedAdvancePc n) rest w s = standard_read h DW_LNS_fixed_advance_pc.0 (num h.is_big 2 n ++ rest) w (omega arith) (omega arith) ∙ with_is FixedAdvancePc _ _ _ (number-fits-again h.is_big 2 n rest s)
+instruction-again h SetPrologueEnd rest w s = standard_read h DW_LNS_set_prologue_end.0 rest w (omega arith) (omega arith)
+instruction-again h SetEpilogueBegin rest w s = standard_read h DW_LNS_set_epilogue_begin.0 rest w (omega arith) (omega arith)
+instruction-again h (SetIsa n) rest w s = standard_read h DW_LNS_set_isa.0 (uleb n ++ rest) w (omega arith) (omega arith) ∙ with_is SetIsa _ _ _ (uleb-again n rest s)
 instruction-again h (Special n) rest w s = special_read h n rest w
-instruction-again h EndSequence rest w s = extended_read h 0x01 [] rest EndSequence (omega arith) (end_of h)
-instruction-again h (SetAddress size n) rest w s = extended_read h 0x02 (num h.is_big size n) rest (SetAddress size n) (omega (arith, s.0, length-num h.is_big size n)) (address_of h size n s.1)
-instruction-again h (SetDiscriminator n) rest w s = extended_read h 0x04 (uleb n) rest (SetDiscriminator n) (omega (arith, uleb_short n)) (discriminator_of h n s)
+instruction-again h EndSequence rest w s = extended_read h DW_LNE_end_sequence.0 [] rest EndSequence (omega arith) (end_of h)
+instruction-again h (SetAddress size n) rest w s = extended_read h DW_LNE_set_address.0 (num h.is_big size n) rest (SetAddress size n) (omega (arith, s.0, length-num h.is_big size n)) (address_of h size n s.1)
+instruction-again h (SetDiscriminator n) rest w s = extended_read h DW_LNE_set_discriminator.0 (uleb n) rest (SetDiscriminator n) (omega (arith, uleb_short n)) (discriminator_of h n s)
 instruction-again h Passed rest w s = absurd s
 
 -- instructions that are spelled are read again, to the end

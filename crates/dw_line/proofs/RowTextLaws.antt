@@ -3,6 +3,7 @@ use Rattle.std.proofs.Common.{◌≡◌, ◌∙◌, sym, ap, ap₂, ℕ, Option,
 use Rattle.std.specs.Bool.{beq}
 use Rattle.std.specs.List.{flat_map}
 use Rattle.std.proofs.lemmas.List.Concat.{flat_map-append}
+use Rattle.dw_base.specs.declared.constants.TheConstants.{DW_LNS_copy, DW_LNE_end_sequence}
 use Rattle.dw_line.specs.LineMachine.{LineHeader, Instruction, Copy, AdvancePc, AdvanceLine, SetFile, SetColumn, NegateStatement, SetBasicBlock, SetPrologueEnd, SetEpilogueBegin, SetIsa, EndSequence, SetDiscriminator}
 use Rattle.dw_line.specs.Instructions.{extended_bytes, instruction_bytes}
 use Rattle.dw_line.specs.RawRows.{RawRow, given, line_change, row_instructions, end_instructions, rows_instructions}
@@ -15,7 +16,7 @@ given_bytes : {h : LineHeader} {more : List Instruction} {bytes : List ℕ} (b :
 given_bytes {h} {more} {bytes} true i s = record { same = ap (λ bs. instruction_bytes h i ++ bs) s.same }
 given_bytes {h} {more} {bytes} false i s = s
 
-copy_bytes : {h : LineHeader} → Spelled h (Copy ∷ []) (0x01 ∷ [])
+copy_bytes : {h : LineHeader} → Spelled h (Copy ∷ []) (DW_LNS_copy.0 ∷ [])
 copy_bytes {h} = record { same = refl }
 
 pub row_text-is : (h : LineHeader) (old new : RawRow) → row_text h.minimum_length old new ≡ flat_map (instruction_bytes h) (row_instructions h old new)
@@ -33,8 +34,8 @@ row_text-is h old new =
     (given_bytes (not (new.address_offset == old.address_offset)) (AdvancePc ((new.address_offset - old.address_offset) / h.minimum_length)) copy_bytes))))))))) in
     spelled.same
 
-end_bytes : {h : LineHeader} → Spelled h (EndSequence ∷ []) (0x00 ∷ extended_bytes 0x01 [])
-end_bytes {h} = record { same = sym (append-nil (0x00 ∷ extended_bytes 0x01 [])) }
+end_bytes : {h : LineHeader} → Spelled h (EndSequence ∷ []) (0 ∷ extended_bytes DW_LNE_end_sequence.0 [])
+end_bytes {h} = record { same = sym (append-nil (0 ∷ extended_bytes DW_LNE_end_sequence.0 [])) }
 
 end_text-is : (h : LineHeader) (last : RawRow) (end : Option ℕ) → end_text h.minimum_length last.address_offset end ≡ flat_map (instruction_bytes h) (end_instructions h last end)
 end_text-is h last None = refl

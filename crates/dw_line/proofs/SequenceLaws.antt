@@ -11,6 +11,7 @@ use Rattle.dw_base.proofs.NumberLaws.{bind_is, length-num}
 use Rattle.dw_writer.specs.Texts.{Text, followed, num_text, int_text}
 use Rattle.dw_writer.specs.Meaning.{Layout}
 use Rattle.dw_writer.specs.SectionTexts.{address_text}
+use Rattle.dw_base.specs.declared.constants.TheConstants.{DW_LNE_set_address}
 use Rattle.dw_line.specs.LineMachine.{LineHeader, SetAddress}
 use Rattle.dw_line.specs.Instructions.{instruction_bytes, IsWrittenHeader, rows_of}
 use Rattle.dw_line.specs.RawRows.{RawRow, Sequence, first_row, rows_instructions, sequence_instructions, sequences_bytes, shown_sequence, AreRowsAfter, IsAddress, IsSequence, AreSequences}
@@ -53,9 +54,9 @@ address_parts big w (Symbol s addend) l xs e = symbol_parts big w addend (slice_
 
 set_address_bytes : (h : LineHeader) (w n : ℕ) → set_address_prefix w ++ num h.is_big w n ≡ flat_map (instruction_bytes h) (SetAddress w n ∷ [])
 set_address_bytes h w n =
-    ap (λ bs. 0x00 ∷ bs)
-    (append_assoc (uleb (suc w)) (0x02 ∷ []) (num h.is_big w n)
-    ∙ ap (λ k. uleb (suc k) ++ 0x02 ∷ num h.is_big w n) (sym (length-num h.is_big w n)))
+    ap (λ bs. 0 ∷ bs)
+    (append_assoc (uleb (suc w)) (DW_LNE_set_address.0 ∷ []) (num h.is_big w n)
+    ∙ ap (λ k. uleb (suc k) ++ DW_LNE_set_address.0 ∷ num h.is_big w n) (sym (length-num h.is_big w n)))
     ∙ sym (append-nil (instruction_bytes h (SetAddress w n)))
 
 -- the text of a sequence that the machine starts with

@@ -4,6 +4,7 @@ use Rattle.std.specs.Bool.{beq}
 use Rattle.std.specs.List.{list_all, list_any}
 use Rattle.dw_base.specs.Numbers.{is_width, word_of}
 use Rattle.dw_base.specs.declared.common.Encoding.{Encoding}
+use Rattle.dw_base.specs.declared.constants.TheConstants.{DW_FORM_string}
 use Rattle.dw_base.specs.declared.error.Error.{Error}
 use Rattle.dw_base.specs.declared.error.Error.TheVariants.{IncompatibleLineProgramEncoding, UnsupportedVersion, UnsupportedWordSize, NeedVersion, LineStringFormMismatch}
 use Rattle.dw_line.specs.Names.{form_of}
@@ -39,7 +40,7 @@ sources_agree files = elim (first_source files) [ None ↦ true | Some form ↦ 
 
 -- up to version 4 the names are strings; in version 5 those of directories have one form, those of files too, and texts too
 abbrev pub forms_agree : Bool → List LineString → List FileEntry → Bool
-forms_agree true directories files = list_all (has_form 0x08) (drop 1 directories) && list_all (λ f. has_form 0x08 f.name) files
+forms_agree true directories files = list_all (has_form DW_FORM_string.0) (drop 1 directories) && list_all (λ f. has_form DW_FORM_string.0 f.name) files
 forms_agree false directories files =
     list_all (has_form (directory_form directories)) directories && list_all (λ f. has_form (file_form files) f.name) files && sources_agree files
 

@@ -6,6 +6,7 @@ use Rattle.dw_base.specs.Leb128.{uleb}
 use Rattle.dw_base.specs.declared.common.Encoding.{Encoding}
 use Rattle.dw_base.specs.declared.common.Format.{Format}
 use Rattle.dw_base.specs.declared.common.LineEncoding.{LineEncoding}
+use Rattle.dw_base.specs.declared.constants.TheConstants.{DW_LNCT_path, DW_LNCT_directory_index, DW_LNCT_timestamp, DW_LNCT_size, DW_LNCT_MD5, DW_LNCT_LLVM_source, DW_FORM_string, DW_FORM_udata, DW_FORM_data16}
 use Rattle.dw_base.specs.declared.error.Error.{Error}
 use Rattle.dw_base.specs.declared.error.Error.TheVariants.{InitialLengthOverflow}
 use Rattle.dw_writer.specs.SignedNumbers.{twos_complement}
@@ -44,11 +45,11 @@ content_bytes content form = uleb content ++ uleb form
 
 -- directories are names
 abbrev pub directory_formats : ℕ → ℕ → List ℕ
-directory_formats form count = 1 ∷ [] ++ (content_bytes 0x01 form ++ uleb count)
+directory_formats form count = 1 ∷ [] ++ (content_bytes DW_LNCT_path.0 form ++ uleb count)
 
 abbrev pub source_content : Option ℕ → List ℕ
 source_content None = []
-source_content (Some form) = content_bytes 0x2001 form
+source_content (Some form) = content_bytes DW_LNCT_LLVM_source.0 form
 
 -- how many parts files have
 abbrev pub part_count : Columns → ℕ
@@ -58,21 +59,21 @@ part_count c = 2 + flag_byte c.timestamp + flag_byte c.size + flag_byte c.md5 + 
 abbrev pub file_formats : Columns → ℕ → ℕ → List ℕ
 file_formats c form count =
     part_count c ∷ []
-    ++ (content_bytes 0x01 form
-    ++ (content_bytes 0x02 0x0f
-    ++ (where_needed c.timestamp (content_bytes 0x03 0x0f)
-    ++ (where_needed c.size (content_bytes 0x04 0x0f)
-    ++ (where_needed c.md5 (content_bytes 0x05 0x1e)
+    ++ (content_bytes DW_LNCT_path.0 form
+    ++ (content_bytes DW_LNCT_directory_index.0 DW_FORM_udata.0
+    ++ (where_needed c.timestamp (content_bytes DW_LNCT_timestamp.0 DW_FORM_udata.0)
+    ++ (where_needed c.size (content_bytes DW_LNCT_size.0 DW_FORM_udata.0)
+    ++ (where_needed c.md5 (content_bytes DW_LNCT_MD5.0 DW_FORM_data16.0)
     ++ (source_content c.source
     ++ uleb count))))))
 
 -- the form of directories, that of the first one, and that of files' names; with no file they are strings
 abbrev pub directory_form : List LineString → ℕ
-directory_form [] = 0x08
+directory_form [] = DW_FORM_string.0
 directory_form (d ∷ ds) = form_of d
 
 abbrev pub file_form : List FileEntry → ℕ
-file_form [] = 0x08
+file_form [] = DW_FORM_string.0
 file_form (f ∷ fs) = form_of f.name
 
 -- words of w bytes

@@ -2,6 +2,7 @@
 use Rattle.std.specs.Prelude.{◌≡◌, ℕ, zero, suc, ◌+◌, ◌-◌, ◌^◌, ◌<◌, ◌==◌, nat_le, List, [], ◌∷◌, ◌++◌, length, Option, Some, None, IsTrue, slice_index, if◌then◌else◌}
 use Rattle.dw_base.specs.Numbers.{Parser, ◌>>=◌, bytes_at, number_at, num, fits}
 use Rattle.dw_base.specs.Leb128.{uleb_at, sleb_at, uleb, sleb, fits_i64}
+use Rattle.dw_base.specs.declared.constants.TheConstants.{DW_LNS_copy, DW_LNS_advance_pc, DW_LNS_advance_line, DW_LNS_set_file, DW_LNS_set_column, DW_LNS_negate_stmt, DW_LNS_set_basic_block, DW_LNS_const_add_pc, DW_LNS_fixed_advance_pc, DW_LNS_set_prologue_end, DW_LNS_set_epilogue_begin, DW_LNS_set_isa, DW_LNE_end_sequence, DW_LNE_set_address, DW_LNE_set_discriminator}
 use Rattle.dw_line.specs.LineMachine.{LineHeader, Instruction, Copy, AdvancePc, AdvanceLine, SetFile, SetColumn, NegateStatement, SetBasicBlock, ConstAddPc, FixedAdvancePc, SetPrologueEnd, SetEpilogueBegin, SetIsa, Special, EndSequence, SetAddress, SetDiscriminator, Passed, Shown, begin, run}
 
 -- an instruction of an operand that was read
@@ -16,27 +17,27 @@ passed_at (suc n) bytes = uleb_at bytes >>= λ x. passed_at n x.1
 -- a standard instruction, after its opcode
 unfoldable pub standard_at : LineHeader → ℕ → Parser Instruction
 standard_at h opcode bytes =
-    if opcode == 0x01 then Some (Copy, bytes)
-    else if opcode == 0x02 then with AdvancePc (uleb_at bytes)
-    else if opcode == 0x03 then with AdvanceLine (sleb_at bytes)
-    else if opcode == 0x04 then with SetFile (uleb_at bytes)
-    else if opcode == 0x05 then with SetColumn (uleb_at bytes)
-    else if opcode == 0x06 then Some (NegateStatement, bytes)
-    else if opcode == 0x07 then Some (SetBasicBlock, bytes)
-    else if opcode == 0x08 then Some (ConstAddPc, bytes)
-    else if opcode == 0x09 then with FixedAdvancePc (number_at h.is_big 2 bytes)
-    else if opcode == 0x0a then Some (SetPrologueEnd, bytes)
-    else if opcode == 0x0b then Some (SetEpilogueBegin, bytes)
-    else if opcode == 0x0c then with SetIsa (uleb_at bytes)
+    if opcode == DW_LNS_copy.0 then Some (Copy, bytes)
+    else if opcode == DW_LNS_advance_pc.0 then with AdvancePc (uleb_at bytes)
+    else if opcode == DW_LNS_advance_line.0 then with AdvanceLine (sleb_at bytes)
+    else if opcode == DW_LNS_set_file.0 then with SetFile (uleb_at bytes)
+    else if opcode == DW_LNS_set_column.0 then with SetColumn (uleb_at bytes)
+    else if opcode == DW_LNS_negate_stmt.0 then Some (NegateStatement, bytes)
+    else if opcode == DW_LNS_set_basic_block.0 then Some (SetBasicBlock, bytes)
+    else if opcode == DW_LNS_const_add_pc.0 then Some (ConstAddPc, bytes)
+    else if opcode == DW_LNS_fixed_advance_pc.0 then with FixedAdvancePc (number_at h.is_big 2 bytes)
+    else if opcode == DW_LNS_set_prologue_end.0 then Some (SetPrologueEnd, bytes)
+    else if opcode == DW_LNS_set_epilogue_begin.0 then Some (SetEpilogueBegin, bytes)
+    else if opcode == DW_LNS_set_isa.0 then with SetIsa (uleb_at bytes)
     else passed_at (slice_index h.operand_counts (opcode - 1)) bytes
 
 -- an extended instruction, of all its bytes from the code on
 unfoldable pub extended_of : LineHeader → List ℕ → Option Instruction
 extended_of h [] = None
 extended_of h (code ∷ bytes) =
-    if code == 0x01 then Some EndSequence
-    else if code == 0x02 then (number_at h.is_big (length bytes) bytes >>= λ x. Some (SetAddress (length bytes) x.0))
-    else if code == 0x04 then (uleb_at bytes >>= λ x. Some (SetDiscriminator x.0))
+    if code == DW_LNE_end_sequence.0 then Some EndSequence
+    else if code == DW_LNE_set_address.0 then (number_at h.is_big (length bytes) bytes >>= λ x. Some (SetAddress (length bytes) x.0))
+    else if code == DW_LNE_set_discriminator.0 then (uleb_at bytes >>= λ x. Some (SetDiscriminator x.0))
     else Some Passed
 
 -- the same after the zero that marks it: its length, and so many bytes
@@ -68,20 +69,20 @@ abbrev pub extended_bytes : ℕ → List ℕ → List ℕ
 extended_bytes code operand = uleb (suc (length operand)) ++ code ∷ operand
 
 abbrev pub opcode_of : LineHeader → Instruction → ℕ
-opcode_of h Copy = 0x01
-opcode_of h (AdvancePc n) = 0x02
-opcode_of h (AdvanceLine z) = 0x03
-opcode_of h (SetFile n) = 0x04
-opcode_of h (SetColumn n) = 0x05
-opcode_of h NegateStatement = 0x06
-opcode_of h SetBasicBlock = 0x07
-opcode_of h ConstAddPc = 0x08
-opcode_of h (FixedAdvancePc n) = 0x09
-opcode_of h SetPrologueEnd = 0x0a
-opcode_of h SetEpilogueBegin = 0x0b
-opcode_of h (SetIsa n) = 0x0c
+opcode_of h Copy = DW_LNS_copy.0
+opcode_of h (AdvancePc n) = DW_LNS_advance_pc.0
+opcode_of h (AdvanceLine z) = DW_LNS_advance_line.0
+opcode_of h (SetFile n) = DW_LNS_set_file.0
+opcode_of h (SetColumn n) = DW_LNS_set_column.0
+opcode_of h NegateStatement = DW_LNS_negate_stmt.0
+opcode_of h SetBasicBlock = DW_LNS_set_basic_block.0
+opcode_of h ConstAddPc = DW_LNS_const_add_pc.0
+opcode_of h (FixedAdvancePc n) = DW_LNS_fixed_advance_pc.0
+opcode_of h SetPrologueEnd = DW_LNS_set_prologue_end.0
+opcode_of h SetEpilogueBegin = DW_LNS_set_epilogue_begin.0
+opcode_of h (SetIsa n) = DW_LNS_set_isa.0
 opcode_of h (Special n) = h.opcode_base + n
-opcode_of h _ = 0x00
+opcode_of h _ = 0
 
 abbrev pub operand_bytes : LineHeader → Instruction → List ℕ
 operand_bytes h (AdvancePc n) = uleb n
@@ -90,9 +91,9 @@ operand_bytes h (SetFile n) = uleb n
 operand_bytes h (SetColumn n) = uleb n
 operand_bytes h (FixedAdvancePc n) = num h.is_big 2 n
 operand_bytes h (SetIsa n) = uleb n
-operand_bytes h EndSequence = extended_bytes 0x01 []
-operand_bytes h (SetAddress w n) = extended_bytes 0x02 (num h.is_big w n)
-operand_bytes h (SetDiscriminator n) = extended_bytes 0x04 (uleb n)
+operand_bytes h EndSequence = extended_bytes DW_LNE_end_sequence.0 []
+operand_bytes h (SetAddress w n) = extended_bytes DW_LNE_set_address.0 (num h.is_big w n)
+operand_bytes h (SetDiscriminator n) = extended_bytes DW_LNE_set_discriminator.0 (uleb n)
 operand_bytes h _ = []
 
 -- the shortest spelling of an instruction

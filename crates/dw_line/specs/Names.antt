@@ -1,5 +1,6 @@
 -- The names of directories and files, and the texts of files, in a line program's header (DWARF 5, 6.2.4 and 6.2.4.1).
 use Rattle.std.specs.Prelude.{ℕ, Bool, false, not, nat_lt, List, length, Some, None}
+use Rattle.dw_base.specs.declared.constants.TheConstants.{DW_FORM_string, DW_FORM_strp, DW_FORM_line_strp}
 use Rattle.dw_base.specs.declared.section_id.SectionId.TheVariants.{DebugStr, DebugLineStr}
 use Rattle.dw_base.specs.declared.error.Error.{Error}
 use Rattle.dw_base.specs.declared.error.Error.TheVariants.{InvalidReference, ValueTooLarge}
@@ -13,9 +14,9 @@ use Rattle.dw_line.specs.declared.line_string.FileInfo.{FileInfo}
 
 -- string, strp and line_strp (DWARF 5, 7.5.6)
 abbrev pub form_of : LineString → ℕ
-form_of (String s) = 0x08
-form_of (StringRef i) = 0x0e
-form_of (LineStringRef i) = 0x1f
+form_of (String s) = DW_FORM_string.0
+form_of (StringRef i) = DW_FORM_strp.0
+form_of (LineStringRef i) = DW_FORM_line_strp.0
 
 -- nothing is known of a file
 abbrev pub no_info : FileInfo

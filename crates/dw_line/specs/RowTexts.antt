@@ -2,6 +2,7 @@
 use Rattle.std.specs.Prelude.{ℕ, ◌-◌, ◌/◌, ◌≤◌, Bool, true, false, ◌&&◌, not, ◌==◌, List, [], ◌∷◌, ◌++◌, Option, Some, None, IsFalse}
 use Rattle.std.specs.Bool.{beq}
 use Rattle.dw_base.specs.Leb128.{uleb, sleb, fits_i64}
+use Rattle.dw_base.specs.declared.constants.TheConstants.{DW_LNS_copy, DW_LNS_advance_pc, DW_LNS_advance_line, DW_LNS_set_file, DW_LNS_set_column, DW_LNS_negate_stmt, DW_LNS_set_basic_block, DW_LNS_set_prologue_end, DW_LNS_set_epilogue_begin, DW_LNS_set_isa, DW_LNE_end_sequence, DW_LNE_set_discriminator}
 use Rattle.dw_base.specs.declared.error.Error.{Error}
 use Rattle.dw_base.specs.declared.error.Error.TheVariants.{ValueTooLarge}
 use Rattle.dw_writer.specs.Meaning.{Meaning}
@@ -15,17 +16,17 @@ where_needed false bytes = []
 
 abbrev pub row_text : ℕ → RawRow → RawRow → List ℕ
 row_text minimum_length old new =
-    where_needed (not (new.discriminator == 0)) (0 ∷ extended_bytes 0x04 (uleb new.discriminator))
-    ++ (where_needed new.basic_block (0x07 ∷ [])
-    ++ (where_needed new.prologue_end (0x0a ∷ [])
-    ++ (where_needed new.epilogue_begin (0x0b ∷ [])
-    ++ (where_needed (not (beq new.is_statement old.is_statement)) (0x06 ∷ [])
-    ++ (where_needed (not (new.file == old.file)) (0x04 ∷ uleb new.file)
-    ++ (where_needed (not (new.column == old.column)) (0x05 ∷ uleb new.column)
-    ++ (where_needed (not (new.isa == old.isa)) (0x0c ∷ uleb new.isa)
-    ++ (where_needed (not (new.line == old.line)) (0x03 ∷ sleb (line_change old.line new.line))
-    ++ (where_needed (not (new.address_offset == old.address_offset)) (0x02 ∷ uleb ((new.address_offset - old.address_offset) / minimum_length))
-    ++ 0x01 ∷ [])))))))))
+    where_needed (not (new.discriminator == 0)) (0 ∷ extended_bytes DW_LNE_set_discriminator.0 (uleb new.discriminator))
+    ++ (where_needed new.basic_block (DW_LNS_set_basic_block.0 ∷ [])
+    ++ (where_needed new.prologue_end (DW_LNS_set_prologue_end.0 ∷ [])
+    ++ (where_needed new.epilogue_begin (DW_LNS_set_epilogue_begin.0 ∷ [])
+    ++ (where_needed (not (beq new.is_statement old.is_statement)) (DW_LNS_negate_stmt.0 ∷ [])
+    ++ (where_needed (not (new.file == old.file)) (DW_LNS_set_file.0 ∷ uleb new.file)
+    ++ (where_needed (not (new.column == old.column)) (DW_LNS_set_column.0 ∷ uleb new.column)
+    ++ (where_needed (not (new.isa == old.isa)) (DW_LNS_set_isa.0 ∷ uleb new.isa)
+    ++ (where_needed (not (new.line == old.line)) (DW_LNS_advance_line.0 ∷ sleb (line_change old.line new.line))
+    ++ (where_needed (not (new.address_offset == old.address_offset)) (DW_LNS_advance_pc.0 ∷ uleb ((new.address_offset - old.address_offset) / minimum_length))
+    ++ DW_LNS_copy.0 ∷ [])))))))))
 
 -- a change of line is refused where it fits no 64 bits
 abbrev pub LineRefused : Meaning → Meaning → ℕ → ℕ → Error → Type 0
@@ -61,7 +62,7 @@ RowsRefused old new first rows e = BytesRefused old new e
 abbrev pub end_text : ℕ → ℕ → Option ℕ → List ℕ
 end_text minimum_length last None = []
 end_text minimum_length last (Some end) =
-    where_needed (not (end == last)) (0x02 ∷ uleb ((end - last) / minimum_length)) ++ 0x00 ∷ extended_bytes 0x01 []
+    where_needed (not (end == last)) (DW_LNS_advance_pc.0 ∷ uleb ((end - last) / minimum_length)) ++ 0 ∷ extended_bytes DW_LNE_end_sequence.0 []
 
 -- the rows of a sequence and its end
 abbrev pub sequence_rows_text : ℕ → RawRow → List RawRow → Option ℕ → List ℕ

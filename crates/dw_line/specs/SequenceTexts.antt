@@ -4,6 +4,7 @@ use Rattle.dw_base.specs.Leb128.{uleb}
 use Rattle.dw_base.specs.Numbers.{◌>>=◌, fits}
 use Rattle.dw_base.specs.declared.address.Address.{Address}
 use Rattle.dw_base.specs.declared.address.Address.TheVariants.{Constant, Symbol}
+use Rattle.dw_base.specs.declared.constants.TheConstants.{DW_LNE_set_address}
 use Rattle.dw_base.specs.declared.error.Error.{Error}
 use Rattle.dw_base.specs.declared.error.Error.TheVariants.{InvalidAddress, ValueTooLarge}
 use Rattle.dw_writer.specs.Texts.{followed}
@@ -21,7 +22,7 @@ pub record BuiltSequence : Type 0 where
 
 -- what stands before an address of w bytes: the mark of extended instructions, the length and the code
 abbrev pub set_address_prefix : ℕ → List ℕ
-set_address_prefix w = 0x00 ∷ (uleb (suc w) ++ 0x02 ∷ [])
+set_address_prefix w = 0 ∷ (uleb (suc w) ++ DW_LNE_set_address.0 ∷ [])
 
 abbrev pub set_address_size : ℕ → Option Address → ℕ
 set_address_size w None = 0

@@ -1,6 +1,7 @@
 //! Opcodes of the line machine with their operands (DWARF 5, 6.2.5).
 
 ghost use Rattle.std.specs.Prelude.{◌≡◌, ◌<◌, ◌≤◌, ◌∷◌, [], not, ◌==◌, OnOk, IfOk, IfErr, pos, ◌-ℤ◌, IsTrue, IsFalse};
+ghost use Rattle.dw_base.specs.declared.constants.TheConstants.{DW_LNE_set_discriminator, DW_LNS_advance_line, DW_LNS_set_file};
 ghost use Rattle.dw_base.specs.Leb128.{uleb, sleb, fits_i64};
 ghost use Rattle.dw_base.specs.declared.error.Error.TheVariants.{ValueTooLarge};
 ghost use Rattle.dw_writer.specs.Meaning.{IsSameWriter, Adds};
@@ -50,7 +51,8 @@ pub(crate) fn write_number<W: Writer>(
 pub(crate) fn write_discriminator<W: Writer>(discriminator: u64, w: &mut W) -> Result<()>
     ensures ok { OnOk result
         (Adds (W.meaning w.old) (W.meaning w.new)
-        (where_needed (not (discriminator == 0)) (0 ∷ extended_bytes 0x04 (uleb discriminator)))) }
+        (where_needed (not (discriminator == 0)) (0 ∷ extended_bytes
+        DW_LNE_set_discriminator.0 (uleb discriminator)))) }
     ensures err { IfErr result (BytesRefused (W.meaning w.old) (W.meaning w.new)) }
     ensures same { IsSameWriter (W.meaning w.old) (W.meaning w.new) }
 {
@@ -80,7 +82,7 @@ fn change_of_line(old: u64, new: u64) -> Result<i64>
 pub(crate) fn write_line<W: Writer>(old: u64, new: u64, w: &mut W) -> Result<()>
     ensures ok { OnOk result
         (Adds (W.meaning w.old) (W.meaning w.new)
-        (where_needed (not (new == old)) (0x03 ∷ sleb (line_change old new)))) }
+        (where_needed (not (new == old)) (DW_LNS_advance_line.0 ∷ sleb (line_change old new)))) }
     ensures line { OnOk result (IsTrue (fits_i64 (line_change old new))) }
     ensures err { IfErr result (LineRefused (W.meaning w.old) (W.meaning w.new) old new) }
     ensures same { IsSameWriter (W.meaning w.old) (W.meaning w.new) }
@@ -108,7 +110,7 @@ pub(crate) fn write_file<W: Writer>(old: FileId, new: FileId, version: u16, w: &
     ensures ok { OnOk result
         (Adds (W.meaning w.old) (W.meaning w.new)
         (where_needed (not (raw_file version new.0 == raw_file version old.0))
-        (0x04 ∷ uleb (raw_file version new.0)))) }
+        (DW_LNS_set_file.0 ∷ uleb (raw_file version new.0)))) }
     ensures err { IfErr result (BytesRefused (W.meaning w.old) (W.meaning w.new)) }
     ensures same { IsSameWriter (W.meaning w.old) (W.meaning w.new) }
 {
