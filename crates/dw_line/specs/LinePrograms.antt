@@ -1,5 +1,5 @@
 -- What a line program shows: nothing, or its parts, and the next row.
-use Rattle.std.specs.Prelude.{ℕ, Bool, true, false, List, [], length, Option, Some, None, ⊤}
+use Rattle.std.specs.Prelude.{ℕ, Bool, true, false, List, [], length, Option, Some, None, IfSome, ⊤}
 use Rattle.std.specs.Option.{option_map, option_map_or}
 use Rattle.dw_base.specs.Spellable.{IsText}
 use Rattle.dw_base.specs.declared.address.Address.{Address}
@@ -13,6 +13,7 @@ use Rattle.dw_writer.specs.Meaning.{Model}
 use Rattle.dw_line.specs.LineRows.{first_line_row, last_offset}
 use Rattle.dw_line.specs.ProgramTexts.{ProgramValue, with_begin, with_row, program_sequences, program_size, program_text, program_fails}
 use Rattle.dw_line.specs.SequenceTexts.{BuiltSequence}
+use Rattle.dw_line.specs.declared.line_string.FileInfo.{FileInfo}
 use Rattle.dw_line.specs.declared.line_string.LineString.{LineString}
 use Rattle.dw_line.specs.declared.line_string.LineString.TheVariants.{String, StringRef, LineStringRef}
 use Rattle.dw_line.specs.declared.file.FileEntry.{FileEntry}
@@ -68,6 +69,10 @@ abbrev pub IsName : LineString → Type 0
 IsName (String s) = IsText s
 IsName (StringRef i) = ⊤
 IsName (LineStringRef i) = ⊤
+
+-- and so does the text of a file
+abbrev pub IsInfo : Option FileInfo → Type 0
+IsInfo info = IfSome info (λ i. IfSome i.source IsName)
 
 -- the same with the parts of the program changed
 abbrev pub changed : (ProgramValue → ProgramValue) → LineProgramValue → LineProgramValue

@@ -7,7 +7,7 @@ ghost use Rattle.dw_writer.specs.Meaning.{IsSameWriter, Appends};
 ghost use Rattle.dw_writer.specs.Causes.{BytesRefused};
 ghost use Rattle.dw_line.specs.Lends.{LendsRow};
 ghost use Rattle.dw_line.specs.LineReader.{ShowsSequences};
-ghost use Rattle.dw_line.specs.LinePrograms.{no_line_program, encoding_of, line_encoding_of, is_in_sequence, directories_of, files_of, file_count_of, last_offset_of, sequences_of, IsName, changed, begun, generated, line_program_size, line_program_text, line_program_fails};
+ghost use Rattle.dw_line.specs.LinePrograms.{no_line_program, encoding_of, line_encoding_of, is_in_sequence, directories_of, files_of, file_count_of, last_offset_of, sequences_of, IsName, IsInfo, changed, begun, generated, line_program_size, line_program_text, line_program_fails};
 ghost use Rattle.dw_line.specs.LineRows.{first_line_row};
 ghost use Rattle.dw_line.specs.Names.{no_info};
 ghost use Rattle.dw_line.specs.Parts.{NoCause, Refused};
@@ -213,6 +213,7 @@ impl LineProgram {
         requires text { IsName file }
         requires named { (encoding_of self.old.program).version ≤ 4 → file ≢ String [] }
         requires directory { directory.0 < length (directories_of self.old.program) }
+        requires source { IsInfo info }
         ensures ok { OnOk result (self.new ≡ changed (with_file file directory info) self.old) }
         ensures id { IfOk result (λ id. id.0 ≡ file_index (files_of self.old.program)
             (entry_of file directory no_info)) }
