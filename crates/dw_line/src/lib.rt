@@ -11,6 +11,8 @@ mod opcode;
 mod program;
 mod row;
 mod sequence;
+#[cfg(test)]
+mod tests;
 
 pub use line_program::LineProgram;
 pub use line_string::{FileInfo, LineString};
