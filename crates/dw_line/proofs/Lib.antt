@@ -1,4 +1,5 @@
 pub mod Steps
+pub mod FrontSteps
 pub mod InstructionLaws
 pub mod RowLaws
 pub mod ProgramLaws

@@ -10,7 +10,7 @@ ghost use Rattle.dw_writer.specs.Causes.{BytesRefused};
 ghost use Rattle.dw_line.specs.FileEqual.{file_eq, file_fed, file_per, file_equiv, file-fed};
 ghost use Rattle.dw_line.specs.Files.{columns_of, first_source, has_timestamp, has_size, has_md5, old_columns, file_numbers, source_of, source_size, source_text, source_fails, file_size, file_text, file_fails};
 ghost use Rattle.dw_base.specs.Leb128.{uleb};
-ghost use Rattle.dw_line.specs.Parts.{sizes, texts, Refused};
+ghost use Rattle.dw_line.specs.Parts.{KeepsFront, sizes, texts, Refused};
 ghost use Rattle.dw_line.specs.RowTexts.{where_needed};
 
 use crate::line_string::{FileInfo, LineString};
@@ -162,6 +162,7 @@ fn write_file_numbers<W: Writer>(columns: Columns, file: &FileEntry, w: &mut W) 
         (Adds (W.meaning w.old) (W.meaning w.new) (file_numbers columns file.now)) }
     ensures err { IfErr result (BytesRefused (W.meaning w.old) (W.meaning w.new)) }
     ensures same { IsSameWriter (W.meaning w.old) (W.meaning w.new) }
+    ensures front { KeepsFront (W.meaning w.old) (W.meaning w.new) }
 {
     w.write_uleb128(file.directory.0 as u64)?;
     write_needed(columns.timestamp, file.info.timestamp, w)?;
@@ -176,6 +177,7 @@ fn write_checksum<W: Writer>(is_needed: bool, md5: Option<[u8; 16]>, w: &mut W) 
         (where_needed is_needed (unwrap_or md5 (zeros 16)))) }
     ensures err { IfErr result (BytesRefused (W.meaning w.old) (W.meaning w.new)) }
     ensures same { IsSameWriter (W.meaning w.old) (W.meaning w.new) }
+    ensures front { KeepsFront (W.meaning w.old) (W.meaning w.new) }
 {
     if !is_needed {
         return Ok(());
@@ -192,6 +194,7 @@ fn write_needed<W: Writer>(is_needed: bool, number: u64, w: &mut W) -> Result<()
         (Adds (W.meaning w.old) (W.meaning w.new) (where_needed is_needed (uleb number))) }
     ensures err { IfErr result (BytesRefused (W.meaning w.old) (W.meaning w.new)) }
     ensures same { IsSameWriter (W.meaning w.old) (W.meaning w.new) }
+    ensures front { KeepsFront (W.meaning w.old) (W.meaning w.new) }
 {
     if is_needed {
         return w.write_uleb128(number);
@@ -221,6 +224,7 @@ fn write_source<W: Writer>(
         (source_fails (word_of format) strings.now line_strings.now
         (W.meaning w.old).is_plain is_needed (source_of file.now))) }
     ensures same { IsSameWriter (W.meaning w.old) (W.meaning w.new) }
+    ensures front { KeepsFront (W.meaning w.old) (W.meaning w.new) }
 {
     if !is_needed {
         return Ok(());
@@ -251,6 +255,7 @@ fn write_file<W: Writer>(
         (file_fails (word_of format) strings.now line_strings.now
         (W.meaning w.old).is_plain columns file.now)) }
     ensures same { IsSameWriter (W.meaning w.old) (W.meaning w.new) }
+    ensures front { KeepsFront (W.meaning w.old) (W.meaning w.new) }
 {
     write_name(format, strings, line_strings, &file.name, w)?;
     write_file_numbers(columns, file, w)?;
@@ -286,6 +291,7 @@ pub(crate) fn write_files<W: Writer>(
         (λ e. list_any (λ f. file_fails (word_of format) strings.now line_strings.now
         (W.meaning w.old).is_plain columns f e) files.now)) }
     ensures same { IsSameWriter (W.meaning w.old) (W.meaning w.new) }
+    ensures front { KeepsFront (W.meaning w.old) (W.meaning w.new) }
 {
     for file in files {
         write_file(format, strings, line_strings, columns, file, w)?;

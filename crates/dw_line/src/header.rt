@@ -6,11 +6,11 @@ ghost use Rattle.dw_base.specs.Numbers.{word_of};
 ghost use Rattle.dw_base.specs.declared.error.Error.{Error as AnError};
 ghost use Rattle.dw_writer.specs.SignedNumbers.{twos_complement};
 ghost use Rattle.dw_writer.specs.Texts.{zeros};
-ghost use Rattle.dw_writer.specs.Meaning.{IsSameWriter, Adds, Appends};
+ghost use Rattle.dw_writer.specs.Meaning.{IsTidy, IsSameWriter, Adds, Appends};
 ghost use Rattle.dw_writer.specs.Causes.{BytesRefused};
 ghost use Rattle.dw_line.specs.Headers.{version_bytes, flag_byte, parameters_bytes, content_bytes, directory_formats, source_content, part_count, file_formats, directory_form, file_form, old_tables_size, old_tables_text, new_tables_size, new_tables_text, tables_size, tables_text, entries_fail, tables_fail, header_size, header_text, header_fails};
 ghost use Rattle.dw_line.specs.Files.{old_columns, columns_of};
-ghost use Rattle.dw_line.specs.Parts.{Refused};
+ghost use Rattle.dw_line.specs.Parts.{KeepsFront, Refused};
 ghost use Rattle.dw_line.specs.RowTexts.{where_needed};
 
 use crate::file::{Columns, FileEntry, write_files};
@@ -34,6 +34,7 @@ fn write_version<W: Writer>(encoding: Encoding, w: &mut W) -> Result<()>
         (W.meaning w.old).is_big encoding)) }
     ensures err { IfErr result (BytesRefused (W.meaning w.old) (W.meaning w.new)) }
     ensures same { IsSameWriter (W.meaning w.old) (W.meaning w.new) }
+    ensures front { KeepsFront (W.meaning w.old) (W.meaning w.new) }
 {
     w.write_u16(encoding.version)?;
     write_bytes(encoding.version >= 5, &[encoding.address_size, 0], w)
@@ -45,6 +46,7 @@ fn write_bytes<W: Writer>(is_needed: bool, bytes: &[u8], w: &mut W) -> Result<()
         (Adds (W.meaning w.old) (W.meaning w.new) (where_needed is_needed bytes.now)) }
     ensures err { IfErr result (BytesRefused (W.meaning w.old) (W.meaning w.new)) }
     ensures same { IsSameWriter (W.meaning w.old) (W.meaning w.new) }
+    ensures front { KeepsFront (W.meaning w.old) (W.meaning w.new) }
 {
     if is_needed {
         return w.write(bytes);
@@ -78,6 +80,7 @@ fn write_parameters<W: Writer>(version: u16, line: LineEncoding, w: &mut W) -> R
         (Adds (W.meaning w.old) (W.meaning w.new) (parameters_bytes version line)) }
     ensures err { IfErr result (BytesRefused (W.meaning w.old) (W.meaning w.new)) }
     ensures same { IsSameWriter (W.meaning w.old) (W.meaning w.new) }
+    ensures front { KeepsFront (W.meaning w.old) (W.meaning w.new) }
 {
     let statement = flag(line.default_is_stmt);
     let base = line_base_byte(line.line_base);
@@ -110,6 +113,7 @@ fn write_content<W: Writer>(is_needed: bool, content: u16, form: u16, w: &mut W)
         (where_needed is_needed (content_bytes content form))) }
     ensures err { IfErr result (BytesRefused (W.meaning w.old) (W.meaning w.new)) }
     ensures same { IsSameWriter (W.meaning w.old) (W.meaning w.new) }
+    ensures front { KeepsFront (W.meaning w.old) (W.meaning w.new) }
 {
     if is_needed {
         w.write_uleb128(content as u64)?;
@@ -124,6 +128,7 @@ fn write_directory_formats<W: Writer>(form: u16, count: usize, w: &mut W) -> Res
         (Adds (W.meaning w.old) (W.meaning w.new) (directory_formats form count)) }
     ensures err { IfErr result (BytesRefused (W.meaning w.old) (W.meaning w.new)) }
     ensures same { IsSameWriter (W.meaning w.old) (W.meaning w.new) }
+    ensures front { KeepsFront (W.meaning w.old) (W.meaning w.new) }
 {
     w.write(&[1])?;
     write_content(true, DW_LNCT_path.0, form, w)?;
@@ -146,6 +151,7 @@ fn write_source_content<W: Writer>(source: Option<u16>, w: &mut W) -> Result<()>
         (Adds (W.meaning w.old) (W.meaning w.new) (source_content source)) }
     ensures err { IfErr result (BytesRefused (W.meaning w.old) (W.meaning w.new)) }
     ensures same { IsSameWriter (W.meaning w.old) (W.meaning w.new) }
+    ensures front { KeepsFront (W.meaning w.old) (W.meaning w.new) }
 {
     match source {
         Some(form) => write_content(true, DW_LNCT_LLVM_source.0, form, w),
@@ -159,6 +165,7 @@ fn write_file_formats<W: Writer>(columns: Columns, form: u16, count: usize, w: &
         (Adds (W.meaning w.old) (W.meaning w.new) (file_formats columns form count)) }
     ensures err { IfErr result (BytesRefused (W.meaning w.old) (W.meaning w.new)) }
     ensures same { IsSameWriter (W.meaning w.old) (W.meaning w.new) }
+    ensures front { KeepsFront (W.meaning w.old) (W.meaning w.new) }
 {
     let parts = part_count_of(columns);
     w.write(&[parts])?;
@@ -222,6 +229,7 @@ fn write_old_tables<W: Writer>(
         (entries_fail (word_of format) strings.now line_strings.now (W.meaning w.old).is_plain
         (drop 1 directories.now) old_columns files.now)) }
     ensures same { IsSameWriter (W.meaning w.old) (W.meaning w.new) }
+    ensures front { KeepsFront (W.meaning w.old) (W.meaning w.new) }
 {
     let listed = listed_directories(directories);
     write_names(format, strings, line_strings, listed, w)?;
@@ -253,6 +261,7 @@ fn write_new_tables<W: Writer>(
         (entries_fail (word_of format) strings.now line_strings.now (W.meaning w.old).is_plain
         directories.now (columns_of files.now) files.now)) }
     ensures same { IsSameWriter (W.meaning w.old) (W.meaning w.new) }
+    ensures front { KeepsFront (W.meaning w.old) (W.meaning w.new) }
 {
     let columns = Columns::of(files);
     let directory_form = directory_form_of(directories);
@@ -289,6 +298,7 @@ fn write_tables<W: Writer>(
         (W.meaning w.old).is_plain
         (nat_le encoding.version 4) directories.now files.now)) }
     ensures same { IsSameWriter (W.meaning w.old) (W.meaning w.new) }
+    ensures front { KeepsFront (W.meaning w.old) (W.meaning w.new) }
 {
     if encoding.version <= 4 {
         write_old_tables(
@@ -318,6 +328,7 @@ fn write_open_word<W: Writer>(format: Format, w: &mut W) -> Result<usize>
     ensures place { IfOk result (λ p. p ≡ (W.meaning w.old).size) }
     ensures err { IfErr result (BytesRefused (W.meaning w.old) (W.meaning w.new)) }
     ensures same { IsSameWriter (W.meaning w.old) (W.meaning w.new) }
+    ensures front { KeepsFront (W.meaning w.old) (W.meaning w.new) }
 {
     let place = w.len();
     match format {
@@ -352,6 +363,8 @@ pub(crate) fn write_header<W: Writer>(
         (header_fails strings.now line_strings.now
         (W.meaning w.old).is_plain encoding line directories.now files.now)) }
     ensures same { IsSameWriter (W.meaning w.old) (W.meaning w.new) }
+    ensures front { IsTidy (W.meaning w.old) →
+        KeepsFront (W.meaning w.old) (W.meaning w.new) }
 {
     write_version(encoding, w)?;
     let place = write_open_word(encoding.format, w)?;

@@ -3,14 +3,14 @@
 ghost use Rattle.std.specs.Prelude.{◌≡◌, ◌≢◌, ◌<◌, ◌≤◌, ◌%◌, ◌≤ℤ◌, ◌<ℤ◌, ◌+ℤ◌, pos, [], length, is_none, Some, IsSome, IsOk, OnOk, OnErr, IfOk, IfErr, IsTrue, IsFalse, ◌↔◌};
 ghost use Rattle.std.specs.Borrow.{sem};
 ghost use Rattle.dw_base.specs.declared.error.Error.TheVariants.{NoMemory};
-ghost use Rattle.dw_writer.specs.Meaning.{IsSameWriter, Appends};
+ghost use Rattle.dw_writer.specs.Meaning.{IsTidy, IsSameWriter, Appends};
 ghost use Rattle.dw_writer.specs.Causes.{BytesRefused};
 ghost use Rattle.dw_line.specs.Lends.{LendsRow};
 ghost use Rattle.dw_line.specs.LineReader.{ShowsSequences};
 ghost use Rattle.dw_line.specs.LinePrograms.{no_line_program, encoding_of, line_encoding_of, is_in_sequence, directories_of, files_of, file_count_of, last_offset_of, sequences_of, IsName, IsInfo, changed, begun, generated, line_program_size, line_program_text, line_program_fails};
 ghost use Rattle.dw_line.specs.LineRows.{first_line_row};
 ghost use Rattle.dw_line.specs.Names.{no_info};
-ghost use Rattle.dw_line.specs.Parts.{NoCause, Refused};
+ghost use Rattle.dw_line.specs.Parts.{KeepsFront, NoCause, Refused};
 ghost use Rattle.dw_line.specs.ProgramTexts.{directory_index, with_directory, entry_of, file_index, with_file, with_end};
 ghost use Rattle.dw_line.specs.declared.line_string.LineString.TheVariants.{String};
 
@@ -321,6 +321,9 @@ impl LineProgram {
             (W.meaning w.old.0).is_plain encoding self.now))
             → IfErr result (BytesRefused (W.meaning w.old.0) (W.meaning w.new.0)) }
         ensures same { IsSameWriter (W.meaning w.old.0) (W.meaning w.new.0) }
+        // What stood there stays in front, also where the write is refused.
+        ensures front { IsTidy (W.meaning w.old.0) →
+            KeepsFront (W.meaning w.old.0) (W.meaning w.new.0) }
     {
         match &self.program {
             Some(program) => {

@@ -6,7 +6,7 @@ ghost use Rattle.dw_base.specs.Numbers.{word_of};
 ghost use Rattle.dw_base.specs.declared.error.Error.{Error as AnError};
 ghost use Rattle.dw_writer.specs.Meaning.{IsSameWriter, Appends};
 ghost use Rattle.dw_line.specs.Names.{name_size, name_text, name_fails};
-ghost use Rattle.dw_line.specs.Parts.{sizes, texts, Refused};
+ghost use Rattle.dw_line.specs.Parts.{KeepsFront, sizes, texts, Refused};
 ghost use Rattle.dw_line.specs.declared.line_string.LineString.TheVariants.{StringRef, LineStringRef};
 
 use crate::line_string::LineString;
@@ -31,6 +31,7 @@ fn write_string_ref<W: Writer>(
         (Refused (W.meaning w.old) (W.meaning w.new)
         (name_fails (word_of format) strings.now [] (W.meaning w.old).is_plain (StringRef id))) }
     ensures same { IsSameWriter (W.meaning w.old) (W.meaning w.new) }
+    ensures front { KeepsFront (W.meaning w.old) (W.meaning w.new) }
 {
     if id.index() >= strings.count() {
         return Err(Error::InvalidReference);
@@ -60,6 +61,7 @@ fn write_line_string_ref<W: Writer>(
         (name_fails (word_of format) [] line_strings.now (W.meaning w.old).is_plain
         (LineStringRef id))) }
     ensures same { IsSameWriter (W.meaning w.old) (W.meaning w.new) }
+    ensures front { KeepsFront (W.meaning w.old) (W.meaning w.new) }
 {
     if id.index() >= line_strings.count() {
         return Err(Error::InvalidReference);
@@ -90,6 +92,7 @@ pub(crate) fn write_name<W: Writer>(
         (name_fails (word_of format) strings.now line_strings.now
         (W.meaning w.old).is_plain name.now)) }
     ensures same { IsSameWriter (W.meaning w.old) (W.meaning w.new) }
+    ensures front { KeepsFront (W.meaning w.old) (W.meaning w.new) }
 {
     match name {
         LineString::String(bytes) => {
@@ -120,6 +123,7 @@ pub(crate) fn write_names<W: Writer>(
         (λ e. list_any (λ n. name_fails (word_of format) strings.now line_strings.now
         (W.meaning w.old).is_plain n e) names.now)) }
     ensures same { IsSameWriter (W.meaning w.old) (W.meaning w.new) }
+    ensures front { KeepsFront (W.meaning w.old) (W.meaning w.new) }
 {
     for name in names {
         write_name(format, strings, line_strings, name, w)?;

@@ -6,6 +6,7 @@ ghost use Rattle.dw_base.specs.Leb128.{uleb, sleb, fits_i64};
 ghost use Rattle.dw_base.specs.declared.error.Error.TheVariants.{ValueTooLarge};
 ghost use Rattle.dw_writer.specs.Meaning.{IsSameWriter, Adds};
 ghost use Rattle.dw_writer.specs.Causes.{BytesRefused};
+ghost use Rattle.dw_line.specs.Parts.{KeepsFront};
 ghost use Rattle.dw_line.specs.Instructions.{extended_bytes};
 ghost use Rattle.dw_line.specs.LineRows.{raw_file};
 ghost use Rattle.dw_line.specs.RawRows.{line_change};
@@ -21,6 +22,7 @@ pub(crate) fn write_mark<W: Writer>(is_needed: bool, opcode: u8, w: &mut W) -> R
         (Adds (W.meaning w.old) (W.meaning w.new) (where_needed is_needed (opcode ∷ []))) }
     ensures err { IfErr result (BytesRefused (W.meaning w.old) (W.meaning w.new)) }
     ensures same { IsSameWriter (W.meaning w.old) (W.meaning w.new) }
+    ensures front { KeepsFront (W.meaning w.old) (W.meaning w.new) }
 {
     if is_needed {
         return w.write_u8(opcode);
@@ -39,6 +41,7 @@ pub(crate) fn write_number<W: Writer>(
         (Adds (W.meaning w.old) (W.meaning w.new) (where_needed is_needed (opcode ∷ uleb number))) }
     ensures err { IfErr result (BytesRefused (W.meaning w.old) (W.meaning w.new)) }
     ensures same { IsSameWriter (W.meaning w.old) (W.meaning w.new) }
+    ensures front { KeepsFront (W.meaning w.old) (W.meaning w.new) }
 {
     if is_needed {
         w.write_u8(opcode)?;
@@ -55,6 +58,7 @@ pub(crate) fn write_discriminator<W: Writer>(discriminator: u64, w: &mut W) -> R
         DW_LNE_set_discriminator.0 (uleb discriminator)))) }
     ensures err { IfErr result (BytesRefused (W.meaning w.old) (W.meaning w.new)) }
     ensures same { IsSameWriter (W.meaning w.old) (W.meaning w.new) }
+    ensures front { KeepsFront (W.meaning w.old) (W.meaning w.new) }
 {
     if discriminator != 0 {
         w.write_u8(0)?;
@@ -86,6 +90,7 @@ pub(crate) fn write_line<W: Writer>(old: u64, new: u64, w: &mut W) -> Result<()>
     ensures line { OnOk result (IsTrue (fits_i64 (line_change old new))) }
     ensures err { IfErr result (LineRefused (W.meaning w.old) (W.meaning w.new) old new) }
     ensures same { IsSameWriter (W.meaning w.old) (W.meaning w.new) }
+    ensures front { KeepsFront (W.meaning w.old) (W.meaning w.new) }
 {
     let change = change_of_line(old, new)?;
     if new != old {
@@ -113,6 +118,7 @@ pub(crate) fn write_file<W: Writer>(old: FileId, new: FileId, version: u16, w: &
         (DW_LNS_set_file.0 ∷ uleb (raw_file version new.0)))) }
     ensures err { IfErr result (BytesRefused (W.meaning w.old) (W.meaning w.new)) }
     ensures same { IsSameWriter (W.meaning w.old) (W.meaning w.new) }
+    ensures front { KeepsFront (W.meaning w.old) (W.meaning w.new) }
 {
     let number = raw_file(new, version);
     let is_other = number != raw_file(old, version);

@@ -4,10 +4,10 @@ ghost use Rattle.std.specs.Prelude.{◌≡◌, ◌<◌, ◌≤◌, ◌%◌, ◌�
 ghost use Rattle.dw_base.specs.Numbers.{is_width};
 ghost use Rattle.dw_base.specs.declared.error.Error.{Error as AnError};
 ghost use Rattle.dw_base.specs.declared.error.Error.TheVariants.{NoMemory};
-ghost use Rattle.dw_writer.specs.Meaning.{IsSameWriter, Appends};
+ghost use Rattle.dw_writer.specs.Meaning.{IsTidy, IsSameWriter, Appends};
 ghost use Rattle.dw_line.specs.LineRows.{last_offset, written_header};
 ghost use Rattle.dw_line.specs.SequenceTexts.{AreBuilt};
-ghost use Rattle.dw_line.specs.Parts.{Refused};
+ghost use Rattle.dw_line.specs.Parts.{KeepsFront, Refused};
 ghost use Rattle.dw_line.specs.ProgramTexts.{minimum_length, IsLineEncoding, directory_index, with_directory, file_index, entry_of, with_file, with_begin, with_row, with_end, program_sequences, sequences_size, sequences_text, sequences_fail, program_length, program_size, contents_text, contents_fail, program_text, program_fails, HeaderIsWide};
 ghost use Rattle.dw_line.specs.LineReader.{ShowsSequences};
 ghost use Rattle.dw_line.specs.Names.{no_info};
@@ -233,6 +233,7 @@ impl Program {
             (Refused (W.meaning w.old) (W.meaning w.new)
             (sequences_fail (W.meaning w.old).is_plain self.now)) }
         ensures same { IsSameWriter (W.meaning w.old) (W.meaning w.new) }
+        ensures front { KeepsFront (W.meaning w.old) (W.meaning w.new) }
     {
         let sequences = self.sequences.as_slice();
         write_sequences(self.encoding, self.line_encoding, sequences, w)?;
@@ -273,6 +274,8 @@ impl Program {
             (Refused (W.meaning w.old) (W.meaning w.new)
             (contents_fail strings.now line_strings.now (W.meaning w.old).is_plain self.now)) }
         ensures same { IsSameWriter (W.meaning w.old) (W.meaning w.new) }
+        ensures front { IsTidy (W.meaning w.old) →
+            KeepsFront (W.meaning w.old) (W.meaning w.new) }
     {
         let directories = self.directories.as_slice();
         let files = self.files.as_slice();
@@ -308,6 +311,8 @@ impl Program {
             (Refused (W.meaning w.old) (W.meaning w.new)
             (program_fails strings.now line_strings.now (W.meaning w.old).is_plain unit self.now)) }
         ensures same { IsSameWriter (W.meaning w.old) (W.meaning w.new) }
+        ensures front { IsTidy (W.meaning w.old) →
+            KeepsFront (W.meaning w.old) (W.meaning w.new) }
     {
         check_encoding(self.encoding, unit)?;
         let directories = self.directories.as_slice();

@@ -4,6 +4,7 @@ ghost use Rattle.std.specs.Prelude.{◌≡◌, ◌<◌, ◌≤◌, length, map, 
 ghost use Rattle.dw_base.specs.Leb128.{fits_i64};
 ghost use Rattle.dw_writer.specs.Meaning.{IsSameWriter, Adds};
 ghost use Rattle.dw_writer.specs.Causes.{BytesRefused};
+ghost use Rattle.dw_line.specs.Parts.{KeepsFront};
 ghost use Rattle.dw_line.specs.LineRows.{raw_row, first_line_row, last_offset, are_in_order, IsRanged};
 ghost use Rattle.dw_line.specs.RawRows.{line_change, row_before};
 ghost use Rattle.dw_line.specs.RowTexts.{row_text, rows_text, last_row, end_text, lines_fit, LineRefused, RowsRefused};
@@ -110,6 +111,7 @@ pub(crate) fn write_row<W: Writer>(
     ensures err { IfErr result
         (LineRefused (W.meaning w.old) (W.meaning w.new) old.line new.line) }
     ensures same { IsSameWriter (W.meaning w.old) (W.meaning w.new) }
+    ensures front { KeepsFront (W.meaning w.old) (W.meaning w.new) }
 {
     write_discriminator(new.discriminator, w)?;
     write_mark(new.basic_block, DW_LNS_set_basic_block.0, w)?;
@@ -160,6 +162,7 @@ pub(crate) fn write_rows<W: Writer>(
         (RowsRefused (W.meaning w.old) (W.meaning w.new)
         (raw_row version first) (map (raw_row version) rows.now)) }
     ensures same { IsSameWriter (W.meaning w.old) (W.meaning w.new) }
+    ensures front { KeepsFront (W.meaning w.old) (W.meaning w.new) }
 {
     let mut last = first;
     for row in rows {
@@ -177,6 +180,7 @@ pub(crate) fn write_end<W: Writer>(last: u64, end: u64, minimum_length: u8, w: &
         (Adds (W.meaning w.old) (W.meaning w.new) (end_text minimum_length last (Some end))) }
     ensures err { IfErr result (BytesRefused (W.meaning w.old) (W.meaning w.new)) }
     ensures same { IsSameWriter (W.meaning w.old) (W.meaning w.new) }
+    ensures front { KeepsFront (W.meaning w.old) (W.meaning w.new) }
 {
     let advance = (end - last) / minimum_length as u64;
     write_number(end != last, DW_LNS_advance_pc.0, advance, w)?;

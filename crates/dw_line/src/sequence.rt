@@ -6,7 +6,7 @@ ghost use Rattle.dw_base.specs.Numbers.{is_width};
 ghost use Rattle.dw_base.specs.declared.error.Error.{Error as AnError};
 ghost use Rattle.dw_writer.specs.Meaning.{IsSameWriter, Appends};
 ghost use Rattle.dw_line.specs.LineRows.{built_sequence, written_header, last_offset, are_in_order, is_end_in_order};
-ghost use Rattle.dw_line.specs.Parts.{sizes, texts, Refused};
+ghost use Rattle.dw_line.specs.Parts.{KeepsFront, sizes, texts, Refused};
 ghost use Rattle.dw_line.specs.Programs.{is_in_order, ended_size, ended_text, ended_fails, IsEndedAfter};
 ghost use Rattle.dw_line.specs.RawRows.{row_before, AreRowsAfter};
 ghost use Rattle.dw_line.specs.SequenceTexts.{set_address_size, set_address_model, address_fails, sequence_size, sequence_model, sequence_fails};
@@ -65,6 +65,7 @@ impl LineSequence {
             (Refused (W.meaning w.old) (W.meaning w.new)
             (ended_fails (W.meaning w.old).is_plain encoding line_encoding self.now)) }
         ensures same { IsSameWriter (W.meaning w.old) (W.meaning w.new) }
+        ensures front { KeepsFront (W.meaning w.old) (W.meaning w.new) }
     {
         write_sequence(
             encoding,
@@ -89,6 +90,7 @@ fn write_set_address<W: Writer>(address: Option<Address>, size: u8, w: &mut W) -
         (Refused (W.meaning w.old) (W.meaning w.new)
         (address_fails (W.meaning w.old).is_plain size address)) }
     ensures same { IsSameWriter (W.meaning w.old) (W.meaning w.new) }
+    ensures front { KeepsFront (W.meaning w.old) (W.meaning w.new) }
 {
     match address {
         Some(address) => {
@@ -137,6 +139,7 @@ pub(crate) fn write_sequence<W: Writer>(
         (row_before line_encoding.default_is_stmt)
         (built_sequence encoding.version address rows.now end))) }
     ensures same { IsSameWriter (W.meaning w.old) (W.meaning w.new) }
+    ensures front { KeepsFront (W.meaning w.old) (W.meaning w.new) }
 {
     let version = encoding.version;
     let minimum_length = line_encoding.minimum_instruction_length;
@@ -174,6 +177,7 @@ pub(crate) fn write_sequences<W: Writer>(
         (λ e. list_any (λ s. ended_fails
         (W.meaning w.old).is_plain encoding line_encoding s e) sequences.now)) }
     ensures same { IsSameWriter (W.meaning w.old) (W.meaning w.new) }
+    ensures front { KeepsFront (W.meaning w.old) (W.meaning w.new) }
 {
     for sequence in sequences {
         sequence.write(encoding, line_encoding, w)?;

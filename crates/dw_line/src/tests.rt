@@ -10,7 +10,9 @@ use dw_base::{
     RunTimeEndian, SectionId, StringId,
 };
 use dw_strings::{LineStringTable, StringTable};
-use dw_writer::{Bytes, DebugLine, EndianVec, RelocVec, Relocation, RelocationTarget};
+use dw_writer::{
+    Bytes, DebugLine, EndianVec, FaultVec, RelocVec, Relocation, RelocationTarget, Writer,
+};
 use std::alloc::Global;
 use std::test::Fail;
 
@@ -294,6 +296,18 @@ fn second_place(alloc: Global, program: &LineProgram) -> Result<usize> {
     Ok(place.0)
 }
 
+/// Tells that a write leaves what stood before it where this call of the writer fails.
+fn is_kept_in_front(alloc: Global, program: &LineProgram, failing: u64) -> Result<bool> {
+    let strings = strings(alloc)?;
+    let line_strings = line_strings(alloc)?;
+    let mut w = DebugLine::from(FaultVec::new(alloc, LITTLE, vec![in alloc; failing]?));
+    w.0.write(&[1, 2, 3])?;
+    match program.write(&mut w, program.encoding(), &line_strings, &strings) {
+        Err(Error::WriteFault) => Ok(w.0.slice().starts_with(&[1, 2, 3])),
+        _ => Ok(false),
+    }
+}
+
 /// Why a program of these lines is refused.
 fn refusal_of_lines(alloc: Global, first: u64, second: u64) -> Result<Option<Error>> {
     let program = of_lines(alloc, first, second)?;
@@ -330,6 +344,16 @@ fn names_by_place(rt: HostRuntime) -> std::result::Result<(), Fail> {
 fn second_program_begins_behind_the_first(rt: HostRuntime) -> std::result::Result<(), Fail> {
     let program = named_by_place(rt.alloc(), encoding(5, Format::Dwarf32, 8), 1)?;
     assert_eq!(rt; second_place(rt.alloc(), &program)?, 49);
+    Ok(())
+}
+
+#[test]
+fn fault_leaves_what_stood_before(rt: HostRuntime) -> std::result::Result<(), Fail> {
+    let program = named_by_place(rt.alloc(), encoding(5, Format::Dwarf32, 8), 1)?;
+    // The first call of the write, one in the middle, and the patch of the program's length.
+    for failing in [1, 12, 22] {
+        assert!(rt; is_kept_in_front(rt.alloc(), &program, failing)?);
+    }
     Ok(())
 }
 

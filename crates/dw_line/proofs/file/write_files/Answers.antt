@@ -6,10 +6,11 @@ use Rattle.dw_base.specs.declared.error.Error.{Error}
 use Rattle.dw_line.specs.Files.{file_size, file_text, file_fails}
 use Rattle.dw_line.specs.declared.file.FileEntry.{FileEntry}
 use Rattle.dw_line.proofs.PartSteps.{texts_none, texts_step, texts_whole, none_more, none_all, some_at, refused_after}
+use Rattle.dw_line.proofs.FrontSteps.{Front-none, Front-then}
 use Rattle.dw_line.proofs.file.write_files.Goals as goal
 
 pub loop-file-init : goal.loop-file-init
-loop-file-init g c = record { added = texts_none (file_size (word_of c.args.format) c.args.columns) (file_text (word_of c.args.format) c.args.strings.now c.args.line_strings.now c.args.columns) _; sound = λ e. refl }
+loop-file-init g c = record { added = texts_none (file_size (word_of c.args.format) c.args.columns) (file_text (word_of c.args.format) c.args.strings.now c.args.line_strings.now c.args.columns) _; sound = λ e. refl; front = Front-none _ }
 
 pub loop-file-preserved : goal.loop-file-preserved
 loop-file-preserved g c =
@@ -22,6 +23,7 @@ loop-file-preserved g c =
     record {
       added = texts_step (file_size f c.args.columns) (file_text f c.args.strings.now c.args.line_strings.now c.args.columns) c.args.files.now c.loop-file.file-index c.file-item.result below c.file-item.is c.loop-file.invariant.added c.in_ok-write_file.ensures.ok;
       sound = none_more (fails plain) c.args.files.now c.loop-file.file-index c.file-item.result below c.file-item.is c.loop-file.invariant.sound here;
+      front = Front-then c.loop-file.invariant.front c.in_ok-write_file.ensures.front;
     }
 
 pub returns-in_err-write_file-clause-err : goal.returns-in_err-write_file-clause-err
@@ -45,3 +47,6 @@ pub returns-clause-sound : goal.returns-clause-sound
 returns-clause-sound g c =
     let past : length c.args.files.now ≤ c.loop-file.file-index = omega arith in
     none_all (file_fails (word_of c.args.format) c.args.strings.now c.args.line_strings.now (g.W.Writer.meaning c.args.w.now).is_plain c.args.columns) c.args.files.now c.loop-file.file-index past c.loop-file.invariant.sound
+
+pub returns-in_err-write_file-clause-front : goal.returns-in_err-write_file-clause-front
+returns-in_err-write_file-clause-front g c = Front-then c.loop-file.invariant.front c.in_err-write_file.ensures.front

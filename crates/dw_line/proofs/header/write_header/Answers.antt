@@ -11,6 +11,7 @@ use Rattle.dw_line.specs.Headers.{tables_fail, header_length, header_fails, leng
 use Rattle.dw_line.proofs.PartSteps.{neither, refused_after}
 use Rattle.dw_line.proofs.HeaderSteps.{open_filled, version_added, length_refused, length_sound}
 use Rattle.dw_line.proofs.header.write_header.Given.{Over}
+use Rattle.dw_line.proofs.FrontSteps.{Front-then, Front-patched}
 use Rattle.dw_line.proofs.header.write_header.Goals as goal
 
 long : (g : Over) (c : goal.After-write_initial_length_at g) → c.len.result - c.len-start.result ≡ header_length c.args.encoding c.args.line c.args.directories.now c.args.files.now
@@ -64,3 +65,25 @@ returns-clause-err g c =
     (λ error h. length_refused (g.W.Writer.meaning c.write_initial_length_at.new.self) e.format (c.len.result - c.len-start.result) n c.in_ok-place.place
     (header_fails c.args.strings.now c.args.line_strings.now plain e c.args.line c.args.directories.now c.args.files.now) (written g c) (long g c) within
     (λ error h. or_left (length_fails e.format n error) (tables error) h) error h)
+
+pub returns-in_err-write_version-clause-front : goal.returns-in_err-write_version-clause-front
+returns-in_err-write_version-clause-front g c = λ tidy. c.in_err-write_version.ensures.front
+
+pub returns-in_err-place-clause-front : goal.returns-in_err-place-clause-front
+returns-in_err-place-clause-front g c = λ tidy. Front-then c.in_ok-write_version.ensures.front c.in_err-place.ensures.front
+
+pub returns-in_err-write_parameters-clause-front : goal.returns-in_err-write_parameters-clause-front
+returns-in_err-write_parameters-clause-front g c =
+    λ tidy. Front-then c.in_ok-write_version.ensures.front (Front-then c.in_ok-place.ensures.front c.in_err-write_parameters.ensures.front)
+
+pub returns-in_err-write_tables-clause-front : goal.returns-in_err-write_tables-clause-front
+returns-in_err-write_tables-clause-front g c =
+    λ tidy. Front-then c.in_ok-write_version.ensures.front
+    (Front-then c.in_ok-place.ensures.front (Front-then c.in_ok-write_parameters.ensures.front c.in_err-write_tables.ensures.front))
+
+pub returns-clause-front : goal.returns-clause-front
+returns-clause-front g c =
+    let added = Front-then c.in_ok-write_version.ensures.front
+    (Front-then c.in_ok-place.ensures.front (Front-then c.in_ok-write_parameters.ensures.front c.in_ok-write_tables.ensures.front)) in
+    let within : (g.W.Writer.meaning c.args.w.now).size ≤ c.in_ok-place.place = omega (arith, c.in_ok-place.ensures.place, c.in_ok-write_version.ensures.ok.size) in
+    λ tidy. Front-patched tidy c.in_ok-place.place within added _ _ c.write_initial_length_at.result c.write_initial_length_at.ensures.ok c.write_initial_length_at.ensures.partly

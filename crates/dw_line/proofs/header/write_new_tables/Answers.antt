@@ -4,6 +4,7 @@ use Rattle.dw_writer.proofs.Outcomes.{OnOk-map, IfErr-map}
 use Rattle.dw_writer.proofs.Steps.{IsSameWriter-trans, Adds-appends, Appends-then}
 use Rattle.dw_line.specs.Files.{columns_of}
 use Rattle.dw_line.proofs.TableSteps.{names_refused, files_refused, entries_sound}
+use Rattle.dw_line.proofs.FrontSteps.{Front-then}
 use Rattle.dw_line.proofs.header.write_new_tables.Goals as goal
 
 pub returns-in_err-write_names-clause-err : goal.returns-in_err-write_names-clause-err
@@ -38,3 +39,18 @@ returns-clause-err g c =
     IfErr-map c.write_files.result files
     (λ e h. files_refused (word_of c.args.format) c.args.strings.now c.args.line_strings.now (g.W.Writer.meaning c.args.w.now).is_plain c.args.directories.now (columns_of c.args.files.now) c.args.files.now
     (g.W.Writer.meaning c.write_files.new.w) _ same.kind same e h)
+
+pub returns-in_err-write_directory_formats-clause-front : goal.returns-in_err-write_directory_formats-clause-front
+returns-in_err-write_directory_formats-clause-front g c = c.in_err-write_directory_formats.ensures.front
+
+pub returns-in_err-write_names-clause-front : goal.returns-in_err-write_names-clause-front
+returns-in_err-write_names-clause-front g c = Front-then c.in_ok-write_directory_formats.ensures.front c.in_err-write_names.ensures.front
+
+pub returns-in_err-write_file_formats-clause-front : goal.returns-in_err-write_file_formats-clause-front
+returns-in_err-write_file_formats-clause-front g c = Front-then c.in_ok-write_directory_formats.ensures.front
+    (Front-then c.in_ok-write_names.ensures.front c.in_err-write_file_formats.ensures.front)
+
+pub returns-clause-front : goal.returns-clause-front
+returns-clause-front g c = Front-then c.in_ok-write_directory_formats.ensures.front
+    (Front-then c.in_ok-write_names.ensures.front
+    (Front-then c.in_ok-write_file_formats.ensures.front c.write_files.ensures.front))

@@ -7,6 +7,7 @@ use Rattle.dw_writer.proofs.Steps.{IsSameWriter-trans, Adds-appends, Appends-the
 use Rattle.dw_line.specs.Files.{old_columns}
 use Rattle.dw_line.proofs.Steps.{Adds-byte}
 use Rattle.dw_line.proofs.TableSteps.{names_refused, files_refused, entries_sound}
+use Rattle.dw_line.proofs.FrontSteps.{Adds-front, AddsSome-front, Front-either, Front-then}
 use Rattle.dw_line.proofs.header.write_old_tables.Goals as goal
 
 pub returns-in_err-write_names-clause-err : goal.returns-in_err-write_names-clause-err
@@ -42,3 +43,19 @@ returns-clause-sound g c =
     OnOk-map c.write_u8-2.result c.write_u8-2.ensures.ok
     (λ _. entries_sound (word_of c.args.format) c.args.strings.now c.args.line_strings.now (g.W.Writer.meaning c.args.w.now).is_plain (drop 1 c.args.directories.now) old_columns c.args.files.now
     _ _ refl same.kind names files)
+
+pub returns-in_err-write_names-clause-front : goal.returns-in_err-write_names-clause-front
+returns-in_err-write_names-clause-front g c = c.in_err-write_names.ensures.front
+
+pub returns-in_err-write_u8-clause-front : goal.returns-in_err-write_u8-clause-front
+returns-in_err-write_u8-clause-front g c = Front-then c.in_ok-write_names.ensures.front (AddsSome-front c.in_err-write_u8.ensures.partly)
+
+pub returns-in_err-write_files-clause-front : goal.returns-in_err-write_files-clause-front
+returns-in_err-write_files-clause-front g c = Front-then c.in_ok-write_names.ensures.front
+    (Front-then (Adds-front c.in_ok-write_u8.ensures.ok) c.in_err-write_files.ensures.front)
+
+pub returns-clause-front : goal.returns-clause-front
+returns-clause-front g c = Front-then c.in_ok-write_names.ensures.front
+    (Front-then (Adds-front c.in_ok-write_u8.ensures.ok)
+    (Front-then c.in_ok-write_files.ensures.front
+    (Front-either _ _ c.write_u8-2.result c.write_u8-2.ensures.ok c.write_u8-2.ensures.partly)))

@@ -5,10 +5,11 @@ use Rattle.dw_base.specs.Numbers.{word_of}
 use Rattle.dw_base.specs.declared.error.Error.{Error}
 use Rattle.dw_line.specs.Names.{name_size, name_text, name_fails}
 use Rattle.dw_line.proofs.PartSteps.{texts_none, texts_step, texts_whole, none_more, none_all, some_at, refused_after}
+use Rattle.dw_line.proofs.FrontSteps.{Front-none, Front-then}
 use Rattle.dw_line.proofs.name.write_names.Goals as goal
 
 pub loop-name-init : goal.loop-name-init
-loop-name-init g c = record { added = texts_none (name_size (word_of c.args.format)) (name_text (word_of c.args.format) c.args.strings.now c.args.line_strings.now) _; sound = λ e. refl }
+loop-name-init g c = record { added = texts_none (name_size (word_of c.args.format)) (name_text (word_of c.args.format) c.args.strings.now c.args.line_strings.now) _; sound = λ e. refl; front = Front-none _ }
 
 pub loop-name-preserved : goal.loop-name-preserved
 loop-name-preserved g c =
@@ -21,6 +22,7 @@ loop-name-preserved g c =
     record {
       added = texts_step (name_size f) (name_text f c.args.strings.now c.args.line_strings.now) c.args.names.now c.loop-name.name-index c.name-item.result below c.name-item.is c.loop-name.invariant.added c.in_ok-write_name.ensures.ok;
       sound = none_more (fails plain) c.args.names.now c.loop-name.name-index c.name-item.result below c.name-item.is c.loop-name.invariant.sound here;
+      front = Front-then c.loop-name.invariant.front c.in_ok-write_name.ensures.front;
     }
 
 pub returns-in_err-write_name-clause-err : goal.returns-in_err-write_name-clause-err
@@ -44,3 +46,6 @@ pub returns-clause-sound : goal.returns-clause-sound
 returns-clause-sound g c =
     let past : length c.args.names.now ≤ c.loop-name.name-index = omega arith in
     none_all (name_fails (word_of c.args.format) c.args.strings.now c.args.line_strings.now (g.W.Writer.meaning c.args.w.now).is_plain) c.args.names.now c.loop-name.name-index past c.loop-name.invariant.sound
+
+pub returns-in_err-write_name-clause-front : goal.returns-in_err-write_name-clause-front
+returns-in_err-write_name-clause-front g c = Front-then c.loop-name.invariant.front c.in_err-write_name.ensures.front

@@ -5,6 +5,7 @@ use Rattle.dw_writer.proofs.Outcomes.{OnOk-map}
 use Rattle.dw_writer.proofs.Steps.{Adds-then}
 use Rattle.dw_line.specs.Instructions.{extended_bytes}
 use Rattle.dw_line.proofs.Steps.{Adds-byte, needed, left_out, other, equal}
+use Rattle.dw_line.proofs.FrontSteps.{Adds-front, AddsSome-front, Front-either, Front-none, Front-then}
 use Rattle.dw_line.proofs.opcode.write_discriminator.Goals as goal
 
 pub overflow_add-uleb128_size : goal.overflow_add-uleb128_size
@@ -21,3 +22,22 @@ returns-then-discriminator-ne0-clause-ok g c =
 
 pub returns-clause-ok : goal.returns-clause-ok
 returns-clause-ok g c = left_out (not (c.args.discriminator == 0)) (0 ∷ extended_bytes 4 (uleb c.args.discriminator)) (equal c.args.discriminator 0 c.if-discriminator-ne0.false)
+
+pub returns-in_err-write_u8-clause-front : goal.returns-in_err-write_u8-clause-front
+returns-in_err-write_u8-clause-front g c = AddsSome-front c.in_err-write_u8.ensures.partly
+
+pub returns-in_err-write_uleb128-clause-front : goal.returns-in_err-write_uleb128-clause-front
+returns-in_err-write_uleb128-clause-front g c = Front-then (Adds-front c.in_ok-write_u8.ensures.ok) (AddsSome-front c.in_err-write_uleb128.ensures.partly)
+
+pub returns-in_err-write_u8-2-clause-front : goal.returns-in_err-write_u8-2-clause-front
+returns-in_err-write_u8-2-clause-front g c = Front-then (Adds-front c.in_ok-write_u8.ensures.ok)
+    (Front-then (Adds-front c.in_ok-write_uleb128.ensures.ok) (AddsSome-front c.in_err-write_u8-2.ensures.partly))
+
+pub returns-then-discriminator-ne0-clause-front : goal.returns-then-discriminator-ne0-clause-front
+returns-then-discriminator-ne0-clause-front g c = Front-then (Adds-front c.in_ok-write_u8.ensures.ok)
+    (Front-then (Adds-front c.in_ok-write_uleb128.ensures.ok)
+    (Front-then (Adds-front c.in_ok-write_u8-2.ensures.ok)
+    (Front-either _ _ c.write_uleb128-then-discriminator-ne0.result c.write_uleb128-then-discriminator-ne0.ensures.ok c.write_uleb128-then-discriminator-ne0.ensures.partly)))
+
+pub returns-clause-front : goal.returns-clause-front
+returns-clause-front g c = Front-none _

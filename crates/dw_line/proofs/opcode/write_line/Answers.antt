@@ -4,6 +4,7 @@ use Rattle.dw_writer.proofs.Outcomes.{OnOk-map}
 use Rattle.dw_writer.proofs.Steps.{Adds-then}
 use Rattle.dw_line.specs.RawRows.{line_change}
 use Rattle.dw_line.proofs.Steps.{Adds-byte, needed, left_out, other, equal}
+use Rattle.dw_line.proofs.FrontSteps.{Adds-front, AddsSome-front, Front-either, Front-none, Front-then}
 use Rattle.dw_line.proofs.opcode.write_line.Goals as goal
 
 pub returns-then-new-old-clause-ok : goal.returns-then-new-old-clause-ok
@@ -16,3 +17,16 @@ returns-then-new-old-clause-ok g c =
 
 pub returns-clause-ok : goal.returns-clause-ok
 returns-clause-ok g c = left_out (not (c.args.new == c.args.old)) _ (equal c.args.new c.args.old c.if-new-old.false)
+
+pub returns-in_err-change-clause-front : goal.returns-in_err-change-clause-front
+returns-in_err-change-clause-front g c = Front-none _
+
+pub returns-in_err-write_u8-clause-front : goal.returns-in_err-write_u8-clause-front
+returns-in_err-write_u8-clause-front g c = AddsSome-front c.in_err-write_u8.ensures.partly
+
+pub returns-then-new-old-clause-front : goal.returns-then-new-old-clause-front
+returns-then-new-old-clause-front g c = Front-then (Adds-front c.in_ok-write_u8.ensures.ok)
+    (Front-either _ _ c.write_sleb128.result c.write_sleb128.ensures.ok c.write_sleb128.ensures.partly)
+
+pub returns-clause-front : goal.returns-clause-front
+returns-clause-front g c = Front-none _

@@ -1,6 +1,7 @@
 use Rattle.std.proofs.Common.{[], ◌∷◌, arith}
 use Rattle.dw_writer.proofs.Outcomes.{OnOk-map}
 use Rattle.dw_line.proofs.Steps.{Adds-byte, needed, left_out}
+use Rattle.dw_line.proofs.FrontSteps.{Front-either, Front-none}
 use Rattle.dw_line.proofs.opcode.write_mark.Goals as goal
 
 pub returns-then-is_needed-clause-ok : goal.returns-then-is_needed-clause-ok
@@ -9,3 +10,9 @@ returns-then-is_needed-clause-ok g c =
 
 pub returns-clause-ok : goal.returns-clause-ok
 returns-clause-ok g c = left_out c.args.is_needed (c.args.opcode ∷ []) c.if-is_needed.false
+
+pub returns-then-is_needed-clause-front : goal.returns-then-is_needed-clause-front
+returns-then-is_needed-clause-front g c = Front-either _ _ c.write_u8.result c.write_u8.ensures.ok c.write_u8.ensures.partly
+
+pub returns-clause-front : goal.returns-clause-front
+returns-clause-front g c = Front-none _

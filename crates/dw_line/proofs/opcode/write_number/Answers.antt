@@ -3,6 +3,7 @@ use Rattle.dw_base.specs.Leb128.{uleb}
 use Rattle.dw_writer.proofs.Outcomes.{OnOk-map}
 use Rattle.dw_writer.proofs.Steps.{Adds-then}
 use Rattle.dw_line.proofs.Steps.{Adds-byte, needed, left_out}
+use Rattle.dw_line.proofs.FrontSteps.{Adds-front, AddsSome-front, Front-either, Front-none, Front-then}
 use Rattle.dw_line.proofs.opcode.write_number.Goals as goal
 
 pub returns-then-is_needed-clause-ok : goal.returns-then-is_needed-clause-ok
@@ -12,3 +13,13 @@ returns-then-is_needed-clause-ok g c =
 
 pub returns-clause-ok : goal.returns-clause-ok
 returns-clause-ok g c = left_out c.args.is_needed (c.args.opcode ∷ uleb c.args.number) c.if-is_needed.false
+
+pub returns-in_err-write_u8-clause-front : goal.returns-in_err-write_u8-clause-front
+returns-in_err-write_u8-clause-front g c = AddsSome-front c.in_err-write_u8.ensures.partly
+
+pub returns-then-is_needed-clause-front : goal.returns-then-is_needed-clause-front
+returns-then-is_needed-clause-front g c = Front-then (Adds-front c.in_ok-write_u8.ensures.ok)
+    (Front-either _ _ c.write_uleb128.result c.write_uleb128.ensures.ok c.write_uleb128.ensures.partly)
+
+pub returns-clause-front : goal.returns-clause-front
+returns-clause-front g c = Front-none _

@@ -1,6 +1,7 @@
 use Rattle.std.proofs.Common.{◌<◌, ◌≤◌, length, arith}
 use Rattle.std.proofs.lemmas.Result.{err_from_is_err_and}
 use Rattle.dw_line.proofs.LineRowsSteps.{rows_none, rows_more, rows_refused, ranged_all}
+use Rattle.dw_line.proofs.FrontSteps.{Adds-front, Front-then}
 use Rattle.dw_line.proofs.row.write_rows.Goals as goal
 
 pub loop-row-init : goal.loop-row-init
@@ -21,3 +22,9 @@ pub returns-clause-ranged : goal.returns-clause-ranged
 returns-clause-ranged g c =
     let past : length c.args.rows.now ≤ c.loop-row.row-index = omega arith in
     ranged_all c.loop-row.invariant past
+
+pub returns-in_err-write_row-clause-front : goal.returns-in_err-write_row-clause-front
+returns-in_err-write_row-clause-front g c = Front-then (Adds-front c.loop-row.invariant.raw.added) c.in_err-write_row.ensures.front
+
+pub returns-clause-front : goal.returns-clause-front
+returns-clause-front g c = Adds-front c.loop-row.invariant.raw.added

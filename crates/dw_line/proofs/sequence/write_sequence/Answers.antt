@@ -3,6 +3,7 @@ use Rattle.dw_writer.proofs.Outcomes.{OnOk-map}
 use Rattle.dw_line.specs.LineRows.{is_end_in_order, last_offset, are_in_order, written_header}
 use Rattle.dw_line.proofs.Steps.{Adds-none}
 use Rattle.dw_line.proofs.SequenceSteps.{sequence_added, rows_after}
+use Rattle.dw_line.proofs.FrontSteps.{Front-then}
 use Rattle.dw_line.proofs.sequence.write_sequence.Goals as goal
 
 pub returns-in-Some-clause-ok : goal.returns-in-Some-clause-ok
@@ -40,3 +41,15 @@ returns-in-None-clause-after g c =
     let order : IsTrue (are_in_order m c.before-first.result.address_offset c.args.rows.now) = rw c.before-first.ensures.offset c.requires.order in
     let after = rows_after h c.args.encoding.version c.requires.positive c.before-first.result c.args.rows.now None start order refl tt c.in_ok-last.ensures.lines c.in_ok-last.ensures.ranged in
     rw (c.in-None.is, ← c.before-first.ensures.row) after
+
+pub returns-in_err-write_set_address-clause-front : goal.returns-in_err-write_set_address-clause-front
+returns-in_err-write_set_address-clause-front g c = c.in_err-write_set_address.ensures.front
+
+pub returns-in_err-last-clause-front : goal.returns-in_err-last-clause-front
+returns-in_err-last-clause-front g c = Front-then c.in_ok-write_set_address.ensures.front c.in_err-last.ensures.front
+
+pub returns-in-Some-clause-front : goal.returns-in-Some-clause-front
+returns-in-Some-clause-front g c = Front-then c.in_ok-write_set_address.ensures.front (Front-then c.in_ok-last.ensures.front c.write_end.ensures.front)
+
+pub returns-in-None-clause-front : goal.returns-in-None-clause-front
+returns-in-None-clause-front g c = Front-then c.in_ok-write_set_address.ensures.front c.in_ok-last.ensures.front

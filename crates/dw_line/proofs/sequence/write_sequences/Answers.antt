@@ -6,10 +6,11 @@ use Rattle.std.specs.List.{list_any}
 use Rattle.dw_base.specs.declared.error.Error.{Error}
 use Rattle.dw_line.specs.Programs.{is_in_order, ended_size, ended_text, ended_fails, IsEndedAfter}
 use Rattle.dw_line.proofs.PartSteps.{texts_none, texts_step, texts_whole, none_more, none_all, some_at, refused_after, all_at}
+use Rattle.dw_line.proofs.FrontSteps.{Front-none, Front-then}
 use Rattle.dw_line.proofs.sequence.write_sequences.Goals as goal
 
 pub loop-sequence-init : goal.loop-sequence-init
-loop-sequence-init g c = record { added = texts_none (ended_size c.args.encoding c.args.line_encoding) (ended_text c.args.encoding c.args.line_encoding) _; sound = λ e. refl; after = All-nil _ }
+loop-sequence-init g c = record { added = texts_none (ended_size c.args.encoding c.args.line_encoding) (ended_text c.args.encoding c.args.line_encoding) _; sound = λ e. refl; after = All-nil _; front = Front-none _ }
 
 pub write-requires-clause-order : goal.write-requires-clause-order
 write-requires-clause-order g c =
@@ -30,6 +31,7 @@ loop-sequence-preserved g c =
       added = texts_step (ended_size e le) (ended_text e le) c.args.sequences.now c.loop-sequence.sequence-index c.sequence-item.result below c.sequence-item.is c.loop-sequence.invariant.added c.in_ok-write.ensures.ok;
       sound = none_more (ended_fails m.is_plain e le) c.args.sequences.now c.loop-sequence.sequence-index c.sequence-item.result below c.sequence-item.is c.loop-sequence.invariant.sound here;
       after = All-more (IsEndedAfter m.is_big e le) c.args.sequences.now c.loop-sequence.sequence-index c.sequence-item.result below c.loop-sequence.invariant.after (subst (IsEndedAfter m.is_big e le) c.sequence-item.is after);
+      front = Front-then c.loop-sequence.invariant.front c.in_ok-write.ensures.front;
     }
 
 pub returns-in_err-write-clause-err : goal.returns-in_err-write-clause-err
@@ -59,3 +61,6 @@ pub returns-clause-after : goal.returns-clause-after
 returns-clause-after g c =
     let past : length c.args.sequences.now ≤ c.loop-sequence.sequence-index = omega arith in
     subst (All (IsEndedAfter (g.W.Writer.meaning c.args.w.now).is_big c.args.encoding c.args.line_encoding)) (take_all c.loop-sequence.sequence-index c.args.sequences.now past) c.loop-sequence.invariant.after
+
+pub returns-in_err-write-clause-front : goal.returns-in_err-write-clause-front
+returns-in_err-write-clause-front g c = Front-then c.loop-sequence.invariant.front c.in_err-write.ensures.front

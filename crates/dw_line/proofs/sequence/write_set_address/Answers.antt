@@ -3,6 +3,7 @@ use Rattle.dw_writer.proofs.Outcomes.{OnOk-map}
 use Rattle.dw_writer.proofs.Steps.{Adds-then}
 use Rattle.dw_line.proofs.Steps.{Adds-byte}
 use Rattle.dw_line.proofs.SequenceSteps.{set_none, set_some}
+use Rattle.dw_line.proofs.FrontSteps.{Adds-front, AddsSome-front, AddsSomeWith-front, Front-none, Front-then}
 use Rattle.dw_line.proofs.sequence.write_set_address.Goals as goal
 
 pub returns-in_ok-write_u8-in-Some-2-clause-ok : goal.returns-in_ok-write_u8-in-Some-2-clause-ok
@@ -15,3 +16,22 @@ returns-in_ok-write_u8-in-Some-2-clause-ok g c =
 
 pub returns-in-None-clause-ok : goal.returns-in-None-clause-ok
 returns-in-None-clause-ok g c = rw c.in-None.is (set_none _ c.args.size)
+
+pub returns-in_err-write_u8-in-Some-clause-front : goal.returns-in_err-write_u8-in-Some-clause-front
+returns-in_err-write_u8-in-Some-clause-front g c = AddsSome-front c.in_err-write_u8-in-Some.ensures.partly
+
+pub returns-in_err-write_uleb128-in-Some-clause-front : goal.returns-in_err-write_uleb128-in-Some-clause-front
+returns-in_err-write_uleb128-in-Some-clause-front g c = Front-then (Adds-front c.in_ok-write_u8-in-Some.ensures.ok) (AddsSome-front c.in_err-write_uleb128-in-Some.ensures.partly)
+
+pub returns-in_err-write_u8-in-Some-2-clause-front : goal.returns-in_err-write_u8-in-Some-2-clause-front
+returns-in_err-write_u8-in-Some-2-clause-front g c = Front-then (Adds-front c.in_ok-write_u8-in-Some.ensures.ok)
+    (Front-then (Adds-front c.in_ok-write_uleb128-in-Some.ensures.ok)
+    (AddsSome-front c.in_err-write_u8-in-Some-2.ensures.partly))
+
+pub returns-in_ok-write_u8-in-Some-2-clause-front : goal.returns-in_ok-write_u8-in-Some-2-clause-front
+returns-in_ok-write_u8-in-Some-2-clause-front g c = Front-then (Adds-front c.in_ok-write_u8-in-Some.ensures.ok)
+    (Front-then (Adds-front c.in_ok-write_uleb128-in-Some.ensures.ok)
+    (Front-then (Adds-front c.in_ok-write_u8-in-Some-2.ensures.ok) (AddsSomeWith-front c.write_address.ensures.partly)))
+
+pub returns-in-None-clause-front : goal.returns-in-None-clause-front
+returns-in-None-clause-front g c = Front-none _

@@ -5,6 +5,7 @@ use Rattle.dw_base.specs.declared.error.Error.TheVariants as errors
 use Rattle.dw_line.specs.LinePrograms.{optional_fails}
 use Rattle.dw_line.specs.ProgramTexts.{program_fails}
 use Rattle.dw_line.proofs.PartSteps.{valid_refused}
+use Rattle.dw_line.proofs.FrontSteps.{Front-none}
 use Rattle.dw_line.proofs.line_program.LineProgram.write.Goals as goal
 
 pub returns-in_err-write-in-Some-clause-complete : goal.returns-in_err-write-in-Some-clause-complete
@@ -25,3 +26,12 @@ returns-in-None-clause-complete g c = λ valid.
     let none = ap (λ v. v.program) (sym c.self.view_is) ∙ c.in-None.is in
     let never : true ≡ false = subst (λ q. IsFalse (optional_fails ss ls plain c.args.encoding q errors.IncompatibleLineProgramEncoding)) none (valid errors.IncompatibleLineProgramEncoding) in
     cc
+
+pub returns-in_err-write-in-Some-clause-front : goal.returns-in_err-write-in-Some-clause-front
+returns-in_err-write-in-Some-clause-front g c = c.in_err-write-in-Some.ensures.front
+
+pub returns-in_ok-write-in-Some-clause-front : goal.returns-in_ok-write-in-Some-clause-front
+returns-in_ok-write-in-Some-clause-front g c = c.in_ok-write-in-Some.ensures.front
+
+pub returns-in-None-clause-front : goal.returns-in-None-clause-front
+returns-in-None-clause-front g c = λ tidy. Front-none _

@@ -1,4 +1,4 @@
-use Rattle.std.proofs.Common.{◌≡◌, ap, subst, Bool, ◌+◌, ◌-◌, ◌||◌, length, IsTrue, arith}
+use Rattle.std.proofs.Common.{◌≡◌, ◌≤◌, ap, subst, Bool, ◌+◌, ◌-◌, ◌||◌, length, IsTrue, arith}
 use Rattle.std.specs.Prelude.{◌++◌}
 use Rattle.std.proofs.lemmas.Bool.{or_left, or_right}
 use Rattle.std.proofs.lemmas.Result.{err_from_is_err_and}
@@ -17,6 +17,8 @@ use Rattle.dw_line.specs.SequenceTexts.{AreBuilt}
 use Rattle.dw_line.proofs.PartSteps.{refused_after, or_false, not_false, OnOk-both}
 use Rattle.dw_line.proofs.ReaderLaws.{narrow_of, shows_sequences}
 use Rattle.dw_line.proofs.HeaderSteps.{first_filled}
+use Rattle.dw_writer.proofs.Steps.{Adds-appends}
+use Rattle.dw_line.proofs.FrontSteps.{Front-none, Front-then, Adds-front, AddsSome-front, Front-patched}
 use Rattle.dw_line.proofs.program.Program.write.Goals as goal
 
 pub returns-in_err-write_contents-clause-err : goal.returns-in_err-write_contents-clause-err
@@ -64,3 +66,23 @@ returns-clause-rows g c =
     let fits = rw long at c.write_initial_length_at.ensures.fits in
     OnOk-both c.write_initial_length_at.result fits (returns-clause-ok g c)
     (λ fit added. shows_sequences ss ls p is version narrow (subst (λ q. IsTrue (length_fits q.encoding.format (program_length p))) c.self.view_is fit) header wide built added)
+
+pub returns-in_err-check_encoding-clause-front : goal.returns-in_err-check_encoding-clause-front
+returns-in_err-check_encoding-clause-front g c = λ tidy. Front-none _
+
+pub returns-in_err-check_forms-clause-front : goal.returns-in_err-check_forms-clause-front
+returns-in_err-check_forms-clause-front g c = λ tidy. Front-none _
+
+pub returns-in_err-place-clause-front : goal.returns-in_err-place-clause-front
+returns-in_err-place-clause-front g c = λ tidy. AddsSome-front c.in_err-place.ensures.partly
+
+pub returns-in_err-write_contents-clause-front : goal.returns-in_err-write_contents-clause-front
+returns-in_err-write_contents-clause-front g c =
+    λ tidy. Front-then (Adds-front c.in_ok-place.ensures.ok) (c.in_err-write_contents.ensures.front ((Adds-appends c.in_ok-place.ensures.ok).tidy tidy))
+
+pub returns-clause-front : goal.returns-clause-front
+returns-clause-front g c =
+    let within : (g.W.Writer.meaning c.args.w.now).size ≤ c.in_ok-place.place = omega (arith, c.in_ok-place.ensures.place) in
+    λ tidy. Front-patched tidy c.in_ok-place.place within
+    (Front-then (Adds-front c.in_ok-place.ensures.ok) (c.in_ok-write_contents.ensures.front ((Adds-appends c.in_ok-place.ensures.ok).tidy tidy)))
+    _ _ c.write_initial_length_at.result c.write_initial_length_at.ensures.ok c.write_initial_length_at.ensures.partly

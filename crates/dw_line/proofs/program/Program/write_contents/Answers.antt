@@ -6,6 +6,7 @@ use Rattle.dw_line.specs.Headers.{header_size, header_text}
 use Rattle.dw_line.specs.LineRows.{written_header}
 use Rattle.dw_line.specs.ProgramTexts.{program_sequences, HeaderIsWide}
 use Rattle.dw_line.specs.SequenceTexts.{AreBuilt}
+use Rattle.dw_line.proofs.FrontSteps.{Front-then}
 use Rattle.dw_line.proofs.program.Program.write_contents.Goals as goal
 
 pub returns-clause-ok : goal.returns-clause-ok
@@ -26,3 +27,6 @@ returns-clause-wide g c =
     let listed = rw (c.as_slice-directories.ensures.keys, c.as_slice-files.ensures.keys) at c.in_ok-write_header.ensures.ok in
     OnOk-map c.write_sequences.result c.write_sequences.ensures.ok
     (λ _. subst (HeaderIsWide c.args.strings.now c.args.line_strings.now big) c.self.view_is (λ l xs e. listed.wide big l xs e))
+
+pub returns-clause-front : goal.returns-clause-front
+returns-clause-front g c = λ tidy. Front-then (c.in_ok-write_header.ensures.front tidy) c.write_sequences.ensures.front

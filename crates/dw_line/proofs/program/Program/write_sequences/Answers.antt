@@ -10,6 +10,7 @@ use Rattle.dw_line.specs.Programs.{built_fails, IsBuiltAfter}
 use Rattle.dw_line.specs.ProgramTexts.{open_sequence}
 use Rattle.dw_line.specs.SequenceTexts.{AreBuilt}
 use Rattle.dw_line.proofs.ProgramSteps.{with_open, without_open, sequences_sound, sequences_refused, program_built}
+use Rattle.dw_line.proofs.FrontSteps.{Front-then}
 use Rattle.dw_line.proofs.program.Program.write_sequences.Goals as goal
 
 pub returns-in_err-write_sequences-clause-err : goal.returns-in_err-write_sequences-clause-err
@@ -70,3 +71,6 @@ returns-clause-built g c =
     let big = (g.W.Writer.meaning c.args.w.now).is_big in
     let ended = rw c.as_slice-sequences.ensures.value at c.in_ok-write_sequences.ensures.after in
     subst (λ q. AreBuilt (written_header big q.line_encoding) (program_sequences q)) c.self.view_is (program_built big p false c.if-self.false ended (λ e. cc))
+
+pub returns-then-self-clause-front : goal.returns-then-self-clause-front
+returns-then-self-clause-front g c = Front-then c.in_ok-write_sequences.ensures.front c.write_sequence.ensures.front
