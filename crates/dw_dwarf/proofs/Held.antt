@@ -1,129 +1,135 @@
--- New plain sections hold the units that were written into them.
-use Rattle.std.proofs.Common.{◌≡◌, ◌∙◌, sym, ap, subst, ℕ, ◌≤◌, Bool, true, false, List, [], ◌∷◌, length, map, Some, refl, arith}
-use Rattle.std.specs.Prelude.{None}
-use Rattle.dw_dwarf.proofs.Conditions.{is_width-lt, MatchBool-false}
-use Rattle.dw_base.specs.Info.{units_at, read_info}
-use Rattle.dw_base.specs.Spelling.{unit_bytes, read_unit}
-use Rattle.dw_base.specs.Spellable.{IsUnit}
-use Rattle.dw_base.proofs.HeaderLaws.{length-unit_bytes}
-use Rattle.dw_base.proofs.InfoLaws.{read_one}
+-- New sections hold the Dwarf that was written into them.
+use Rattle.std.specs.Prelude.{◌≡◌, ℕ, Bool, true, false, not, List, [], ◌∷◌, ◌++◌, map, filter, All, Some, None, refl, if◌then◌else◌}
+use Rattle.std.proofs.Common.{sym, ◌∙◌, ap, subst, append-nil}
+use Rattle.std.specs.List.{flat_map}
+use Rattle.std.proofs.lemmas.List.Elements.{All-head, All-tail}
+use Rattle.dw_base.specs.declared.section_id.SectionId.TheVariants.{DebugAbbrev, DebugInfo}
 use Rattle.dw_writer.specs.Texts.{Text, followed}
 use Rattle.dw_writer.specs.Contents.{Meaning}
-use Rattle.dw_writer.specs.Meaning.{Model, Appends, IsTidy, AllInside}
-use Rattle.dw_writer.proofs.Steps.{Adds-appends}
-use Rattle.dw_writer.specs.New.{IsEmptyPlainWriter, IsNewPlain}
+use Rattle.dw_writer.specs.Layout.{Layout, start_of}
+use Rattle.dw_writer.specs.Meaning.{Adds}
+use Rattle.dw_writer.specs.Resolved.{resolved}
+use Rattle.dw_writer.specs.New.{IsEmptyPlainWriter, IsEmptyWriter, IsNewPlain}
+use Rattle.dw_writer.proofs.NewLemmas.{EachWriter-map}
 use Rattle.dw_writer.specs.declared.sections.Sections.{Sections}
+use Rattle.dw_writer.proofs.Steps.{Adds-appends}
+use Rattle.dw_unit.specs.Built.{Built, whole_file}
 use Rattle.dw_unit.specs.UnitValue.{UnitValue}
-use Rattle.dw_unit.specs.UnitText.{unit_text}
-use Rattle.dw_unit.specs.Whole.{tree_read, tree_declared, tree_bytes, tree_table, settled}
-use Rattle.dw_unit.specs.Written.{AddsNothing, AppendsTree, AppendsUnits}
-use Rattle.dw_unit.specs.Built.{Built}
-use Rattle.dw_unit.proofs.ReadPlaces.{marks_read}
-use Rattle.dw_unit.proofs.UnitSteps.{length-tree_bytes}
-use Rattle.dw_dwarf.specs.Valid.{AreUnwritten}
-use Rattle.dw_dwarf.specs.Written.{HoldsUnits}
-use Rattle.dw_dwarf.proofs.PlainText.{at_zero, resolved-plain, unit_shown}
+use Rattle.dw_unit.specs.Whole.{settled, tree_table}
+use Rattle.dw_unit.specs.Written.{AppendsUnits, to_write}
+use Rattle.dw_unit.proofs.Files.{empty_tidy, resolved-empty, units_held, units_resolved}
+use Rattle.dw_dwarf.specs.Valid.{IsUnwritten, AreUnwritten, settled_dwarf}
+use Rattle.dw_dwarf.specs.Written.{AreNewPlain, AreNew, SectionTexts, HoldsDwarf, ResolvesTo, KeepsOthers}
+use Rattle.dw_dwarf.specs.declared.dwarf.Dwarf.{Dwarf}
 
-empty_tidy : (m : Meaning) (big : Bool) → IsEmptyPlainWriter m big → IsTidy m
-unfolding AllInside
-empty_tidy m big h = record {
-  sized = λ b e. let none : [] ≡ b = let told : Some [] ≡ Some b = sym h.bytes ∙ e in cc in sym (ap length none) ∙ sym h.size;
-  inside = subst (λ rs. AllInside m.size rs) (sym h.records) tt;
-}
+-- where none was written before, all units are written
+first_written : (u : UnitValue) (us : List UnitValue) (b : Bool) → u.is_written ≡ b → b ≡ false → filter (λ v. not v.is_written) (u ∷ us) ≡ u ∷ filter (λ v. not v.is_written) us
+first_written u us b h fresh = ap (λ (t : Bool). if not t then u ∷ filter (λ v. not v.is_written) us else filter (λ v. not v.is_written) us) (h ∙ fresh)
+
+to_write-all : (us : List UnitValue) → All IsUnwritten us → to_write us ≡ map settled us
+to_write-all [] h = refl
+to_write-all (u ∷ us) h =
+    ap (map settled) (first_written u us u.is_written refl (All-head IsUnwritten u us h)) ∙ ap (λ vs. settled u ∷ vs) (to_write-all us (All-tail IsUnwritten u us h))
 
 followed_by : (t : Text) → followed (Some []) t ≡ t
 unfolding followed
 followed_by None = refl
 followed_by (Some xs) = refl
 
--- what was appended to an empty plain writer is all that it holds
-pub appended_told : (old new : Meaning) (big : Bool) (n : ℕ) (text : Model) → IsEmptyPlainWriter old big → Appends old new n text →
-    (new.is_plain ≡ true → new.records ≡ []) → new.bytes ≡ text big at_zero
-appended_told old new big n text empty appends law =
-    let plain : new.is_plain ≡ true = appends.same.kind ∙ empty.plain in
-    sym (resolved-plain new plain (law plain))
-    ∙ appends.resolves (empty_tidy old big empty) at_zero
-    ∙ ap (λ t. followed t (text old.is_big at_zero)) (resolved-plain old empty.plain empty.records ∙ empty.bytes)
-    ∙ followed_by (text old.is_big at_zero)
-    ∙ ap (λ b. text b at_zero) empty.order
+some_is : {A : Type 0} (x y : A) → Some x ≡ Some y → x ≡ y
+some_is x y h = cc
 
--- no units are read from empty sections
-none_built : (big : Bool) → Built [] big [] []
-unfolding read_info units_at
-none_built big = record { read = []; reads = refl; units_are = tt; info_size = refl; abbrevs_size = refl }
+-- the bytes of the units' tables
+abbrev tables_of : List UnitValue → List ℕ
+tables_of us = flat_map (λ u. tree_table u.encoding u.entries) us
 
--- one unit is read from its bytes
-one_built : (u : UnitValue) (big : Bool) → IsUnit big u.encoding 0 (tree_declared u.encoding u.entries) (tree_read u.encoding u.entries) →
-    Built (u ∷ []) big (unit_bytes big u.encoding 0 (tree_bytes big u.encoding u.entries)) (tree_table u.encoding u.entries)
-one_built u big is_unit =
-    let e = u.encoding in
-    let body = tree_bytes big e u.entries in
-    record {
-      read = read_unit big e 0 0 (tree_declared e u.entries) (tree_read e u.entries) ∷ [];
-      reads = read_one big e (tree_declared e u.entries) (tree_read e u.entries) is_unit;
-      units_are = (record { encoding = refl; unit_type = refl; entries = marks_read big e u.entries; declarations = refl }, tt);
-      info_size = omega (arith, length-unit_bytes big e 0 body, length-tree_bytes big e u.entries);
-      abbrevs_size = omega arith;
-    }
+module _ {W : Type 0} (meaning : W → Meaning) (old new : Sections W) (d : Dwarf) (unwritten : AreUnwritten d) (adds : AppendsUnits meaning old new (to_write d.units)) where
+  abbrev us : List UnitValue
+  us = map settled d.units
 
-module _ {W : Type 0} where
-  -- nothing has changed but .debug_info, .debug_abbrev and the lists of fixups
-  abbrev pub OthersStay : Sections W → Sections W → Type 0
-  OthersStay old new =
-      new ≡ record old { debug_abbrev = new.debug_abbrev; debug_info = new.debug_info; debug_info_fixups = new.debug_info_fixups; debug_loc_fixups = new.debug_loc_fixups; debug_loclists_fixups = new.debug_loclists_fixups }
+  all_added : AppendsUnits meaning old new us
+  all_added = subst (AppendsUnits meaning old new) (to_write-all d.units unwritten) adds
 
-  -- units that are read from what two sections tell, while the others stay
-  read_held : (meaning : W → Meaning) (big : Bool) (old new : Sections W) (units : List UnitValue) (info abbrevs : List ℕ) → IsNewPlain meaning big old → OthersStay old new →
-      (meaning new.debug_info.0).bytes ≡ Some info → (meaning new.debug_abbrev.0).bytes ≡ Some abbrevs → Built units big info abbrevs → HoldsUnits meaning big new units
-  read_held meaning big old new units info abbrevs empty others info_told abbrevs_told built =
+  -- the tables alone stand in .debug_abbrev
+  tables_told : IsEmptyPlainWriter (meaning old.debug_abbrev.0) (meaning old.debug_abbrev.0).is_big → (meaning new.debug_abbrev.0).bytes ≡ Some (tables_of us)
+  tables_told empty =
+      all_added.tables.told ∙ ap (λ t. followed t (Some (tables_of us))) empty.bytes ∙ followed_by (Some (tables_of us))
+
+  tables_resolved : IsEmptyWriter (meaning old.debug_abbrev.0) (meaning old.debug_abbrev.0).is_big → (l : Layout) (abbrevs : List ℕ) → resolved l (meaning new.debug_abbrev.0) ≡ Some abbrevs → tables_of us ≡ abbrevs
+  unfolding followed
+  tables_resolved empty l abbrevs h =
+      let m = meaning old.debug_abbrev.0 in
+      let adds_text = (Adds-appends all_added.tables).resolves (empty_tidy m.is_big m empty) l in
+      by_text (resolved l m) refl (sym adds_text ∙ h)
+    where
+      by_text : (t : Text) → resolved l (meaning old.debug_abbrev.0) ≡ t → followed t (Some (tables_of us)) ≡ Some abbrevs → tables_of us ≡ abbrevs
+      by_text None is k = absurd (let x : ◌≡◌ {A = Text} None (Some abbrevs) = k in cc)
+      by_text (Some ys) is k =
+          let none = resolved-empty (meaning old.debug_abbrev.0).is_big l (meaning old.debug_abbrev.0) ys empty is in
+          ap (λ zs. zs ++ tables_of us) (sym none) ∙ some_is (ys ++ tables_of us) abbrevs k
+
+  pub dwarf_resolved : AreNew meaning old → ResolvesTo meaning new (settled_dwarf d)
+  dwarf_resolved empty = record {
+    built = λ l info abbrevs at_info at_abbrevs told_info told_abbrevs.
+        let m = meaning old.debug_info.0 in
+        let built = units_resolved m.is_big m (meaning new.debug_info.0) (meaning old.debug_abbrev.0).size us l empty.info empty.abbrevs.size all_added.info at_info at_abbrevs info told_info in
+        subst (λ b. Built (record { units = us; layout = l } ∷ []) b info abbrevs) (sym all_added.info.same.order)
+        (subst (Built (record { units = us; layout = l } ∷ []) m.is_big info) (tables_resolved empty.abbrevs l abbrevs told_abbrevs) built);
+  }
+
+  pub dwarf_held : ((w : W) → (meaning w).is_plain ≡ true → (meaning w).records ≡ []) → AreNewPlain meaning old → KeepsOthers old new → HoldsDwarf meaning new (settled_dwarf d)
+  dwarf_held law empty others =
+      let m = meaning old.debug_info.0 in
+      let plain : (meaning new.debug_info.0).is_plain ≡ true = all_added.info.same.kind ∙ empty.writers.debug_info.plain in
+      let held = units_held m.is_big m (meaning new.debug_info.0) (meaning old.debug_abbrev.0).size us empty.writers.debug_info (law new.debug_info.0 plain) empty.writers.debug_abbrev.size all_added.info in
       let stays : Sections W = record old { debug_abbrev = new.debug_abbrev; debug_info = new.debug_info; debug_info_fixups = new.debug_info_fixups; debug_loc_fixups = new.debug_loc_fixups; debug_loclists_fixups = new.debug_loclists_fixups } in
-      let kept = λ (f : Sections W → W) (h : IsEmptyPlainWriter (meaning (f stays)) big). let P : Sections W → Type 0 = λ s. IsEmptyPlainWriter (meaning (f s)) big in subst P (sym others) h in
+      let kept = λ (f : Sections W → W) (h : (meaning (f stays)).bytes ≡ Some []). let P : Sections W → Type 0 = λ s. (meaning (f s)).bytes ≡ Some [] in subst P (sym others) h in
+      let texts : SectionTexts = record {
+        debug_abbrev = tables_of us;
+        debug_str = [];
+        debug_line_str = [];
+        debug_line = [];
+        debug_ranges = [];
+        debug_rnglists = [];
+        debug_loc = [];
+        debug_loclists = [];
+        debug_info = held.0;
+        debug_frame = [];
+        eh_frame = [];
+      } in
       record {
-        info = info;
-        abbrevs = abbrevs;
-        info_told = info_told;
-        abbrevs_told = abbrevs_told;
-        built = built;
-        strings = kept (λ s. s.debug_str.0) empty.writers.debug_str;
-        line_strings = kept (λ s. s.debug_line_str.0) empty.writers.debug_line_str;
-        lines = kept (λ s. s.debug_line.0) empty.writers.debug_line;
-        ranges = kept (λ s. s.debug_ranges.0) empty.writers.debug_ranges;
-        range_lists = kept (λ s. s.debug_rnglists.0) empty.writers.debug_rnglists;
-        locations = kept (λ s. s.debug_loc.0) empty.writers.debug_loc;
-        location_lists = kept (λ s. s.debug_loclists.0) empty.writers.debug_loclists;
-        frames = kept (λ s. s.debug_frame.0) empty.writers.debug_frame;
-        eh_frames = kept (λ s. s.eh_frame.0) empty.writers.eh_frame;
+        texts = texts;
+        are = record {
+          units = subst (λ b. Built (whole_file us ∷ []) b held.0 (tables_of us)) (sym all_added.info.same.order) held.1.1;
+          strings = refl;
+          line_strings = refl;
+          lines = refl;
+          ranges = refl;
+          range_lists = refl;
+          locations = refl;
+          location_lists = refl;
+          frames = refl;
+          eh_frames = refl;
+        };
+        told = record {
+          debug_abbrev = tables_told empty.writers.debug_abbrev;
+          debug_str = kept (λ s. s.debug_str.0) empty.writers.debug_str.bytes;
+          debug_line_str = kept (λ s. s.debug_line_str.0) empty.writers.debug_line_str.bytes;
+          debug_line = kept (λ s. s.debug_line.0) empty.writers.debug_line.bytes;
+          debug_ranges = kept (λ s. s.debug_ranges.0) empty.writers.debug_ranges.bytes;
+          debug_rnglists = kept (λ s. s.debug_rnglists.0) empty.writers.debug_rnglists.bytes;
+          debug_loc = kept (λ s. s.debug_loc.0) empty.writers.debug_loc.bytes;
+          debug_loclists = kept (λ s. s.debug_loclists.0) empty.writers.debug_loclists.bytes;
+          debug_info = held.1.0;
+          debug_frame = kept (λ s. s.debug_frame.0) empty.writers.debug_frame.bytes;
+          eh_frame = kept (λ s. s.eh_frame.0) empty.writers.eh_frame.bytes;
+        };
       }
 
-  -- where nothing was written
-  none_held : (meaning : W → Meaning) (big : Bool) (old new : Sections W) → IsNewPlain meaning big old → AddsNothing old new → OthersStay old new → HoldsUnits meaning big new []
-  none_held meaning big old new empty same others =
-      let told = λ (w : W). (meaning w).bytes in
-      read_held meaning big old new [] [] [] empty others (ap told same.0 ∙ empty.writers.debug_info.bytes) (ap told same.1 ∙ empty.writers.debug_abbrev.bytes) (none_built big)
-
-  -- where one unit was written
-  one_held : (meaning : W → Meaning) (big : Bool) (old new : Sections W) (u : UnitValue) → ((w : W) → (meaning w).is_plain ≡ true → (meaning w).records ≡ []) →
-      IsNewPlain meaning big old → AppendsTree meaning old new u.encoding u.entries → OthersStay old new → HoldsUnits meaning big new (u ∷ [])
-  one_held meaning big old new u law empty appends others =
-      let e = u.encoding in
-      let body = tree_bytes big e u.entries in
-      let order = empty.writers.debug_info.order in
-      let start = empty.writers.debug_abbrev.size in
-      let is_unit : IsUnit big e 0 (tree_declared e u.entries) (tree_read e u.entries) =
-      subst (λ p. IsUnit big e p (tree_declared e u.entries) (tree_read e u.entries)) start
-      (subst (λ b. IsUnit b e (meaning old.debug_abbrev.0).size (tree_declared e u.entries) (tree_read e u.entries)) order (appends.spelled empty.writers.debug_info.plain)) in
-      let info = appended_told (meaning old.debug_info.0) (meaning new.debug_info.0) big _ _ empty.writers.debug_info appends.info (law new.debug_info.0) in
-      let table = appended_told (meaning old.debug_abbrev.0) (meaning new.debug_abbrev.0) big _ _ empty.writers.debug_abbrev (Adds-appends appends.table) (law new.debug_abbrev.0) in
-      let place : unit_text e (meaning old.debug_abbrev.0).size (tree_bytes (meaning old.debug_info.0).is_big e u.entries) big at_zero ≡ Some (unit_bytes big e 0 body) =
-      ap (λ b. unit_text e (meaning old.debug_abbrev.0).size (tree_bytes b e u.entries) big at_zero) order
-      ∙ ap (λ p. unit_text e p body big at_zero) start
-      ∙ unit_shown big e body (is_width-lt _ is_unit.address_size) in
-      read_held meaning big old new (u ∷ []) (unit_bytes big e 0 body) (tree_table e u.entries) empty others (info ∙ place) table (one_built u big is_unit)
-
-  pub units_held : (meaning : W → Meaning) (big : Bool) (old new : Sections W) (us : List UnitValue) → ((w : W) → (meaning w).is_plain ≡ true → (meaning w).records ≡ []) →
-      length us ≤ 1 → IsNewPlain meaning big old → AreUnwritten us → AppendsUnits meaning old new us → OthersStay old new → HoldsUnits meaning big new (map settled us)
-  units_held meaning big old new [] law few empty unwritten same others = none_held meaning big old new empty same others
-  units_held meaning big old new (u ∷ []) law few empty unwritten appends others =
-      let fresh : u.is_written ≡ false = unwritten 0 u (omega arith) in
-      one_held meaning big old new (settled u) law empty (MatchBool-false u.is_written _ _ fresh appends) others
-  units_held meaning big old new (u ∷ v ∷ us) law few empty unwritten appends others = absurd (omega arith)
+-- new plain sections of one byte order
+pub AreNewPlain-from : {W : Type 0} (meaning : W → Meaning) (big : Bool) (s : Sections W) → IsNewPlain meaning big s → AreNewPlain meaning s
+AreNewPlain-from meaning big s h = record {
+  writers = EachWriter-map (λ w. IsEmptyPlainWriter (meaning w) big) (λ w. IsEmptyPlainWriter (meaning w) (meaning w).is_big) s
+      (λ w e. record { bytes = e.bytes; size = e.size; records = e.records; order = refl; plain = e.plain }) h.writers;
+  fixups = h.fixups;
+}

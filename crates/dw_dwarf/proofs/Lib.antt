@@ -1,4 +1,2 @@
-pub mod Conditions
-pub mod PlainText
 pub mod Held
 pub mod Complete

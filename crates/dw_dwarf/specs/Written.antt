@@ -1,27 +1,79 @@
--- What new plain sections hold once units were written into them.
-use Rattle.std.specs.Prelude.{◌≡◌, ℕ, Bool, List, Some}
+-- What sections hold once a Dwarf was written into them.
+use Rattle.std.specs.Prelude.{◌≡◌, ℕ, Bool, List, [], ◌∷◌, Some}
+use Rattle.dw_base.specs.declared.section_id.SectionId.TheVariants.{DebugAbbrev, DebugInfo}
 use Rattle.dw_writer.specs.Contents.{Meaning}
+use Rattle.dw_writer.specs.Layout.{Layout, start_of}
+use Rattle.dw_writer.specs.Resolved.{resolved}
+use Rattle.dw_writer.specs.New.{IsEmptyPlainWriter, IsEmptyWriter}
+use Rattle.dw_writer.specs.Sections.{EachWriter, NoFixups}
 use Rattle.dw_writer.specs.declared.sections.Sections.{Sections}
-use Rattle.dw_writer.specs.New.{IsEmptyPlainWriter}
-use Rattle.dw_unit.specs.UnitValue.{UnitValue}
-use Rattle.dw_unit.specs.Built.{Built}
+use Rattle.dw_unit.specs.Built.{Built, whole_file}
+use Rattle.dw_dwarf.specs.declared.dwarf.Dwarf.{Dwarf}
 
--- .debug_info and .debug_abbrev are read as exactly these units, and nothing was written elsewhere
-pub record HoldsUnits {W : Type 0} (meaning : W → Meaning) (big : Bool) (s : Sections W) (units : List UnitValue) : Type 0 where
-  pub info : List ℕ
-  pub abbrevs : List ℕ
-  pub info_told : (meaning s.debug_info.0).bytes ≡ Some info
-  pub abbrevs_told : (meaning s.debug_abbrev.0).bytes ≡ Some abbrevs
-  pub built : Built units big info abbrevs
-  pub strings : IsEmptyPlainWriter (meaning s.debug_str.0) big
-  pub line_strings : IsEmptyPlainWriter (meaning s.debug_line_str.0) big
-  pub lines : IsEmptyPlainWriter (meaning s.debug_line.0) big
-  pub ranges : IsEmptyPlainWriter (meaning s.debug_ranges.0) big
-  pub range_lists : IsEmptyPlainWriter (meaning s.debug_rnglists.0) big
-  pub locations : IsEmptyPlainWriter (meaning s.debug_loc.0) big
-  pub location_lists : IsEmptyPlainWriter (meaning s.debug_loclists.0) big
-  pub frames : IsEmptyPlainWriter (meaning s.debug_frame.0) big
-  pub eh_frames : IsEmptyPlainWriter (meaning s.eh_frame.0) big
+-- nothing was written yet: every writer is empty, and plain, in an order of its own
+pub record AreNewPlain {W : Type 0} (meaning : W → Meaning) (s : Sections W) : Type 0 where
+  pub writers : EachWriter (λ w. IsEmptyPlainWriter (meaning w) (meaning w).is_big) s
+  pub fixups : NoFixups s
+
+-- the same of writers of any kind, of the two sections that units are written into
+pub record AreNew {W : Type 0} (meaning : W → Meaning) (s : Sections W) : Type 0 where
+  pub info : IsEmptyWriter (meaning s.debug_info.0) (meaning s.debug_info.0).is_big
+  pub abbrevs : IsEmptyWriter (meaning s.debug_abbrev.0) (meaning s.debug_abbrev.0).is_big
+
+-- the bytes of the eleven sections
+pub record SectionTexts : Type 0 where
+  pub debug_abbrev : List ℕ
+  pub debug_str : List ℕ
+  pub debug_line_str : List ℕ
+  pub debug_line : List ℕ
+  pub debug_ranges : List ℕ
+  pub debug_rnglists : List ℕ
+  pub debug_loc : List ℕ
+  pub debug_loclists : List ℕ
+  pub debug_info : List ℕ
+  pub debug_frame : List ℕ
+  pub eh_frame : List ℕ
+
+-- These are the texts of a Dwarf: .debug_info and .debug_abbrev are read, to their last byte, as exactly its units, and there
+-- is nothing else.
+pub record AreTextsOf (big : Bool) (d : Dwarf) (t : SectionTexts) : Type 0 where
+  pub units : Built (whole_file d.units ∷ []) big t.debug_info t.debug_abbrev
+  pub strings : t.debug_str ≡ []
+  pub line_strings : t.debug_line_str ≡ []
+  pub lines : t.debug_line ≡ []
+  pub ranges : t.debug_ranges ≡ []
+  pub range_lists : t.debug_rnglists ≡ []
+  pub locations : t.debug_loc ≡ []
+  pub location_lists : t.debug_loclists ≡ []
+  pub frames : t.debug_frame ≡ []
+  pub eh_frames : t.eh_frame ≡ []
+
+-- the writers tell these bytes
+pub record TellTexts {W : Type 0} (meaning : W → Meaning) (s : Sections W) (t : SectionTexts) : Type 0 where
+  pub debug_abbrev : (meaning s.debug_abbrev.0).bytes ≡ Some t.debug_abbrev
+  pub debug_str : (meaning s.debug_str.0).bytes ≡ Some t.debug_str
+  pub debug_line_str : (meaning s.debug_line_str.0).bytes ≡ Some t.debug_line_str
+  pub debug_line : (meaning s.debug_line.0).bytes ≡ Some t.debug_line
+  pub debug_ranges : (meaning s.debug_ranges.0).bytes ≡ Some t.debug_ranges
+  pub debug_rnglists : (meaning s.debug_rnglists.0).bytes ≡ Some t.debug_rnglists
+  pub debug_loc : (meaning s.debug_loc.0).bytes ≡ Some t.debug_loc
+  pub debug_loclists : (meaning s.debug_loclists.0).bytes ≡ Some t.debug_loclists
+  pub debug_info : (meaning s.debug_info.0).bytes ≡ Some t.debug_info
+  pub debug_frame : (meaning s.debug_frame.0).bytes ≡ Some t.debug_frame
+  pub eh_frame : (meaning s.eh_frame.0).bytes ≡ Some t.eh_frame
+
+-- the sections hold exactly this Dwarf
+pub record HoldsDwarf {W : Type 0} (meaning : W → Meaning) (s : Sections W) (d : Dwarf) : Type 0 where
+  pub texts : SectionTexts
+  pub are : AreTextsOf (meaning s.debug_info.0).is_big d texts
+  pub told : TellTexts meaning s texts
+
+-- Once a linker has put every record's number in, where the two sections start at 0, they are read as exactly the units, with
+-- the layout's values in the place of symbols.
+pub record ResolvesTo {W : Type 0} (meaning : W → Meaning) (s : Sections W) (d : Dwarf) : Type 0 where
+  pub built : (l : Layout) (info abbrevs : List ℕ) → start_of l DebugInfo ≡ 0 → start_of l DebugAbbrev ≡ 0 →
+      resolved l (meaning s.debug_info.0) ≡ Some info → resolved l (meaning s.debug_abbrev.0) ≡ Some abbrevs →
+      Built (record { units = d.units; layout = l } ∷ []) (meaning s.debug_info.0).is_big info abbrevs
 
 -- all but the two sections of units and the lists of fixups is as before
 abbrev pub KeepsOthers : {W : Type 0} → Sections W → Sections W → Type 0

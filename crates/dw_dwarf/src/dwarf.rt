@@ -1,14 +1,11 @@
 //! The DWARF of one file.
 
-ghost use Rattle.std.specs.Prelude.{◌≡◌, ◌⊎◌, ◌≤◌, Bool, [], length, map, OnOk, OnErr, IfErr};
+ghost use Rattle.std.specs.Prelude.{◌≡◌, ◌⊎◌, ◌≤◌, true, [], length, OnOk, OnErr, IfErr};
 ghost use Rattle.dw_base.specs.declared.error.Error.TheVariants.{NoMemory};
-ghost use Rattle.dw_writer.specs.New.{IsNewPlain};
 ghost use Rattle.dw_writer.specs.Sections.{SomeHasRisen, fault_sum, NoFixups};
-ghost use Rattle.dw_unit.specs.Whole.{settled, written};
-ghost use Rattle.dw_unit.specs.Written.{AppendsUnits};
-ghost use Rattle.dw_unit.specs.Causes.{UnitsRefused};
-ghost use Rattle.dw_dwarf.specs.Valid.{AreUnwritten, IsValid};
-ghost use Rattle.dw_dwarf.specs.Written.{HoldsUnits, KeepsOthers};
+ghost use Rattle.dw_unit.specs.Written.{AppendsUnits, to_write};
+ghost use Rattle.dw_dwarf.specs.Valid.{AreUnwritten, IsValid, DwarfRefused, settled_dwarf, written_dwarf};
+ghost use Rattle.dw_dwarf.specs.Written.{AreNewPlain, AreNew, HoldsDwarf, ResolvesTo, KeepsOthers};
 
 use dw_base::Result;
 use dw_unit::UnitTable;
@@ -43,11 +40,12 @@ impl Dwarf {
     /// The table has one unit at most so far. Refused as `UnsupportedVersion` or
     /// `UnsupportedWordSize` where a unit's version isn't 2 to 5 or its address size isn't 1, 2, 4
     /// or 8, as `InvalidAttributeValue` where a string has a zero byte, as `InvalidReference` where
-    /// a reference names an entry outside its unit's tree, as `InitialLengthOverflow` where a
-    /// 32-bit unit has 0xffff_fff0 bytes or more after its length (DWARF 5, 7.4), as
-    /// `ValueTooLarge` where the place of its table has no room in a word, and as `WriteFault` or
-    /// `NoMemory`. A refused unit stays as it was, or has its base types moved, and the two
-    /// sections may have got some of its bytes.
+    /// a reference names an entry outside its unit's tree, as `InvalidAddress` where an address is a
+    /// symbol's and the sections record no relocations, as `InitialLengthOverflow` where a 32-bit
+    /// unit has 0xffff_fff0 bytes or more after its length (DWARF 5, 7.4), as `ValueTooLarge` where
+    /// an address, an offset, the place of a table or the size of a unit has no room, and as
+    /// `WriteFault` or `NoMemory`. A refused unit stays as it was, or has its base types moved, and
+    /// the two sections may have got some of its bytes.
     ///
     /// ```
     /// let mut dwarf = Dwarf::new(alloc);
@@ -57,27 +55,28 @@ impl Dwarf {
     /// ```
     pub fn write<W: Writer>(&mut self, sections: &mut Sections<W>) -> Result<()>
         requires { length self.old.units ≤ 1 }
-        // Whatever the byte order of new plain sections is, they are read back as the units.
-        ensures built { OnOk result ((big : Bool) →
-            IsNewPlain W.meaning big sections.old → AreUnwritten self.old.units →
-            HoldsUnits W.meaning big sections.new (map settled self.old.units)) }
-        // Over sections of any kind: a unit that wasn't written before is added, one that was adds
-        // nothing.
+        // Over new plain sections, each in its own byte order: they are read back as the units.
+        ensures built { OnOk result
+            (AreNewPlain W.meaning sections.old → AreUnwritten self.old →
+            HoldsDwarf W.meaning sections.new (settled_dwarf self.old)) }
+        // Over new sections of any kind: so they are once a linker has resolved them.
+        ensures resolves { OnOk result
+            (AreNew W.meaning sections.old → AreUnwritten self.old →
+            ResolvesTo W.meaning sections.new (settled_dwarf self.old)) }
+        // Over sections of any kind: units that weren't written before are added, others aren't.
         ensures adds { OnOk result
-            (AppendsUnits W.meaning sections.old sections.new self.old.units) }
+            (AppendsUnits W.meaning sections.old sections.new (to_write self.old.units)) }
         ensures emptied { OnOk result (NoFixups sections.new) }
-        ensures marked { OnOk result
-            (self.new ≡ record self.old { units = map written self.old.units }) }
-        ensures valid { OnOk result (AreUnwritten self.old.units → IsValid self.old.units) }
+        ensures marked { OnOk result (self.new ≡ written_dwarf self.old) }
+        ensures valid { OnOk result
+            (AreUnwritten self.old →
+            IsValid (W.meaning sections.old.debug_info.0).is_plain self.old) }
 
-        ensures err { IfErr result
-            (UnitsRefused W.meaning sections.old sections.new self.old.units) }
-        ensures kept { OnErr result ((self.new ≡ self.old)
-            ⊎ (self.new ≡ record self.old { units = map settled self.old.units })) }
-        // A valid unit is refused over new plain sections only for want of memory, or by a fault
+        ensures err { IfErr result (DwarfRefused W.meaning sections.old sections.new self.old) }
+        ensures kept { OnErr result ((self.new ≡ self.old) ⊎ (self.new ≡ settled_dwarf self.old)) }
+        // A valid Dwarf is refused over new plain sections only for want of memory, or by a fault
         // that was counted.
-        ensures complete { (big : Bool) →
-            IsNewPlain W.meaning big sections.old → IsValid self.old.units →
+        ensures complete { AreNewPlain W.meaning sections.old → IsValid true self.old →
             (SomeHasRisen W.meaning sections.old sections.new → ⊥) →
             IfErr result (λ e. e ≡ NoMemory) }
 

@@ -15,3 +15,6 @@ pub mod SettledLaws
 pub mod Tagged
 pub mod Distinct
 pub mod Worked
+pub mod ValueTexts
+pub mod ValuesThere
+pub mod ContentLaws

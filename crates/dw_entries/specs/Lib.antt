@@ -5,4 +5,9 @@ pub mod Lends
 pub mod Tree
 pub mod Walk
 pub mod Settled
+pub mod Targets
+pub mod Content
+pub mod ContentView
 pub mod Values
+pub mod Keys
+pub mod Equality

@@ -5,9 +5,12 @@ mod arena;
 mod attribute;
 mod attribute_walk;
 mod attributes;
+mod content;
 mod entries;
 mod entry;
+mod key;
 mod settle;
+mod size;
 #[cfg(test)]
 mod tests;
 mod tree;
@@ -15,8 +18,10 @@ mod value;
 
 pub use attribute::Attribute;
 pub use attribute_walk::{AttrMut, AttributeWalk, AttrsMut};
+pub use content::Content;
 pub use dw_writer::Bytes;
 pub use entries::Entries;
 pub use entry::DebuggingInformationEntry;
+pub use size::sum;
 pub use tree::{Item, flatten};
 pub use value::{AttributeValue, reference_form};

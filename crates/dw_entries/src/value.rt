@@ -1,27 +1,93 @@
 //! The values of attributes.
 
-ghost use Rattle.std.specs.Prelude.{◌≡◌, ◌↔◌, Ok, IsTrue, IfOk, IfErr};
-ghost use Rattle.dw_base.specs.declared.error.Error.TheVariants.{NoMemory};
-ghost use Rattle.dw_entries.specs.Values.{form_of, constant_of, operand_size, capped, reference_form as form_of_reference};
+ghost use Rattle.std.specs.Prelude.{◌≡◌, ◌↔◌, ◌+◌, ◌≤◌, ◌^◌, ℕ, Option, Ok, IsTrue, IfOk, IfErr, length as len};
+ghost use Rattle.dw_base.specs.declared.error.Error.TheVariants.{NoMemory, ValueTooLarge};
+ghost use Rattle.dw_entries.specs.Values.{form_of, constant_of, operand_size, constant_form, declared_constant, reference_form as form_of_reference, present_form as form_of_present, offset_form as form_of_offset, supplementary_form as form_of_supplementary};
+ghost use Rattle.dw_base.specs.Leb128.{uleb};
 
+use crate::content::Content;
+use crate::size::sum;
 use dw_base::constants::{
-    DW_FORM_data1, DW_FORM_ref4, DW_FORM_ref8, DW_FORM_string, DW_FORM_udata,
+    DW_FORM_addr, DW_FORM_block, DW_FORM_data1, DW_FORM_data2, DW_FORM_data4, DW_FORM_data8,
+    DW_FORM_data16, DW_FORM_flag, DW_FORM_flag_present, DW_FORM_implicit_const, DW_FORM_ref_sig8,
+    DW_FORM_ref_sup4, DW_FORM_ref_sup8, DW_FORM_ref4, DW_FORM_ref8, DW_FORM_sdata,
+    DW_FORM_sec_offset, DW_FORM_string, DW_FORM_strp_sup, DW_FORM_udata,
 };
-use dw_base::{DwForm, Encoding, Format, Result, UnitEntryId, uleb128_size};
+use dw_base::{
+    Address, DebugInfoOffset, DebugMacinfoOffset, DebugMacroOffset, DebugStrOffset,
+    DebugTypeSignature, DwAccess, DwAddr, DwAte, DwCc, DwDs, DwEnd, DwForm, DwId, DwInl, DwLang,
+    DwOrd, DwVirtuality, DwVis, Encoding, Format, Result, UnitEntryId, sleb128_size, uleb128_size,
+};
 use dw_writer::Bytes;
 
 /// The value of an attribute. The form in which it is written follows from it and from the unit's
 /// encoding.
-#[derive(Clone, Debug, PartialEq, Eq, Drop)]
+#[derive(Clone, Debug, Drop)]
 pub enum AttributeValue {
+    /// An address of the target, in as many bytes as the unit's addresses have.
+    Address(Address),
+    /// Bytes, behind their length in unsigned LEB128.
+    Block(Bytes),
     /// A number of one byte.
     Data1(u8),
+    /// A number of two bytes.
+    Data2(u16),
+    /// A number of four bytes.
+    Data4(u32),
+    /// A number of eight bytes.
+    Data8(u64),
+    /// A number of sixteen bytes. Only readers of version 5 know the form (DWARF 5, 7.5.5).
+    Data16(u128),
+    /// A number, in the shortest signed LEB128 spelling.
+    Sdata(i64),
     /// A number, in the shortest unsigned LEB128 spelling.
     Udata(u64),
-    /// A string without its closing zero.
-    String(Bytes),
+    /// A number that the abbreviation holds in version 5, so that entries which share it spend no
+    /// byte on it (DWARF 5, 7.5.3). In older versions it is written as `Sdata`.
+    ImplicitConst(i64),
+    /// A flag of one byte: 0 or 1.
+    Flag(bool),
+    /// A flag that is set, without a byte from version 4 on, and below as one byte 1.
+    FlagPresent,
     /// An entry of the same unit, by its place in the unit.
     UnitRef(UnitEntryId),
+    /// An entry of the supplementary object file, by its place in that file's `.debug_info`
+    /// (DWARF 5, 7.3.6).
+    DebugInfoRefSup(DebugInfoOffset),
+    /// A place in `.debug_macinfo`, which had macros up to version 4.
+    DebugMacinfoRef(DebugMacinfoOffset),
+    /// A place in `.debug_macro`, which has them from version 5 on.
+    DebugMacroRef(DebugMacroOffset),
+    /// A type unit, by its signature (DWARF 5, 7.32), in eight bytes.
+    DebugTypesRef(DebugTypeSignature),
+    /// A string of the supplementary object file, by its place in that file's `.debug_str`.
+    DebugStrRefSup(DebugStrOffset),
+    /// A string without its closing zero.
+    String(Bytes),
+    /// How a base type is encoded (DWARF 5, 7.8). This and the codes below are unsigned LEB128.
+    Encoding(DwAte),
+    /// The sign of a decimal type (7.8).
+    DecimalSign(DwDs),
+    /// The byte order of a variable (7.8).
+    Endianity(DwEnd),
+    /// Who may use a member (7.9).
+    Accessibility(DwAccess),
+    /// Where a name is visible (7.10).
+    Visibility(DwVis),
+    /// Whether a function is virtual (7.11).
+    Virtuality(DwVirtuality),
+    /// The source language of a unit (7.12).
+    Language(DwLang),
+    /// The class of an address (7.13).
+    AddressClass(DwAddr),
+    /// Whether names of a unit tell cases apart (7.14).
+    IdentifierCase(DwId),
+    /// How a function is called (7.15).
+    CallingConvention(DwCc),
+    /// Whether a function is inlined (7.16).
+    Inline(DwInl),
+    /// The order of an array's elements (7.17).
+    Ordering(DwOrd),
 }
 
 impl AttributeValue {
@@ -43,26 +109,120 @@ impl AttributeValue {
     /// The form in which the value is written, and the constant that the declaration holds for it
     /// where the form is `DW_FORM_implicit_const`.
     pub fn form(&self, encoding: Encoding) -> Result<(DwForm, Option<i64>)>
-        ensures { result ≡ Ok (record { 0 = form_of encoding self.now }, constant_of self.now) }
+        ensures { result
+            ≡ Ok (record { 0 = form_of encoding self.now }, constant_of encoding self.now) }
     {
-        match self {
-            AttributeValue::Data1(_) => Ok((DW_FORM_data1, None)),
-            AttributeValue::Udata(_) => Ok((DW_FORM_udata, None)),
-            AttributeValue::String(_) => Ok((DW_FORM_string, None)),
-            AttributeValue::UnitRef(_) => Ok((reference_form(encoding.format), None)),
-        }
+        let form = match self {
+            AttributeValue::Address(_) => DW_FORM_addr,
+            AttributeValue::Block(_) => DW_FORM_block,
+            AttributeValue::Data1(_) => DW_FORM_data1,
+            AttributeValue::Data2(_) => DW_FORM_data2,
+            AttributeValue::Data4(_) => DW_FORM_data4,
+            AttributeValue::Data8(_) => DW_FORM_data8,
+            AttributeValue::Data16(_) => DW_FORM_data16,
+            AttributeValue::Sdata(_) => DW_FORM_sdata,
+            AttributeValue::ImplicitConst(number) => return Ok(declared(encoding, *number)),
+            AttributeValue::Flag(_) => DW_FORM_flag,
+            AttributeValue::FlagPresent => present_form(encoding),
+            AttributeValue::UnitRef(_) => reference_form(encoding.format),
+            AttributeValue::DebugInfoRefSup(_) => supplementary_form(encoding.format),
+            AttributeValue::DebugMacinfoRef(_) => offset_form(encoding),
+            AttributeValue::DebugMacroRef(_) => offset_form(encoding),
+            AttributeValue::DebugTypesRef(_) => DW_FORM_ref_sig8,
+            AttributeValue::DebugStrRefSup(_) => DW_FORM_strp_sup,
+            AttributeValue::String(_) => DW_FORM_string,
+            AttributeValue::Udata(_)
+            | AttributeValue::Encoding(_)
+            | AttributeValue::DecimalSign(_)
+            | AttributeValue::Endianity(_)
+            | AttributeValue::Accessibility(_)
+            | AttributeValue::Visibility(_)
+            | AttributeValue::Virtuality(_)
+            | AttributeValue::Language(_)
+            | AttributeValue::AddressClass(_)
+            | AttributeValue::IdentifierCase(_)
+            | AttributeValue::CallingConvention(_)
+            | AttributeValue::Inline(_)
+            | AttributeValue::Ordering(_) => DW_FORM_udata,
+        };
+        Ok((form, None))
     }
 
-    /// The bytes of what stands for the value in an entry.
-    pub fn size(&self, encoding: Encoding) -> u64
-        ensures { result ≡ capped (operand_size encoding self.now) }
+    /// The bytes of what stands for the value in an entry. Refused as `ValueTooLarge` where they
+    /// come to no number of 64 bits.
+    pub fn size(&self, encoding: Encoding) -> Result<u64>
+        ensures ok { IfOk result
+            (λ n. (place : ℕ → Option ℕ) → n ≡ operand_size encoding place self.now) }
+        ensures err { IfErr result
+            (λ e. (e ≡ ValueTooLarge)
+            × ((place : ℕ → Option ℕ) → 2 ^ 64 ≤ operand_size encoding place self.now)) }
     {
-        match self {
-            AttributeValue::Data1(_) => 1,
-            AttributeValue::Udata(number) => uleb128_size(*number) as u64,
-            AttributeValue::String(text) => (text.len() as u64).saturating_add(1),
-            AttributeValue::UnitRef(_) => encoding.format.word_size() as u64,
+        match self.content(encoding) {
+            Content::Nothing => Ok(0),
+            Content::Plain { size, .. } => Ok(size as u64),
+            Content::Wide(_) => Ok(16),
+            Content::Leb(number) => Ok(uleb128_size(number) as u64),
+            Content::SignedLeb(number) => Ok(sleb128_size(number) as u64),
+            Content::Block(bytes) => counted_size(bytes.len() as u64),
+            Content::Closed(text) => sum(text.len() as u64, 1),
+            Content::Target(_) => Ok(encoding.address_size as u64),
+            Content::Offset { .. } => Ok(encoding.format.word_size() as u64),
+            Content::EntryPlace(_) => Ok(encoding.format.word_size() as u64),
         }
+    }
+}
+
+/// The bytes of a length in unsigned LEB128 and of what it counts.
+fn counted_size(length: u64) -> Result<u64>
+    ensures ok { IfOk result (λ n. n ≡ len (uleb length) + length) }
+    ensures err { IfErr result
+        (λ e. (e ≡ ValueTooLarge) × (2 ^ 64 ≤ len (uleb length) + length)) }
+{
+    sum(uleb128_size(length) as u64, length)
+}
+
+/// The form of a constant, and the constant where the declaration holds it.
+fn declared(encoding: Encoding, number: i64) -> (DwForm, Option<i64>)
+    ensures { result ≡ (record { 0 = constant_form encoding }, declared_constant encoding number) }
+{
+    if encoding.version == 5 {
+        (DW_FORM_implicit_const, Some(number))
+    } else {
+        (DW_FORM_sdata, None)
+    }
+}
+
+/// The form of a flag that is set.
+fn present_form(encoding: Encoding) -> DwForm
+    ensures { result.0 ≡ form_of_present encoding }
+{
+    if encoding.version >= 4 {
+        DW_FORM_flag_present
+    } else {
+        DW_FORM_flag
+    }
+}
+
+/// The form of an offset into a section.
+fn offset_form(encoding: Encoding) -> DwForm
+    ensures { result.0 ≡ form_of_offset encoding }
+{
+    if encoding.version >= 4 {
+        return DW_FORM_sec_offset;
+    }
+    match encoding.format {
+        Format::Dwarf32 => DW_FORM_data4,
+        Format::Dwarf64 => DW_FORM_data8,
+    }
+}
+
+/// The form of an entry of the supplementary file.
+fn supplementary_form(format: Format) -> DwForm
+    ensures { result.0 ≡ form_of_supplementary format }
+{
+    match format {
+        Format::Dwarf32 => DW_FORM_ref_sup4,
+        Format::Dwarf64 => DW_FORM_ref_sup8,
     }
 }
 

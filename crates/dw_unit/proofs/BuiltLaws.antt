@@ -1,31 +1,38 @@
 -- What a unit that is read tells of the entries that were built.
-use Rattle.std.proofs.Common.{◌≡◌, ◌∙◌, sym, ap, arith, ℕ, zero, suc, List, [], ◌∷◌, ◌++◌, map, drop, Option, Some, None, Bool, true, false, refl, ⊎_elim}
+use Rattle.std.proofs.Common.{◌≡◌, ◌∙◌, sym, ap, subst, arith, ℕ, zero, suc, List, [], ◌∷◌, map, drop, Option, Some, None, Bool, true, false, refl, ⊎_elim}
 use Rattle.std.specs.Prelude.{◌==◌, ◌↔◌, not, slice_get, if◌then◌else◌, Contains}
 use Rattle.std.specs.Option.{option_map}
 use Rattle.std.proofs.lemmas.Bool.{and_parts, or_left, or_right, or_cases, not_from_true, eq-eqb, eqb-true, ne_eqb, false≢true}
 use Rattle.std.proofs.lemmas.Option.{none-some, same_Some, slice_get-map}
-use Rattle.dw_base.specs.Abbreviations.{Declaration}
-use Rattle.dw_base.specs.Forms.{Number}
+use Rattle.dw_base.specs.Numbers.{◌>>=◌, when, fits, word_of}
+use Rattle.dw_base.specs.Abbreviations.{Shape, Declaration}
+use Rattle.dw_base.specs.Forms.{Operand, Number}
 use Rattle.dw_base.specs.Entries.{ReadAttribute, ReadEntry, Mark, Open, Null, Row, past_row}
 use Rattle.dw_base.specs.Info.{ReadUnit}
 use Rattle.dw_base.specs.declared.common.Encoding.{Encoding}
 use Rattle.dw_base.specs.declared.ids.UnitEntryId.{UnitEntryId}
+use Rattle.dw_base.proofs.NumberLaws.{bind_parts}
+use Rattle.dw_writer.specs.Layout.{Layout}
 use Rattle.dw_abbrev.specs.Codes.{code_in, declarations}
 use Rattle.dw_abbrev.proofs.CodeLaws.{code_in-same}
 use Rattle.dw_entries.specs.declared.attribute.Attribute.{Attribute}
 use Rattle.dw_entries.specs.declared.value.AttributeValue.TheVariants as values
-use Rattle.dw_unit.specs.UnitValue.{UnitValue}
 use Rattle.dw_entries.specs.Attributes.{named}
-use Rattle.dw_entries.specs.Entries.{EntryValue, entry_at, has_sibling}
-use Rattle.dw_entries.specs.Values.{reference_form}
-use Rattle.dw_unit.specs.Shapes.{Placement, shape_of_entry, read_attribute, read_sibling}
-use Rattle.dw_unit.specs.Coded.{coded_mark}
-use Rattle.dw_unit.specs.DistinctShapes.{entry_shapes, distinct_shapes}
 use Rattle.dw_entries.specs.Arena.{AreLinked}
+use Rattle.dw_entries.specs.Entries.{EntryValue, entry_at, has_any, has_sibling}
+use Rattle.dw_entries.specs.Targets.{Targets}
 use Rattle.dw_entries.specs.Tree.{preorder, has_entry, are_entries_distinct}
-use Rattle.dw_unit.specs.Built.{place_read, past_read, placement_read, IsBuilt}
-use Rattle.dw_unit.specs.Whole.{tree_shapes}
+use Rattle.dw_entries.specs.Content.{number_in}
+use Rattle.dw_entries.specs.Values.{form_of, constant_of, operand_of, reference_form}
 use Rattle.dw_entries.proofs.Distinct.{preorder_distinct}
+use Rattle.dw_unit.specs.Built.{place_read, past_read, places_read, targets_read, Starts, past_unit, IsBuilt, AreBuilt}
+use Rattle.dw_unit.specs.Coded.{code_of_entry}
+use Rattle.dw_unit.specs.DistinctShapes.{entry_shapes, distinct_shapes}
+use Rattle.dw_unit.specs.Places.{found}
+use Rattle.dw_unit.specs.Read.{each, read_attribute, read_sibling, with_sibling, read_attributes, read_entry, read_coded}
+use Rattle.dw_unit.specs.Shapes.{shape_of_entry, sibling_name}
+use Rattle.dw_unit.specs.UnitValue.{UnitValue}
+use Rattle.dw_unit.specs.Whole.{tree_shapes}
 use Rattle.dw_unit.proofs.DistinctShapes.{has_shape-distinct, has_shape-entry, has_shape-at, distinct_shapes-differ, Contains-shape, code_in-place, numbered-declares, entry_of_shape}
 
 -- An entry is read in a row: the row has the number that the entry has in preorder.
@@ -48,13 +55,6 @@ pub record IsUsed (u : UnitValue) (r : ReadUnit) (place : ℕ) (d : Declaration)
   pub shape : shape_of_entry u.encoding (entry_at u.entries entry) ≡ d.shape
   pub has_code : code_of row ≡ Some d.code
 
--- where the entries of a unit are read, and what is read of a mark
-abbrev pub places_read : UnitValue → ReadUnit → Placement
-places_read u r = placement_read (preorder u.entries) r.rows
-
-abbrev mark_as_read : UnitValue → ReadUnit → Mark ℕ → Mark ReadEntry
-mark_as_read u r m = coded_mark u.encoding u.entries (places_read u r) (tree_shapes u.encoding u.entries) m
-
 -- the attribute at a position in a row
 abbrev pub attribute_at : Row → ℕ → Option ReadAttribute
 attribute_at row a = elim row.mark [ Open x ↦ slice_get x.attributes a | Null ↦ None ]
@@ -62,6 +62,14 @@ attribute_at row a = elim row.mark [ Open x ↦ slice_get x.attributes a | Null 
 -- the position at which an entry's a-th attribute is read: one later, where DW_AT_sibling stands first
 abbrev pub position_read : EntryValue → ℕ → ℕ
 position_read x a = if has_sibling x then suc a else a
+
+-- an attribute with its operand, as it is read
+abbrev pub with_operand : Encoding → Attribute → Operand → ReadAttribute
+with_operand e x o = record { name = x.name.0; form = form_of e x.value; constant = constant_of e x.value; operand = o }
+
+-- the place past an entry, as it is read
+abbrev pub sibling_at : Encoding → ℕ → ReadAttribute
+sibling_at e past = record { name = sibling_name; form = reference_form e.format; constant = None; operand = Number past }
 
 -- an entry that has a number is among the marks
 has_entry-at : (ms : List (Mark ℕ)) (n i : ℕ) → slice_get ms n ≡ Some (Open i) → has_entry ms i ≡ true
@@ -112,73 +120,162 @@ Contains-entry : (e : Encoding) (es : List EntryValue) (i : ℕ) → has_entry (
 Contains-entry e es i h =
     let s = shape_of_entry e (entry_at es i) in Contains-shape (tree_shapes e es) s (has_shape-distinct (entry_shapes e es (preorder es)) s ∙ has_shape-entry e es (preorder es) i h)
 
--- what stands behind an element that may stand first
-behind_first : {A : Type 0} (b : Bool) (first : A) (xs : List A) (a : ℕ) → slice_get ((if b then first ∷ [] else []) ++ xs) (if b then suc a else a) ≡ slice_get xs a
-behind_first true first xs a = refl
-behind_first false first xs a = refl
+-- what each element comes to has the element's position
+each-at : {A B : Type 0} (f : A → Option B) (xs : List A) (ys : List B) (n : ℕ) (x : A) → each f xs ≡ Some ys → slice_get xs n ≡ Some x → (y : B) × (f x ≡ Some y) × (slice_get ys n ≡ Some y)
+each-at f [] ys n x h at = absurd (none-some x at)
+each-at f (z ∷ xs) ys zero x h at =
+    let first = bind_parts (f z) _ ys h in
+    let rest = bind_parts (each f xs) _ ys first.2 in
+    (first.0, ap f (sym (same_Some z x at)) ∙ first.1, ap (λ l. slice_get l 0) (sym (same_Some (first.0 ∷ rest.0) ys rest.2)))
+each-at f (z ∷ xs) ys (suc n) x h at =
+    let first = bind_parts (f z) _ ys h in
+    let rest = bind_parts (each f xs) _ ys first.2 in
+    let behind = each-at f xs rest.0 n x rest.1 at in
+    (behind.0, behind.1, ap (λ l. slice_get l (suc n)) (sym (same_Some (first.0 ∷ rest.0) ys rest.2)) ∙ behind.2)
 
-module _ (u : UnitValue) (r : ReadUnit) (built : IsBuilt u r) where
+-- behind the place of a sibling, an entry's attributes stand in their order
+behind_sibling : (e : Encoding) (past : ℕ) (x : EntryValue) (xs ys : List ReadAttribute) (a : ℕ) → with_sibling e past x xs ≡ Some ys → slice_get ys (position_read x a) ≡ slice_get xs a
+behind_sibling e past x xs ys a h = by_test (has_sibling x) h
+  where
+    by_test : (b : Bool) → (if b then (read_sibling e past >>= λ s. Some (s ∷ xs)) else Some xs) ≡ Some ys → slice_get ys (if b then suc a else a) ≡ slice_get xs a
+    by_test true h = let s = bind_parts (read_sibling e past) _ ys h in ap (λ l. slice_get l (suc a)) (sym (same_Some (s.0 ∷ xs) ys s.2))
+    by_test false h = ap (λ l. slice_get l a) (sym (same_Some xs ys h))
+
+-- a number that fits is read as it is
+number_is : (w n : ℕ) (o : Operand) → number_in w n ≡ Some o → o ≡ Number n
+number_is w n o h = by_test (fits w n) h
+  where
+    by_test : (b : Bool) → when b (Some (Number n)) ≡ Some o → o ≡ Number n
+    by_test true h = sym (same_Some (Number n) o h)
+    by_test false h = absurd (none-some o h)
+
+-- a place that is there is read as it is
+place_is : (w : ℕ) (place : ℕ → ℕ) (i : ℕ) (o : Operand) → (found place i >>= number_in w) ≡ Some o → o ≡ Number (place i)
+place_is w place i o h = by_test (place i == 0) h
+  where
+    by_test : (b : Bool) → ((if b then None else Some (place i)) >>= number_in w) ≡ Some o → o ≡ Number (place i)
+    by_test true h = absurd (none-some o h)
+    by_test false h = number_is w (place i) o h
+
+-- the place past an entry is read first, where the entry names it
+sibling_first : (e : Encoding) (past : ℕ) (x : EntryValue) (xs ys : List ReadAttribute) → has_sibling x ≡ true → with_sibling e past x xs ≡ Some ys → slice_get ys 0 ≡ Some (sibling_at e past)
+sibling_first e past x xs ys names h =
+    let there : (if true then (read_sibling e past >>= λ s. Some (s ∷ xs)) else Some xs) ≡ Some ys =
+    ap (λ (b : Bool). if b then (read_sibling e past >>= λ s. Some (s ∷ xs)) else Some xs) (sym names) ∙ h in
+    let s = bind_parts (read_sibling e past) _ ys there in
+    let o = bind_parts (number_in (word_of e.format) past) _ s.0 s.1 in
+    let made : Operand → ReadAttribute = λ n. record { name = sibling_name; form = reference_form e.format; constant = None; operand = n } in
+    ap (λ l. slice_get l 0) (sym (same_Some (s.0 ∷ xs) ys s.2)) ∙ ap Some (sym (same_Some (made o.0) s.0 o.2)) ∙ ap (λ n. Some (made n)) (number_is (word_of e.format) past o.0 o.1)
+
+module _ (big : Bool) (l : Layout) (us : List UnitValue) (rs : List ReadUnit) (u : UnitValue) (r : ReadUnit) (built : IsBuilt big l us rs u r) where
+  -- what the unit's operands lead to
+  abbrev targets : Targets
+  targets = targets_read us rs l u r
+
+  abbrev shape : ℕ → Shape
+  shape i = shape_of_entry u.encoding (entry_at u.entries i)
+
+  -- What is read of an entry with the code of its shape: its attributes, in its order.
+  record IsEntryRead (i : ℕ) (m : Mark ReadEntry) : Type 0 where
+    entry : ReadEntry
+    mark_is : m ≡ Open entry
+    code_is : entry.code ≡ code_in (tree_shapes u.encoding u.entries) (shape i)
+    own : List ReadAttribute
+    own_are : each (read_attribute big u.encoding targets) (entry_at u.entries i).attributes ≡ Some own
+    attributes_are : with_sibling u.encoding (targets.past i) (entry_at u.entries i) own ≡ Some entry.attributes
+
+  entry_is_read : (i : ℕ) (m : Mark ReadEntry) → read_coded big u.encoding targets u.entries (tree_shapes u.encoding u.entries) (Open i) ≡ Some m → IsEntryRead i m
+  entry_is_read i m h =
+      let e = u.encoding in
+      let x = entry_at u.entries i in
+      let code = code_of_entry e u.entries (tree_shapes e u.entries) i in
+      let entry = bind_parts (read_entry big e targets code i x) _ m h in
+      let attributes = bind_parts (read_attributes big e targets i x) _ entry.0 entry.1 in
+      let own = bind_parts (each (read_attribute big e targets) x.attributes) _ attributes.0 attributes.1 in
+      let made : ReadEntry = record { code = code; tag = x.tag; has_children = has_any x.children; attributes = attributes.0 } in
+      record {
+        entry = made;
+        mark_is = sym (same_Some (Open entry.0) m entry.2) ∙ ap (λ y. Open y) (sym (same_Some made entry.0 attributes.2));
+        code_is = refl;
+        own = own.0;
+        own_are = own.1;
+        attributes_are = own.2;
+      }
+
   -- the row of a number holds the mark of that number
-  numbered : (n i : ℕ) → slice_get (preorder u.entries) n ≡ Some (Open i) → option_map (λ row. row.mark) (slice_get r.rows n) ≡ Some (mark_as_read u r (Open i))
+  numbered : (n i : ℕ) → slice_get (preorder u.entries) n ≡ Some (Open i) → (m : Mark ReadEntry) × IsEntryRead i m × (option_map (λ (row : Row). row.mark) (slice_get r.rows n) ≡ Some m)
   numbered n i h =
-      sym (slice_get-map (λ row. row.mark) r.rows n)
-      ∙ ap (λ ms. slice_get ms n) built.entries
-      ∙ slice_get-map (mark_as_read u r) (preorder u.entries) n
-      ∙ ap (option_map (mark_as_read u r)) h
+      let e = u.encoding in
+      let w = each-at (read_coded big e targets u.entries (tree_shapes e u.entries)) (preorder u.entries) (map (λ row. row.mark) r.rows) n (Open i) built.entries h in
+      (w.0, entry_is_read i w.0 w.1, sym (slice_get-map (λ row. row.mark) r.rows n) ∙ w.2)
 
   -- Each entry of the tree is read in a row.
   pub entry_read : (i : ℕ) → has_entry (preorder u.entries) i ≡ true → (row : Row) × IsReadIn u r i row
   entry_read i h =
-      let n = number_of (preorder u.entries) i h in row_at n.0 n.1 (slice_get r.rows n.0) refl (numbered n.0 i n.1)
+      let n = number_of (preorder u.entries) i h in
+      let m = numbered n.0 i n.1 in
+      row_at n.0 n.1 m.0 (slice_get r.rows n.0) refl m.2
     where
-      row_at : (n : ℕ) → slice_get (preorder u.entries) n ≡ Some (Open i) → (o : Option Row) → slice_get r.rows n ≡ o → option_map (λ row. row.mark) o ≡ Some (mark_as_read u r (Open i)) → (row : Row) × IsReadIn u r i row
-      row_at n is None g e = absurd (none-some _ e)
-      row_at n is (Some row) g e = (row, record { number = n; entry_is = is; row_is = g })
+      row_at : (n : ℕ) → slice_get (preorder u.entries) n ≡ Some (Open i) → (m : Mark ReadEntry) (o : Option Row) → slice_get r.rows n ≡ o → option_map (λ (row : Row). row.mark) o ≡ Some m → (row : Row) × IsReadIn u r i row
+      row_at n is m None g e = absurd (none-some _ e)
+      row_at n is m (Some row) g e = (row, record { number = n; entry_is = is; row_is = g })
 
   -- a row tells its entry
-  mark_read : (i : ℕ) (row : Row) → IsReadIn u r i row → row.mark ≡ mark_as_read u r (Open i)
+  mark_read : (i : ℕ) (row : Row) → IsReadIn u r i row → IsEntryRead i row.mark
   mark_read i row at =
-      same_Some row.mark (mark_as_read u r (Open i)) (sym (ap (option_map (λ x. x.mark)) at.row_is) ∙ numbered at.number i at.entry_is)
+      let m = numbered at.number i at.entry_is in
+      subst (IsEntryRead i) (sym (same_Some row.mark m.0 (sym (ap (option_map (λ (x : Row). x.mark)) at.row_is) ∙ m.2))) m.1
 
-  -- Each attribute of an entry is read in the entry's row, in the order of the entry.
+  -- Each attribute of an entry is read in the entry's row, in the order of the entry, with what its value leads to.
   pub attribute_read : (i a : ℕ) (x : Attribute) (row : Row) → slice_get (entry_at u.entries i).attributes a ≡ Some x → IsReadIn u r i row →
-      attribute_at row (position_read (entry_at u.entries i) a) ≡ Some (read_attribute u.encoding (places_read u r) x)
+      (o : Operand) × (operand_of big u.encoding (targets_read us rs l u r) x.value ≡ Some o) × (attribute_at row (position_read (entry_at u.entries i) a) ≡ Some (with_operand u.encoding x o))
   attribute_read i a x row is at =
+      let e = u.encoding in
       let given = entry_at u.entries i in
-      let read = read_attribute u.encoding (places_read u r) in
-      ap (λ m. attribute_at (record row { mark = m }) (position_read given a)) (mark_read i row at)
-      ∙ behind_first (has_sibling given) (read_sibling u.encoding ((places_read u r).past i)) (map read given.attributes) a
-      ∙ slice_get-map read given.attributes a
-      ∙ ap (option_map read) is
+      let m = mark_read i row at in
+      let y = each-at (read_attribute big e targets) given.attributes m.own a x m.own_are is in
+      let o = bind_parts (operand_of big e targets x.value) _ y.0 y.1 in (
+        o.0,
+        o.1,
+        ap (λ k. attribute_at (record row { mark = k }) (position_read given a)) m.mark_is
+            ∙ behind_sibling e (targets.past i) given m.own m.entry.attributes a m.attributes_are
+            ∙ y.2
+            ∙ ap Some (sym (same_Some (with_operand e x o.0) y.0 o.2)),
+      )
 
   -- A reference to an entry of the unit, in DW_FORM_ref4 or DW_FORM_ref8, is read as the place where that entry's row begins.
   pub reference_read : AreLinked u.entries → (i a n : ℕ) (j : UnitEntryId) (row target : Row) → slice_get (entry_at u.entries i).attributes a ≡ Some (named n (values.UnitRef j)) → IsReadIn u r i row → IsReadIn u r j.0 target →
       attribute_at row (position_read (entry_at u.entries i) a) ≡ Some (record { name = n; form = reference_form u.encoding.format; constant = None; operand = Number target.from })
   reference_read links i a n j row target is at to =
-      attribute_read i a (named n (values.UnitRef j)) row is at
-      ∙ ap (λ place. Some (record { name = n; form = reference_form u.encoding.format; constant = None; operand = Number place })) (found_at (preorder u.entries) r.rows to.number j.0 target (preorder_distinct u.entries links) to.entry_is to.row_is).0
+      let e = u.encoding in
+      let read = attribute_read i a (named n (values.UnitRef j)) row is at in
+      let place = (places_read u r).place in
+      read.2
+      ∙ ap (λ o. Some (record { name = n; form = reference_form e.format; constant = None; operand = o })) (place_is (word_of e.format) place j.0 read.0 read.1)
+      ∙ ap (λ p. Some (record { name = n; form = reference_form e.format; constant = None; operand = Number p })) (found_at (preorder u.entries) r.rows to.number j.0 target (preorder_distinct u.entries links) to.entry_is to.row_is).0
 
   -- An entry that names its sibling has DW_AT_sibling first. That is read as the place past the entry: behind the zero that
   -- closes its children, as its row and the rows behind it tell.
   pub sibling_read : AreLinked u.entries → (i : ℕ) (row : Row) (at : IsReadIn u r i row) → has_sibling (entry_at u.entries i) ≡ true →
-      attribute_at row 0 ≡ Some (read_sibling u.encoding (past_row row (drop (suc at.number) r.rows)))
+      attribute_at row 0 ≡ Some (sibling_at u.encoding (past_row row (drop (suc at.number) r.rows)))
   sibling_read links i row at names =
-      let own = map (read_attribute u.encoding (places_read u r)) (entry_at u.entries i).attributes in
-      ap (λ m. attribute_at (record row { mark = m }) 0) (mark_read i row at)
-      ∙ ap (λ (b : Bool). slice_get ((if b then read_sibling u.encoding ((places_read u r).past i) ∷ [] else []) ++ own) 0) names
-      ∙ ap (λ past. Some (read_sibling u.encoding past)) (found_at (preorder u.entries) r.rows at.number i row (preorder_distinct u.entries links) at.entry_is at.row_is).1
+      let e = u.encoding in
+      let m = mark_read i row at in
+      ap (λ k. attribute_at (record row { mark = k }) 0) m.mark_is
+      ∙ sibling_first e (targets.past i) (entry_at u.entries i) m.own m.entry.attributes names m.attributes_are
+      ∙ ap (λ past. Some (sibling_at e past)) (found_at (preorder u.entries) r.rows at.number i row (preorder_distinct u.entries links) at.entry_is at.row_is).1
 
   -- an entry is read with the code of its shape
-  code_of_read : (i : ℕ) (row : Row) → IsReadIn u r i row → code_of row ≡ Some (code_in (tree_shapes u.encoding u.entries) (shape_of_entry u.encoding (entry_at u.entries i)))
-  code_of_read i row at = ap (λ m. code_of (record row { mark = m })) (mark_read i row at)
+  code_of_read : (i : ℕ) (row : Row) → IsReadIn u r i row → code_of row ≡ Some (code_in (tree_shapes u.encoding u.entries) (shape i))
+  code_of_read i row at = let m = mark_read i row at in ap (λ k. code_of (record row { mark = k })) m.mark_is ∙ ap Some m.code_is
 
   -- Two entries are read with the same code exactly where their shapes are equal.
   pub codes_read : (i j : ℕ) (a b : Row) → IsReadIn u r i a → IsReadIn u r j b →
       (code_of a ≡ code_of b) ↔ (shape_of_entry u.encoding (entry_at u.entries i) ≡ shape_of_entry u.encoding (entry_at u.entries j))
   codes_read i j a b is_a is_b =
       let shapes = tree_shapes u.encoding u.entries in
-      let s = shape_of_entry u.encoding (entry_at u.entries i) in
-      let t = shape_of_entry u.encoding (entry_at u.entries j) in
+      let s = shape i in
+      let t = shape j in
       let same = code_in-same shapes s t (Contains-entry u.encoding u.entries i (has_entry-at (preorder u.entries) is_a.number i is_a.entry_is)) in (
         λ e. same.0 (same_Some (code_in shapes s) (code_in shapes t) (sym (code_of_read i a is_a) ∙ e ∙ code_of_read j b is_b)),
         λ e. code_of_read i a is_a ∙ ap (λ x. Some (code_in shapes x)) e ∙ sym (code_of_read j b is_b),
@@ -207,3 +304,11 @@ module _ (u : UnitValue) (r : ReadUnit) (built : IsBuilt u r) where
         shape = user.2;
         has_code = code_of_read user.0 read.0 read.1 ∙ ap (λ s. Some (code_in shapes s)) user.2 ∙ ap Some (code_in-place shapes place d.shape (distinct_shapes-differ every) declared.1 ∙ sym code);
       }
+
+-- Of units that are built, each is read under its own number, among those of its file.
+pub unit_read : (big : Bool) (l : Layout) (all : List UnitValue) (read : List ReadUnit) (at : Starts) (us : List UnitValue) (rs : List ReadUnit) (i : ℕ) (u : UnitValue) → AreBuilt big l all read at us rs → slice_get us i ≡ Some u →
+    (r : ReadUnit) × (slice_get rs i ≡ Some r) × IsBuilt big l all read u r
+unit_read big l all read at [] rs i u built is = absurd (none-some u is)
+unit_read big l all read at (v ∷ us) [] i u built is = absurd built
+unit_read big l all read at (v ∷ us) (r ∷ rs) zero u built is = (r, refl, subst (λ x. IsBuilt big l all read x r) (same_Some v u is) built.0)
+unit_read big l all read at (v ∷ us) (r ∷ rs) (suc i) u built is = unit_read big l all read (past_unit at v r) us rs i u built.2 is

@@ -1,29 +1,25 @@
 -- Places that were laid out, in the words of the tree.
-use Rattle.std.proofs.Common.{◌≡◌, ◌∙◌, sym, ap, subst, ℕ, ◌+◌, ◌-◌, ◌^◌, ◌<◌, ◌≤◌, Bool, true, List, [], ◌∷◌, ◌++◌, map, arith, IsTrue}
+use Rattle.std.proofs.Common.{◌≡◌, ◌∙◌, sym, ap, subst, ℕ, ◌+◌, ◌-◌, ◌≤◌, not, true, List, [], ◌∷◌, ◌++◌, map, arith, IsTrue}
 use Rattle.std.specs.Prelude.{IsFalse}
 use Rattle.std.proofs.lemmas.Bool.Decides.{nat_tests}
+use Rattle.dw_base.specs.Abbreviations.{Shape}
 use Rattle.dw_base.specs.Numbers.{fits, word_of, length_size, length_fits}
 use Rattle.dw_base.specs.Entries.{Mark, Null, closes}
 use Rattle.dw_base.specs.Spelling.{header_size}
 use Rattle.dw_base.specs.declared.common.Encoding.{Encoding}
 use Rattle.dw_base.specs.declared.common.Format.{Format}
 use Rattle.dw_base.specs.declared.common.Format.TheVariants.{Dwarf32}
-use Rattle.dw_base.specs.declared.error.Error.{Error}
-use Rattle.dw_base.specs.declared.error.Error.TheVariants.{InitialLengthOverflow}
 use Rattle.dw_entries.specs.Entries.{EntryValue}
 use Rattle.dw_entries.specs.Arena.{AreLinked}
-use Rattle.dw_unit.specs.Shapes.{Placement}
 use Rattle.dw_entries.specs.Tree.{children_in, preorder, has_entry, are_entries_distinct}
 use Rattle.dw_unit.specs.Coded.{shapes_of, code_at}
-use Rattle.dw_unit.specs.Laid.{sizes_of, laid_from}
-use Rattle.dw_unit.specs.Places.{has_place, FitsWords, IsSamePlacement}
-use Rattle.dw_unit.specs.Causes.{TreeRefused}
-use Rattle.dw_unit.specs.Valid.{tree_length}
-use Rattle.dw_unit.specs.Whole.{tree_shapes, tree_size, tree_placement}
+use Rattle.dw_unit.specs.Laid.{sized, sizes_of, IsPlacement, HasNoRoom}
+use Rattle.dw_unit.specs.Places.{Placement, has_place, FitsWords}
+use Rattle.dw_unit.specs.UnitText.{unit_length}
+use Rattle.dw_unit.specs.Whole.{tree_shapes, tree_size, IsTreePlacement, TreeHasNoRoom}
 use Rattle.dw_entries.proofs.Distinct.{preorder_distinct}
-use Rattle.dw_unit.proofs.DistinctShapes.{tree_shapes-found}
 use Rattle.dw_entries.proofs.TreeLaws.{preorder_closes}
-use Rattle.dw_entries.specs.Values.{capped}
+use Rattle.dw_unit.proofs.DistinctShapes.{tree_shapes-found}
 
 pub tree_distinct : (es : List EntryValue) (ms : List (Mark ℕ)) → ms ≡ preorder es → AreLinked es → are_entries_distinct ms ≡ true
 tree_distinct es ms tree links = ap are_entries_distinct tree ∙ preorder_distinct es links
@@ -39,18 +35,26 @@ pub found_codes : (e : Encoding) (es : List EntryValue) (ms : List (Mark ℕ)) (
 found_codes e es ms codes tree given = given ∙ sym (ap (λ ss. map (code_at e es ss) ms) (tree_shapes-found e es ms tree))
 
 -- the bytes of marks are those of the tree
-pub tree_size-found : (e : Encoding) (es : List EntryValue) (ms : List (Mark ℕ)) → ms ≡ preorder es → sizes_of e es (shapes_of e es [] ms) ms ≡ tree_size e es
-tree_size-found e es ms tree = ap (λ ss. sizes_of e es ss ms) (tree_shapes-found e es ms tree) ∙ ap (sizes_of e es (tree_shapes e es)) tree
+pub tree_size-found : (e : Encoding) (es : List EntryValue) (ms : List (Mark ℕ)) (place : ℕ → ℕ) → ms ≡ preorder es → sizes_of (sized e es (shapes_of e es [] ms) place) es ms ≡ tree_size e es place
+tree_size-found e es ms place tree =
+    ap (λ (ss : List Shape). sizes_of (sized e es ss place) es ms) (tree_shapes-found e es ms tree)
+    ∙ ap (sizes_of (sized e es (tree_shapes e es) place) es) tree
+
+-- and the end of marks is that of the tree
+pub tree_end : (e : Encoding) (es : List EntryValue) (ms : List (Mark ℕ)) (place : ℕ → ℕ) (end : ℕ) → ms ≡ preorder es → end ≡ header_size e + sizes_of (sized e es (shapes_of e es [] ms) place) es ms → end ≡ header_size e + tree_size e es place
+tree_end e es ms place end tree at = at ∙ ap (λ n. header_size e + n) (tree_size-found e es ms place tree)
 
 -- places of marks are those of the tree
-pub tree_placed : (e : Encoding) (es : List EntryValue) (p : Placement) (ms : List (Mark ℕ)) → ms ≡ preorder es →
-    (header_size e + sizes_of e es (shapes_of e es [] ms) ms < 2 ^ 64 → IsSamePlacement p (laid_from e es (shapes_of e es [] ms) (header_size e) ms)) →
-    header_size e + tree_size e es < 2 ^ 64 → IsSamePlacement p (tree_placement e es)
-tree_placed e es p ms tree placed small =
-    let size = tree_size-found e es ms tree in
-    let laid : laid_from e es (shapes_of e es [] ms) (header_size e) ms ≡ tree_placement e es =
-    ap (λ ss. laid_from e es ss (header_size e) ms) (tree_shapes-found e es ms tree) ∙ ap (laid_from e es (tree_shapes e es) (header_size e)) tree in
-    subst (IsSamePlacement p) laid (placed (omega (arith, size, small)))
+pub tree_placed : (e : Encoding) (es : List EntryValue) (p : Placement) (ms : List (Mark ℕ)) → ms ≡ preorder es → IsPlacement (sized e es (shapes_of e es [] ms)) es (header_size e) ms p → IsTreePlacement e es p
+tree_placed e es p ms tree placed =
+    subst (λ (l : List (Mark ℕ)). IsPlacement (sized e es (tree_shapes e es)) es (header_size e) l p) tree
+    (subst (λ (ss : List Shape). IsPlacement (sized e es ss) es (header_size e) ms p) (tree_shapes-found e es ms tree) placed)
+
+-- marks that have no room are those of the tree
+pub tree_no_room : (e : Encoding) (es : List EntryValue) (ms : List (Mark ℕ)) → ms ≡ preorder es → HasNoRoom (sized e es (shapes_of e es [] ms)) es (header_size e) ms → TreeHasNoRoom e es
+tree_no_room e es ms tree full =
+    subst (λ (l : List (Mark ℕ)). HasNoRoom (sized e es (tree_shapes e es)) es (header_size e) l) tree
+    (subst (λ (ss : List Shape). HasNoRoom (sized e es ss) es (header_size e) ms) (tree_shapes-found e es ms tree) full)
 
 pub tree_inside : (es : List EntryValue) (p : Placement) (ms : List (Mark ℕ)) → ms ≡ preorder es → ((i : ℕ) → has_place p i ≡ has_entry ms i) → (i : ℕ) → has_place p i ≡ has_entry (preorder es) i
 tree_inside es p ms tree inside i = inside i ∙ ap (λ l. has_entry l i) tree
@@ -59,19 +63,13 @@ tree_inside es p ms tree inside i = inside i ∙ ap (λ l. has_entry l i) tree
 pub places_fit : (format : Format) (p : Placement) (end : ℕ) → ((n : ℕ) → n ≤ end → IsTrue (fits (word_of format) n)) → ((i : ℕ) → (p.place i ≤ end) × (p.past i ≤ end)) → FitsWords format p
 places_fit format p end fit bounded i = (fit (p.place i) (bounded i).0, fit (p.past i) (bounded i).1)
 
-capped_below : (n : ℕ) → capped n ≤ n
-capped_below n = omega arith
+-- what the length counts is what the end counts but the length itself
+long_behind : (end n : ℕ) → end ≡ length_size Dwarf32 + n → IsFalse (length_fits Dwarf32 (end - length_size Dwarf32)) → IsTrue (not (length_fits Dwarf32 n))
+long_behind end n at long = grind (arith, nat_tests)
 
--- a length that the end shows to be too long is too long
-too_long : (end n : ℕ) → end ≤ length_size Dwarf32 + n → IsFalse (length_fits Dwarf32 (end - length_size Dwarf32)) → IsFalse (length_fits Dwarf32 n)
-too_long end n below h = grind (arith, nat_tests)
-
--- why a tree is refused whose end is too far
-pub length_refused_early : (rise : Type 0) (plain : Bool) (table : ℕ) (e : Encoding) (es : List EntryValue) (ms : List (Mark ℕ)) (end : ℕ) (error : Error) → ms ≡ preorder es → end ≡ capped (header_size e + sizes_of e es (shapes_of e es [] ms) ms) →
-    (error ≡ InitialLengthOverflow) × (e.format ≡ Dwarf32) × IsFalse (length_fits Dwarf32 (end - length_size Dwarf32)) → TreeRefused rise plain table e es error
-length_refused_early rise plain table e es ms end error tree at h =
-    let of_tree : sizes_of e es (shapes_of e es [] ms) ms ≡ tree_size e es = tree_size-found e es ms tree in
-    let below = capped_below (header_size e + sizes_of e es (shapes_of e es [] ms) ms) in
-    let width : length_size e.format ≡ length_size Dwarf32 = ap length_size h.1 in
-    subst (TreeRefused rise plain table e es) (sym h.0)
-    (h.1, too_long end (tree_length e es) (omega (arith, at, below, of_tree, width)) h.2)
+-- a length that the end shows to be too long has no spelling
+pub too_long : (e : Encoding) (es : List EntryValue) (place : ℕ → ℕ) (end : ℕ) → end ≡ header_size e + tree_size e es place → e.format ≡ Dwarf32 → IsFalse (length_fits Dwarf32 (end - length_size Dwarf32)) → IsTrue (not (length_fits e.format (unit_length e (tree_size e es place))))
+too_long e es place end at is long =
+    let n = unit_length e (tree_size e es place) in
+    let width : length_size e.format ≡ length_size Dwarf32 = ap length_size is in
+    subst (λ (f : Format). IsTrue (not (length_fits f n))) (sym is) (long_behind end n (omega (arith, at, width)) long)

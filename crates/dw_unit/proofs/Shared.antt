@@ -1,18 +1,16 @@
 -- Codes among the shapes of marks: those that were given stay, and each stands for its shape.
-use Rattle.std.specs.Prelude.{◌≡◌, ℕ, suc, ◌≤◌, ◌<◌, Bool, true, false, List, [], ◌∷◌, ◌++◌, length, Some, if◌then◌else◌, refl}
+use Rattle.std.specs.Prelude.{◌≡◌, ℕ, suc, ◌≤◌, ◌<◌, Bool, true, false, List, [], ◌∷◌, length, Some, if◌then◌else◌, refl}
 use Rattle.std.proofs.Common.{sym, ◌∙◌, ap, arith, map, get_or}
 use Rattle.std.proofs.lemmas.List.{get_or-map}
-use Rattle.dw_base.specs.Abbreviations.{Specification, Shape, shape_of_code}
+use Rattle.dw_base.specs.Abbreviations.{Shape, shape_of_code}
 use Rattle.dw_base.specs.Entries.{Mark, Open, Null}
-use Rattle.dw_base.specs.Spellable.{specification_of, shape_of}
 use Rattle.dw_base.specs.declared.common.Encoding.{Encoding}
 use Rattle.dw_abbrev.specs.Equal.{shape_eq}
 use Rattle.dw_abbrev.specs.EqualLaws.{shape_Decides}
 use Rattle.dw_abbrev.specs.Codes.{code_in, with_shape, declarations, KeepsCodes}
 use Rattle.dw_abbrev.proofs.CodeLaws.{declared, with_shape-keeps}
-use Rattle.dw_entries.specs.Entries.{EntryValue, has_sibling, has_any, entry_at}
-use Rattle.dw_unit.specs.Shapes.{Placement, specification, sibling_specification, shape_of_entry, read_attribute, read_sibling, read_entry}
-use Rattle.dw_entries.specs.declared.attribute.Attribute.{Attribute}
+use Rattle.dw_entries.specs.Entries.{EntryValue, entry_at}
+use Rattle.dw_unit.specs.Shapes.{shape_of_entry}
 use Rattle.dw_entries.specs.declared.tree.Item.{Item}
 use Rattle.dw_entries.specs.Tree.{mark_of, marks}
 use Rattle.dw_unit.specs.Coded.{shapes_of, code_at}
@@ -109,20 +107,3 @@ module _ (e : Encoding) (es : List EntryValue) where
       ap (λ cs. get_or cs k 0) h
       ∙ get_or-map (code_at e es shapes) (marks items) k (mark_of (get_or items k d)) 0 (marks-below items k below)
       ∙ ap (code_at e es shapes) (sym (mark_at items k d below))
-
-module _ (e : Encoding) (p : Placement) where
-  -- what is declared of attributes is what is read of them, wherever entries stand
-  specifications-read : (xs : List Attribute) → map specification_of (map (read_attribute e p) xs) ≡ map (specification e) xs
-  specifications-read [] = refl
-  specifications-read (a ∷ xs) = ap (λ l. specification e a ∷ l) (specifications-read xs)
-
-  -- also behind the place past an entry
-  specifications-behind : (b : Bool) (past : ℕ) (xs : List Attribute) → map specification_of ((if b then read_sibling e past ∷ [] else []) ++ map (read_attribute e p) xs) ≡ (if b then sibling_specification e ∷ [] else []) ++ map (specification e) xs
-  specifications-behind true past xs = ap (λ l. sibling_specification e ∷ l) (specifications-read xs)
-  specifications-behind false past xs = specifications-read xs
-
-  -- an entry that is read has the shape that is declared for it
-  pub shape-read_entry : (code i : ℕ) (x : EntryValue) → shape_of (read_entry e p code i x) ≡ shape_of_entry e x
-  shape-read_entry code i x =
-      let shape : List Specification → Shape = λ l. record { tag = x.tag; has_children = has_any x.children; attributes = l } in
-      ap shape (specifications-behind (has_sibling x) (p.past i) x.attributes)

@@ -1,13 +1,18 @@
 -- The units that are read are those that were built.
-use Rattle.std.specs.Prelude.{◌≡◌, ℕ, ◌+◌, List, [], ◌∷◌, length, map, sum_by, Some, Bool, ◌==◌, if◌then◌else◌}
+use Rattle.std.specs.Prelude.{◌≡◌, ℕ, ◌+◌, Bool, List, [], ◌∷◌, length, map, take, drop, Some, slice_get, ◌==◌, if◌then◌else◌}
+use Rattle.std.specs.Option.{option_map}
+use Rattle.dw_base.specs.Numbers.{◌>>=◌}
 use Rattle.dw_base.specs.Entries.{Mark, Open, Null, Row, past_row}
-use Rattle.dw_base.specs.Info.{ReadUnit, read_info}
+use Rattle.dw_base.specs.Info.{ReadUnit, read_info, place_in_section}
 use Rattle.dw_base.specs.Spelling.{header_size, unit_type_of}
-use Rattle.dw_unit.specs.UnitValue.{UnitValue}
-use Rattle.dw_unit.specs.Coded.{tree_as_read}
-use Rattle.dw_unit.specs.Shapes.{Placement}
+use Rattle.dw_writer.specs.Layout.{Layout}
+use Rattle.dw_writer.specs.Drafts.{Info}
+use Rattle.dw_entries.specs.Targets.{Targets, targets_in}
 use Rattle.dw_entries.specs.Tree.{preorder}
-use Rattle.dw_unit.specs.Whole.{tree_shapes, tree_declared, tree_size, tree_table}
+use Rattle.dw_unit.specs.Places.{Placement, found, targets_of}
+use Rattle.dw_unit.specs.Read.{read_tree}
+use Rattle.dw_unit.specs.UnitValue.{UnitValue}
+use Rattle.dw_unit.specs.Whole.{tree_declared, tree_size, tree_table}
 
 -- where the row is read that has the same number in preorder as an entry
 abbrev pub place_read : List (Mark ℕ) → List Row → ℕ → ℕ
@@ -27,35 +32,94 @@ past_read (Null ∷ ms) (r ∷ rows) i = past_read ms rows i
 abbrev pub placement_read : List (Mark ℕ) → List Row → Placement
 placement_read ms rows = record { place = place_read ms rows; past = past_read ms rows }
 
+abbrev pub places_read : UnitValue → ReadUnit → Placement
+places_read u r = placement_read (preorder u.entries) r.rows
+
+-- where an entry of one of these units is read in .debug_info
+abbrev pub info_read : List UnitValue → List ReadUnit → Info
+info_read us rs k i =
+    slice_get us k >>= λ u. slice_get rs k >>= λ r. option_map (place_in_section r) (found (places_read u r).place i)
+
+-- what the operands of a unit lead to that is read among those of its file
+abbrev pub targets_read : List UnitValue → List ReadUnit → Layout → UnitValue → ReadUnit → Targets
+targets_read us rs l u r = targets_in (targets_of (places_read u r)) l (info_read us rs)
+
 -- A unit that is read has the encoding that was built, and in version 5 the type of a compile unit. Its entries are the
 -- tree's, in preorder, with a closing zero behind each list of children that isn't empty: tags, names, forms and operands are
 -- those of the entries, and each code stands for the entry's shape. A reference holds the place where its entry is read, and
 -- a sibling attribute, which stands first, the place past its own entry. Its table declares the shapes, each once, in the
 -- order in which each first comes, with the codes 1, 2, 3 and so on.
-pub record IsBuilt (u : UnitValue) (r : ReadUnit) : Type 0 where
+pub record IsBuilt (big : Bool) (l : Layout) (us : List UnitValue) (rs : List ReadUnit) (u : UnitValue) (r : ReadUnit) : Type 0 where
   pub encoding : r.header.encoding ≡ u.encoding
   pub unit_type : r.header.unit_type ≡ unit_type_of u.encoding.version
-  pub entries : map (λ row. row.mark) r.rows ≡ tree_as_read u.encoding u.entries (placement_read (preorder u.entries) r.rows) (tree_shapes u.encoding u.entries) (preorder u.entries)
+  pub entries : read_tree big u.encoding (targets_read us rs l u r) u.entries ≡ Some (map (λ row. row.mark) r.rows)
   pub declarations : r.table ≡ tree_declared u.encoding u.entries
 
--- as many units, each as it was built
-abbrev pub AreBuilt : List UnitValue → List ReadUnit → Type 0
-AreBuilt [] [] = Unit {0}
-AreBuilt [] (r ∷ rs) = ⊥
-AreBuilt (u ∷ us) [] = ⊥
-AreBuilt (u ∷ us) (r ∷ rs) = IsBuilt u r × AreBuilt us rs
-
--- the bytes of a unit and of its table, in the shortest spelling
-abbrev pub unit_size : UnitValue → ℕ
-unit_size u = header_size u.encoding + tree_size u.encoding u.entries
+-- the bytes of a unit that is read, and of its table, in the shortest spelling
+abbrev pub unit_size : UnitValue → ReadUnit → ℕ
+unit_size u r = header_size u.encoding + tree_size u.encoding u.entries (places_read u r).place
 
 abbrev pub table_size : UnitValue → ℕ
 table_size u = length (tree_table u.encoding u.entries)
 
--- the two sections are read, to their last byte, as exactly these units, in the shortest spelling
-pub record Built (units : List UnitValue) (big : Bool) (info abbrevs : List ℕ) : Type 0 where
+-- Where a unit and its table are to begin.
+pub record Starts : Type 0 where
+  pub info : ℕ
+  pub abbrevs : ℕ
+
+-- behind a unit and its table
+abbrev pub past_unit : Starts → UnitValue → ReadUnit → Starts
+past_unit at u r = record { info = at.info + unit_size u r; abbrevs = at.abbrevs + table_size u }
+
+-- a unit begins there, and its table
+pub record BeginsAt (at : Starts) (r : ReadUnit) : Type 0 where
+  pub unit : r.from ≡ at.info
+  pub table : r.header.table_offset ≡ at.abbrevs
+
+-- As many units, each as it was built, and each where the one before it ends. The units are among those of one file, of
+-- which each reference across units names one.
+module _ (big : Bool) (l : Layout) (us : List UnitValue) (rs : List ReadUnit) where
+  abbrev pub AreBuilt : Starts → List UnitValue → List ReadUnit → Type 0
+  AreBuilt at [] [] = Unit {0}
+  AreBuilt at [] (r ∷ more) = ⊥
+  AreBuilt at (u ∷ others) [] = ⊥
+  AreBuilt at (u ∷ others) (r ∷ more) = IsBuilt big l us rs u r × BeginsAt at r × AreBuilt (past_unit at u r) others more
+
+-- where as many units and their tables end
+abbrev pub past_units : Starts → List UnitValue → List ReadUnit → Starts
+past_units at [] rs = at
+past_units at (u ∷ us) [] = at
+past_units at (u ∷ us) (r ∷ rs) = past_units (past_unit at u r) us rs
+
+-- the units of a file, and where its sections stand among the joined ones
+pub record File : Type 0 where
+  pub units : List UnitValue
+  pub layout : Layout
+
+-- Files one behind another, to the last byte of the sections. Each reference leads to an entry of its own file.
+abbrev pub AreFilesBuilt : Bool → Starts → Starts → List File → List ReadUnit → Type 0
+AreFilesBuilt big at end [] rs = (rs ≡ []) × (at ≡ end)
+AreFilesBuilt big at end (f ∷ fs) rs =
+    let own = take (length f.units) rs in
+    AreBuilt big f.layout f.units own at f.units own × AreFilesBuilt big (past_units at f.units own) end fs (drop (length f.units) rs)
+
+-- where sections begin, and where these end
+abbrev pub at_begin : Starts
+at_begin = record { info = 0; abbrevs = 0 }
+
+abbrev pub at_end : List ℕ → List ℕ → Starts
+at_end info abbrevs = record { info = length info; abbrevs = length abbrevs }
+
+-- The two sections are read, to their last byte, as exactly these files' units, in the shortest spelling.
+pub record Built (files : List File) (big : Bool) (info abbrevs : List ℕ) : Type 0 where
   pub read : List ReadUnit
   pub reads : read_info big info abbrevs ≡ Some read
-  pub units_are : AreBuilt units read
-  pub info_size : length info ≡ sum_by unit_size units
-  pub abbrevs_size : length abbrevs ≡ sum_by table_size units
+  pub units_are : AreFilesBuilt big at_begin (at_end info abbrevs) files read
+
+-- every section starts at 0, and there are no symbols
+abbrev pub at_zero : Layout
+at_zero = record { starts = []; own_start = 0; symbols = [] }
+
+-- one file whose sections are whole, as a plain writer holds them
+abbrev pub whole_file : List UnitValue → File
+whole_file us = record { units = us; layout = at_zero }

@@ -1,5 +1,5 @@
 -- Where the entries of a unit stand: sizes and places in preorder (DWARF 5, 7.5.2 and 7.5.3).
-use Rattle.std.specs.Prelude.{ℕ, zero, suc, ◌+◌, List, [], ◌∷◌, length, ◌==◌, if◌then◌else◌}
+use Rattle.std.specs.Prelude.{◌≡◌, ℕ, zero, suc, ◌+◌, ◌≤◌, ◌^◌, List, [], ◌∷◌, length, take, Option, ◌==◌, if◌then◌else◌}
 use Rattle.dw_base.specs.Numbers.{word_of}
 use Rattle.dw_base.specs.Leb128.{uleb}
 use Rattle.dw_base.specs.Abbreviations.{Shape}
@@ -8,30 +8,28 @@ use Rattle.dw_base.specs.declared.common.Encoding.{Encoding}
 use Rattle.dw_entries.specs.declared.attribute.Attribute.{Attribute}
 use Rattle.dw_entries.specs.Entries.{EntryValue, has_sibling, entry_at, is_parent}
 use Rattle.dw_entries.specs.Values.{operand_size}
-use Rattle.dw_unit.specs.Shapes.{Placement}
-use Rattle.dw_unit.specs.Coded.{code_at}
+use Rattle.dw_unit.specs.Coded.{code_of_entry}
+use Rattle.dw_unit.specs.Places.{Placement, found, IsSamePlacement}
 
 -- the bytes of the place past an entry, where it names that
 abbrev pub sibling_size : Encoding → EntryValue → ℕ
 sibling_size e x = if has_sibling x then word_of e.format else 0
 
--- the bytes of values
-abbrev pub values_size : Encoding → List Attribute → ℕ
-values_size e [] = 0
-values_size e (a ∷ xs) = operand_size e a.value + values_size e xs
+-- the bytes of values, where each entry has its place
+abbrev pub values_size : Encoding → (ℕ → Option ℕ) → List Attribute → ℕ
+values_size e place [] = 0
+values_size e place (a ∷ xs) = operand_size e place a.value + values_size e place xs
 
 -- the bytes of an entry with its code
-abbrev pub entry_size : Encoding → ℕ → EntryValue → ℕ
-entry_size e code x = length (uleb code) + (sibling_size e x + values_size e x.attributes)
+abbrev pub entry_size : Encoding → (ℕ → Option ℕ) → ℕ → EntryValue → ℕ
+entry_size e place code x = length (uleb code) + (sibling_size e x + values_size e place x.attributes)
 
--- the bytes of a mark with its code; a list of children is closed by one
-abbrev pub mark_size : Encoding → List EntryValue → ℕ → Mark ℕ → ℕ
-mark_size e es code (Open i) = entry_size e code (entry_at es i)
-mark_size e es code Null = 1
-
-module _ (e : Encoding) (es : List EntryValue) (shapes : List Shape) where
+-- The size of each entry is given: it may hang on places, these very ones among them. A list of children is closed by one
+-- byte.
+module _ (size : ℕ → ℕ) (es : List EntryValue) where
   abbrev pub size_of : Mark ℕ → ℕ
-  size_of m = mark_size e es (code_at e es shapes m) m
+  size_of (Open i) = size i
+  size_of Null = 1
 
   -- the bytes of marks
   abbrev pub sizes_of : List (Mark ℕ) → ℕ
@@ -62,3 +60,18 @@ module _ (e : Encoding) (es : List EntryValue) (shapes : List Shape) where
   -- both, of marks of which the first stands at a place
   abbrev pub laid_from : ℕ → List (Mark ℕ) → Placement
   laid_from at ms = record { place = place_from at ms; past = past_from at ms }
+
+-- the bytes of each entry where entries stand at these places
+abbrev pub sized : Encoding → List EntryValue → List Shape → (ℕ → ℕ) → ℕ → ℕ
+sized e es shapes place i = entry_size e (found place) (code_of_entry e es shapes i) (entry_at es i)
+
+-- THE placement of marks: each entry stands behind all that is before it, in the sizes that these very places give.
+abbrev pub IsPlacement : ((ℕ → ℕ) → ℕ → ℕ) → List EntryValue → ℕ → List (Mark ℕ) → Placement → Type 0
+IsPlacement size es start ms p = IsSamePlacement p (laid_from (size p.place) es start ms)
+
+-- The first so many marks have no room in 64 bits where they stand: a front of them ends past that. Behind it no entry has a place.
+pub record HasNoRoom (size : (ℕ → ℕ) → ℕ → ℕ) (es : List EntryValue) (start : ℕ) (ms : List (Mark ℕ)) : Type 0 where
+  pub count : ℕ
+  pub place : ℕ → ℕ
+  pub placed : (i : ℕ) → place i ≡ place_from (size place) es start (take count ms) i
+  pub full : 2 ^ 64 ≤ start + sizes_of (size place) es (take count ms)

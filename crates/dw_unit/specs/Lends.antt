@@ -1,5 +1,5 @@
 -- What a `&mut` into a unit leaves, once its borrow has ended.
-use Rattle.std.specs.Prelude.{◌≡◌, ◌<◌, ℕ, Option, List, [], OnSome, length}
+use Rattle.std.specs.Prelude.{◌≡◌, ◌<◌, ℕ, Option, List, [], OnSome}
 use Rattle.std.proofs.Common.{sym, subst}
 use Rattle.std.specs.Borrow.{Lends, LendsSo, MutBor, Fml}
 use Rattle.dw_entries.specs.declared.attribute.Attribute.{Attribute}
@@ -9,7 +9,7 @@ use Rattle.dw_unit.specs.declared.entry_mut.EntryMut.{EntryMut}
 use Rattle.dw_entries.specs.contracts.value.AttributeValue as value
 use Rattle.dw_entries.specs.contracts.attribute_walk.AttributeWalk as walk
 use Rattle.dw_unit.specs.contracts.entry_mut.EntryMut as handle
-use Rattle.dw_entries.specs.Entries.{EntryValue, with_changed, with_attribute, with_attributes}
+use Rattle.dw_entries.specs.Entries.{with_attribute, with_attributes}
 use Rattle.dw_unit.specs.UnitValue.{with_entry}
 use Rattle.dw_entries.proofs.Changed.{length-with_changed}
 use denote.MutBor.{at_last}

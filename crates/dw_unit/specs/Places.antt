@@ -1,17 +1,35 @@
--- The places that the code keeps, each under its entry's index.
-use Rattle.std.specs.Prelude.{◌≡◌, ℕ, Bool, not, ◌==◌, IsTrue, slice_index}
+-- Where the entries of a unit stand.
+use Rattle.std.specs.Prelude.{◌≡◌, ℕ, Bool, not, ◌==◌, Option, Some, None, IsTrue, slice_index, if◌then◌else◌}
 use Rattle.dw_base.specs.Numbers.{word_of, fits}
 use Rattle.dw_base.specs.declared.common.Format.{Format}
+use Rattle.dw_entries.specs.Targets.{UnitTargets}
 use Rattle.dw_unit.specs.declared.places.Places.{Places}
-use Rattle.dw_unit.specs.Shapes.{Placement}
 
--- what is kept, where an entry that isn't kept stands at 0
+-- Where each entry stands in its unit, and the place past it: behind the zero that closes its children, or behind itself
+-- where it has none. An entry that isn't in the tree stands at 0, where the header does.
+pub record Placement : Type 0 where
+  pub place : ℕ → ℕ
+  pub past : ℕ → ℕ
+
+-- an entry has a place
+abbrev pub has_place : Placement → ℕ → Bool
+has_place p i = not (p.place i == 0)
+
+-- the place of an entry, if it has one
+abbrev pub found : (ℕ → ℕ) → ℕ → Option ℕ
+found place i = if place i == 0 then None else Some (place i)
+
+-- what the operands of a unit lead to whose entries stand there
+abbrev pub targets_of : Placement → UnitTargets
+targets_of p = record { place = found p.place; past = p.past }
+
+-- the places that the code keeps, each under its entry's index
 abbrev pub placement_of : Places → Placement
 placement_of p = record { place = slice_index p.places.items; past = slice_index p.pasts.items }
 
--- an entry has a place; no entry stands at 0, where the header does
-abbrev pub has_place : Placement → ℕ → Bool
-has_place p i = not (p.place i == 0)
+-- and what a unit's operands lead to there
+abbrev pub targets_at : Places → UnitTargets
+targets_at p = targets_of (placement_of p)
 
 -- each place fits a word
 abbrev pub FitsWords : Format → Placement → Type 0

@@ -1,16 +1,14 @@
 -- A unit as it is written: settled, in preorder, with codes.
-use Rattle.std.specs.Prelude.{ℕ, Bool, true, List, if◌then◌else◌}
+use Rattle.std.specs.Prelude.{ℕ, true, List, if◌then◌else◌}
 use Rattle.dw_base.specs.Abbreviations.{Shape, Declaration}
-use Rattle.dw_base.specs.Entries.{ReadEntry, Mark}
-use Rattle.dw_base.specs.Spelling.{body_bytes, header_size, table_bytes}
+use Rattle.dw_base.specs.Spelling.{header_size, table_bytes}
 use Rattle.dw_base.specs.declared.common.Encoding.{Encoding}
 use Rattle.dw_abbrev.specs.Codes.{declarations}
 use Rattle.dw_entries.specs.Entries.{EntryValue}
 use Rattle.dw_entries.specs.Tree.{preorder}
-use Rattle.dw_unit.specs.Coded.{tree_as_read}
 use Rattle.dw_unit.specs.DistinctShapes.{entry_shapes, distinct_shapes}
-use Rattle.dw_unit.specs.Laid.{sizes_of, laid_from}
-use Rattle.dw_unit.specs.Shapes.{Placement}
+use Rattle.dw_unit.specs.Laid.{sized, sizes_of, IsPlacement, HasNoRoom}
+use Rattle.dw_unit.specs.Places.{Placement}
 use Rattle.dw_entries.specs.Settled.{settled_entries}
 use Rattle.dw_unit.specs.UnitValue.{UnitValue}
 
@@ -18,28 +16,24 @@ use Rattle.dw_unit.specs.UnitValue.{UnitValue}
 abbrev pub tree_shapes : Encoding → List EntryValue → List Shape
 tree_shapes e es = distinct_shapes (entry_shapes e es (preorder es))
 
--- the bytes of its entries
-abbrev pub tree_size : Encoding → List EntryValue → ℕ
-tree_size e es = sizes_of e es (tree_shapes e es) (preorder es)
-
--- where the tree's entries stand, the first behind the header
-abbrev pub tree_placement : Encoding → List EntryValue → Placement
-tree_placement e es = laid_from e es (tree_shapes e es) (header_size e) (preorder es)
-
--- what is read of the tree
-abbrev pub tree_read : Encoding → List EntryValue → List (Mark ReadEntry)
-tree_read e es = tree_as_read e es (tree_placement e es) (tree_shapes e es) (preorder es)
-
--- what is declared for it
+-- what is declared for them, and the bytes of that
 abbrev pub tree_declared : Encoding → List EntryValue → List Declaration
 tree_declared e es = declarations (tree_shapes e es)
 
--- the bytes of the tree, and of its table
-abbrev pub tree_bytes : Bool → Encoding → List EntryValue → List ℕ
-tree_bytes big e es = body_bytes big e (tree_read e es)
-
 abbrev pub tree_table : Encoding → List EntryValue → List ℕ
 tree_table e es = table_bytes (tree_declared e es)
+
+-- the bytes of its entries where they stand at these places
+abbrev pub tree_size : Encoding → List EntryValue → (ℕ → ℕ) → ℕ
+tree_size e es place = sizes_of (sized e es (tree_shapes e es) place) es (preorder es)
+
+-- THE placement of the tree's entries, of which the first stands behind the header
+abbrev pub IsTreePlacement : Encoding → List EntryValue → Placement → Type 0
+IsTreePlacement e es p = IsPlacement (sized e es (tree_shapes e es)) es (header_size e) (preorder es) p
+
+-- some front of the tree ends past 64 bits
+abbrev pub TreeHasNoRoom : Encoding → List EntryValue → Type 0
+TreeHasNoRoom e es = HasNoRoom (sized e es (tree_shapes e es)) es (header_size e) (preorder es)
 
 -- a unit with its root's base types first
 abbrev pub settled : UnitValue → UnitValue

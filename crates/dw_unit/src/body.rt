@@ -1,17 +1,18 @@
 //! What stands in a unit after its header.
 
-ghost use Rattle.std.specs.Prelude.{◌≡◌, [], true, length, map, All, IsTrue, OnOk, IfErr};
-ghost use Rattle.std.specs.List.{flat_map};
-ghost use Rattle.dw_base.specs.Numbers.{fits, word_of};
-ghost use Rattle.dw_base.specs.Entries.{Open};
-ghost use Rattle.dw_base.specs.Spelling.{attribute_bytes, mark_bytes, body_bytes};
-ghost use Rattle.dw_base.specs.Spellable.{IsAttribute};
-ghost use Rattle.dw_writer.specs.Meaning.{IsSameWriter, Adds};
-ghost use Rattle.dw_unit.specs.Shapes.{read_attribute, read_attributes, read_sibling, before_attributes, read_entry};
+ghost use Rattle.std.specs.Prelude.{◌≡◌, [], length, map, IsTrue, IsFalse, OnOk, IfErr};
+ghost use Rattle.dw_base.specs.Numbers.{is_width, fits, word_of};
+ghost use Rattle.dw_base.specs.declared.error.Error.{Error as AnError};
+ghost use Rattle.dw_writer.specs.Drafts.{Drafts};
+ghost use Rattle.dw_writer.specs.Meaning.{IsSameWriter};
+ghost use Rattle.dw_writer.specs.Causes.{NotAtAll};
 ghost use Rattle.dw_entries.specs.Tree.{IsIn, AreIn, mark_of, marks};
-ghost use Rattle.dw_unit.specs.Coded.{shapes_of, code_at, read_mark, tree_as_read, are_values_writable, is_mark_writable, are_writable, refer_inside, is_mark_placed, are_placed, AreOperands, HasOperands, HaveOperands};
-ghost use Rattle.dw_unit.specs.Places.{placement_of, has_place, FitsWords};
-ghost use Rattle.dw_unit.specs.Causes.{BodyRefused};
+ghost use Rattle.dw_unit.specs.Causes.{Refused, Is};
+ghost use Rattle.dw_unit.specs.Coded.{shapes_of, code_at};
+ghost use Rattle.dw_unit.specs.Pending.{AreRanged, IsMarkRanged, AreMarksRanged};
+ghost use Rattle.dw_unit.specs.Places.{placement_of, targets_at, FitsWords};
+ghost use Rattle.dw_unit.specs.UnitFaults.{attributes_fail, mark_fails, marks_fail};
+ghost use Rattle.dw_unit.specs.UnitText.{sibling_draft, attributes_draft, entry_draft, mark_draft, marks_draft};
 
 use crate::places::Places;
 use crate::value::write_value;
@@ -26,18 +27,19 @@ fn write_attributes<W: Writer>(
     places: &Places,
     w: &mut W,
 ) -> Result<()>
-    requires { FitsWords encoding.format (placement_of places.now) }
+    requires width { IsTrue (is_width encoding.address_size) }
+    requires fit { FitsWords encoding.format (placement_of places.now) }
     ensures ok { OnOk result
-        (Adds (W.meaning w.old) (W.meaning w.new)
-        (flat_map (attribute_bytes (W.meaning w.old).is_big encoding)
-        (map (read_attribute encoding (placement_of places.now)) attributes.now))) }
-    ensures fits { OnOk result (AreOperands encoding (placement_of places.now) attributes.now) }
-    ensures spelled { OnOk result (IsTrue (are_values_writable attributes.now)) }
-    ensures placed { OnOk result
-        (IsTrue (refer_inside (has_place (placement_of places.now)) attributes.now)) }
+        (Drafts (W.meaning w.old) (W.meaning w.new) [] []
+        (attributes_draft encoding (targets_at places.now) attributes.now)) }
+    ensures sound { OnOk result
+        ((e : AnError) → IsFalse (attributes_fail encoding (targets_at places.now).place
+        (W.meaning w.old).is_plain attributes.now e)) }
+    ensures ranged { OnOk result (AreRanged encoding attributes.now) }
     ensures err { IfErr result
-        (BodyRefused (W.meaning w.old) (W.meaning w.new) (are_values_writable attributes.now)
-        (refer_inside (has_place (placement_of places.now)) attributes.now)) }
+        (Refused (W.meaning w.old) (W.meaning w.new)
+        (Is (attributes_fail encoding (targets_at places.now).place (W.meaning w.old).is_plain
+        attributes.now))) }
     ensures same { IsSameWriter (W.meaning w.old) (W.meaning w.new) }
 {
     for attribute in attributes {
@@ -55,12 +57,9 @@ fn write_sibling<W: Writer>(
 ) -> Result<()>
     requires { IsTrue (fits (word_of encoding.format) past) }
     ensures ok { OnOk result
-        (Adds (W.meaning w.old) (W.meaning w.new)
-        (flat_map (attribute_bytes (W.meaning w.old).is_big encoding)
-        (before_attributes entry.now (read_sibling encoding past)))) }
-    ensures fits { OnOk result
-        (All (IsAttribute encoding) (before_attributes entry.now (read_sibling encoding past))) }
-    ensures err { IfErr result (BodyRefused (W.meaning w.old) (W.meaning w.new) true true) }
+        (Drafts (W.meaning w.old) (W.meaning w.new) [] []
+        (sibling_draft encoding past entry.now)) }
+    ensures err { IfErr result (Refused (W.meaning w.old) (W.meaning w.new) NotAtAll) }
     ensures same { IsSameWriter (W.meaning w.old) (W.meaning w.new) }
 {
     if entry.has_sibling() {
@@ -78,20 +77,19 @@ fn write_entry<W: Writer>(
     places: &Places,
     w: &mut W,
 ) -> Result<()>
-    requires { FitsWords encoding.format (placement_of places.now) }
+    requires width { IsTrue (is_width encoding.address_size) }
+    requires fit { FitsWords encoding.format (placement_of places.now) }
     ensures ok { OnOk result
-        (Adds (W.meaning w.old) (W.meaning w.new)
-        (mark_bytes (W.meaning w.old).is_big encoding
-        (Open (read_entry encoding (placement_of places.now) code index entry.now)))) }
-    ensures fits { OnOk result
-        (All (IsAttribute encoding)
-        (read_attributes encoding (placement_of places.now) index entry.now)) }
-    ensures spelled { OnOk result (IsTrue (are_values_writable entry.now.attributes)) }
-    ensures placed { OnOk result
-        (IsTrue (refer_inside (has_place (placement_of places.now)) entry.now.attributes)) }
+        (Drafts (W.meaning w.old) (W.meaning w.new) [] []
+        (entry_draft encoding (targets_at places.now) code index entry.now)) }
+    ensures sound { OnOk result
+        ((e : AnError) → IsFalse (attributes_fail encoding (targets_at places.now).place
+        (W.meaning w.old).is_plain entry.now.attributes e)) }
+    ensures ranged { OnOk result (AreRanged encoding entry.now.attributes) }
     ensures err { IfErr result
-        (BodyRefused (W.meaning w.old) (W.meaning w.new) (are_values_writable entry.now.attributes)
-        (refer_inside (has_place (placement_of places.now)) entry.now.attributes)) }
+        (Refused (W.meaning w.old) (W.meaning w.new)
+        (Is (attributes_fail encoding (targets_at places.now).place (W.meaning w.old).is_plain
+        entry.now.attributes))) }
     ensures same { IsSameWriter (W.meaning w.old) (W.meaning w.new) }
 {
     w.write_uleb128(code)?;
@@ -108,25 +106,24 @@ fn write_item<W: Writer>(
     places: &Places,
     w: &mut W,
 ) -> Result<()>
+    requires width { IsTrue (is_width encoding.address_size) }
     requires within { IsIn (length entries.now) (mark_of item) }
     requires fit { FitsWords encoding.format (placement_of places.now) }
     ensures ok { OnOk result
-        (Adds (W.meaning w.old) (W.meaning w.new)
-        (mark_bytes (W.meaning w.old).is_big encoding
-        (read_mark encoding entries.now (placement_of places.now) code (mark_of item)))) }
-    ensures fits { OnOk result
-        (HasOperands encoding entries.now (placement_of places.now) (mark_of item)) }
-    ensures spelled { OnOk result (IsTrue (is_mark_writable entries.now (mark_of item))) }
-    ensures placed { OnOk result
-        (IsTrue (is_mark_placed (has_place (placement_of places.now)) entries.now (mark_of item))) }
+        (Drafts (W.meaning w.old) (W.meaning w.new) [] []
+        (mark_draft encoding entries.now (targets_at places.now) code (mark_of item))) }
+    ensures sound { OnOk result
+        ((e : AnError) → IsFalse (mark_fails encoding entries.now (targets_at places.now).place
+        (W.meaning w.old).is_plain (mark_of item) e)) }
+    ensures ranged { OnOk result (IsMarkRanged encoding entries.now (mark_of item)) }
     ensures err { IfErr result
-        (BodyRefused (W.meaning w.old) (W.meaning w.new)
-        (is_mark_writable entries.now (mark_of item))
-        (is_mark_placed (has_place (placement_of places.now)) entries.now (mark_of item))) }
+        (Refused (W.meaning w.old) (W.meaning w.new)
+        (Is (mark_fails encoding entries.now (targets_at places.now).place
+        (W.meaning w.old).is_plain (mark_of item)))) }
     ensures same { IsSameWriter (W.meaning w.old) (W.meaning w.new) }
 {
     match item {
-        Item::Open(index) => write_entry(encoding, &entries[index], index, code, places, w),
+        Item::Open(index) => { write_entry(encoding, &entries[index], index, code, places, w) }
         Item::Null => w.write_u8(0),
     }
 }
@@ -140,25 +137,24 @@ pub(crate) fn write_items<W: Writer>(
     places: &Places,
     w: &mut W,
 ) -> Result<()>
+    requires width { IsTrue (is_width encoding.address_size) }
     requires within { AreIn (length entries.now) (marks items.now) }
     requires fit { FitsWords encoding.format (placement_of places.now) }
     requires codes { codes.now
         ≡ map (code_at encoding entries.now (shapes_of encoding entries.now [] (marks items.now)))
         (marks items.now) }
     ensures ok { OnOk result
-        (Adds (W.meaning w.old) (W.meaning w.new)
-        (body_bytes (W.meaning w.old).is_big encoding
-        (tree_as_read encoding entries.now (placement_of places.now)
-        (shapes_of encoding entries.now [] (marks items.now)) (marks items.now)))) }
-    ensures fits { OnOk result
-        (HaveOperands encoding entries.now (placement_of places.now) (marks items.now)) }
-    ensures spelled { OnOk result (IsTrue (are_writable entries.now (marks items.now))) }
-    ensures placed { OnOk result
-        (IsTrue (are_placed (has_place (placement_of places.now)) entries.now (marks items.now))) }
+        (Drafts (W.meaning w.old) (W.meaning w.new) [] []
+        (marks_draft encoding entries.now (targets_at places.now)
+        (shapes_of encoding entries.now [] (marks items.now)) (marks items.now))) }
+    ensures sound { OnOk result
+        ((e : AnError) → IsFalse (marks_fail encoding entries.now (targets_at places.now).place
+        (W.meaning w.old).is_plain (marks items.now) e)) }
+    ensures ranged { OnOk result (AreMarksRanged encoding entries.now (marks items.now)) }
     ensures err { IfErr result
-        (BodyRefused (W.meaning w.old) (W.meaning w.new)
-        (are_writable entries.now (marks items.now))
-        (are_placed (has_place (placement_of places.now)) entries.now (marks items.now))) }
+        (Refused (W.meaning w.old) (W.meaning w.new)
+        (Is (marks_fail encoding entries.now (targets_at places.now).place
+        (W.meaning w.old).is_plain (marks items.now)))) }
     ensures same { IsSameWriter (W.meaning w.old) (W.meaning w.new) }
 {
     for (k, item) in items.iter().enumerate() {

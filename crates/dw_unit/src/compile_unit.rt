@@ -1,21 +1,23 @@
 //! A compile unit with its entries, and the table of its abbreviations.
 
-ghost use Rattle.std.specs.Prelude.{◌≡◌, ◌≢◌, ◌+◌, ◌<◌, ◌≤◌, ◌^◌, ℕ, length, map, IsTrue, OnOk, IfErr};
-ghost use Rattle.dw_base.specs.Numbers.{word_of, length_fits};
-ghost use Rattle.dw_base.specs.Spelling.{header_size};
-ghost use Rattle.dw_writer.specs.Meaning.{IsSameWriter, Appends};
-ghost use Rattle.dw_writer.specs.Causes.{HasRisen, offset_fits};
+ghost use Rattle.std.specs.Prelude.{◌≡◌, ◌≢◌, ◌≤◌, [], length, map, IsTrue, IsFalse, OnOk, IfErr};
+ghost use Rattle.dw_base.specs.Numbers.{is_width, length_fits};
+ghost use Rattle.dw_base.specs.declared.error.Error.{Error as AnError};
+ghost use Rattle.dw_writer.specs.Drafts.{Drafts};
+ghost use Rattle.dw_writer.specs.Meaning.{IsSameWriter};
 ghost use Rattle.dw_writer.specs.Sections.{SomeHasRisen, fault_sum};
-ghost use Rattle.dw_entries.specs.Entries.{entry_at};
 ghost use Rattle.dw_entries.specs.Arena.{AreLinked};
-ghost use Rattle.dw_unit.specs.Valid.{is_encodable, are_references_inside, tree_length, IsWritableTree};
-ghost use Rattle.dw_unit.specs.UnitText.{unit_text};
-ghost use Rattle.dw_unit.specs.Causes.{TreeRefused};
-ghost use Rattle.dw_entries.specs.Tree.{AreIn, marks, preorder, has_entry};
-ghost use Rattle.dw_unit.specs.Coded.{code_at, are_writable, HaveOperands};
-ghost use Rattle.dw_unit.specs.Whole.{tree_shapes, tree_size, tree_placement, tree_bytes};
-ghost use Rattle.dw_unit.specs.Places.{placement_of, has_place, FitsWords, IsSamePlacement};
-ghost use Rattle.dw_unit.specs.Written.{AppendsTree, KeepsOtherSections};
+ghost use Rattle.dw_entries.specs.Entries.{entry_at};
+ghost use Rattle.dw_entries.specs.Tree.{AreIn, marks, preorder};
+ghost use Rattle.dw_unit.specs.Causes.{Because, Refused, Is, TreeFails};
+ghost use Rattle.dw_unit.specs.Coded.{code_at};
+ghost use Rattle.dw_unit.specs.Pending.{AreMarksRanged, PendsTree};
+ghost use Rattle.dw_unit.specs.Places.{placement_of, targets_at, FitsWords};
+ghost use Rattle.dw_unit.specs.UnitFaults.{is_encodable, unit_fails};
+ghost use Rattle.dw_unit.specs.UnitText.{tree_draft, unit_draft, unit_length};
+ghost use Rattle.dw_unit.specs.Valid.{IsWritableTree};
+ghost use Rattle.dw_unit.specs.Whole.{tree_shapes};
+ghost use Rattle.dw_unit.specs.Written.{KeepsOtherSections};
 
 use crate::body::write_items;
 use crate::codes::assign_codes;
@@ -37,32 +39,26 @@ fn write_compile_unit<W: Writer>(
     places: &Places,
     w: &mut W,
 ) -> Result<()>
+    requires width { IsTrue (is_width encoding.address_size) }
     requires within { AreIn (length entries.now) (marks items.now) }
     requires tree { marks items.now ≡ preorder entries.now }
     requires fit { FitsWords encoding.format (placement_of places.now) }
-    requires inside { (i : ℕ) → has_place (placement_of places.now) i
-        ≡ has_entry (preorder entries.now) i }
-    // No place was cut off where the unit can be written.
-    requires places { header_size encoding + tree_size encoding entries.now < 2 ^ 64
-        → IsSamePlacement (placement_of places.now) (tree_placement encoding entries.now) }
     requires codes { codes.now
         ≡ map (code_at encoding entries.now (tree_shapes encoding entries.now)) (marks items.now) }
     ensures ok { OnOk result
-        (Appends (W.meaning w.old) (W.meaning w.new)
-        (header_size encoding + length (tree_bytes (W.meaning w.old).is_big encoding entries.now))
-        (unit_text encoding table (tree_bytes (W.meaning w.old).is_big encoding entries.now))) }
-    ensures place { OnOk result
-        (IsTrue (offset_fits (W.meaning w.old).is_plain (word_of encoding.format) table)) }
+        (Drafts (W.meaning w.old) (W.meaning w.new) [] []
+        (unit_draft encoding table (tree_draft encoding entries.now (targets_at places.now)))) }
     ensures fits { OnOk result
-        (IsTrue (length_fits encoding.format (tree_length encoding entries.now))) }
-    ensures operands { OnOk result
-        (HaveOperands encoding entries.now (tree_placement encoding entries.now)
-        (preorder entries.now)) }
-    ensures spelled { OnOk result (IsTrue (are_writable entries.now (preorder entries.now))) }
-    ensures references { OnOk result (IsTrue (are_references_inside entries.now)) }
+        (IsTrue (length_fits encoding.format (unit_length encoding
+        (tree_draft encoding entries.now (targets_at places.now)).size))) }
+    ensures ranged { OnOk result (AreMarksRanged encoding entries.now (preorder entries.now)) }
+    ensures sound { OnOk result
+        ((e : AnError) → IsFalse (unit_fails encoding entries.now table (targets_at places.now)
+        (W.meaning w.old).is_plain e)) }
     ensures err { IfErr result
-        (TreeRefused (HasRisen (W.meaning w.old) (W.meaning w.new)) (W.meaning w.old).is_plain table
-        encoding entries.now) }
+        (Refused (W.meaning w.old) (W.meaning w.new)
+        (Is (unit_fails encoding entries.now table (targets_at places.now)
+        (W.meaning w.old).is_plain))) }
     ensures same { IsSameWriter (W.meaning w.old) (W.meaning w.new) }
 {
     let place = w.write_initial_length(encoding.format)?;
@@ -85,12 +81,13 @@ pub(crate) fn write_tree<W: Writer>(
     requires linked { AreLinked entries.now }
     requires rooted { (entry_at entries.now 0).tag ≢ 0 }
     ensures unit { OnOk result
-        (AppendsTree W.meaning sections.old sections.new encoding entries.now) }
-    ensures writable { OnOk result (IsWritableTree encoding entries.now) }
+        (PendsTree W.meaning sections.old sections.new encoding entries.now) }
+    ensures writable { OnOk result
+        (IsWritableTree (W.meaning sections.old.debug_info.0).is_plain encoding entries.now) }
     ensures err { IfErr result
-        (TreeRefused (SomeHasRisen W.meaning sections.old sections.new)
-        (W.meaning sections.old.debug_info.0).is_plain (W.meaning sections.old.debug_abbrev.0).size
-        encoding entries.now) }
+        (Because (SomeHasRisen W.meaning sections.old sections.new)
+        (TreeFails encoding entries.now (W.meaning sections.old.debug_abbrev.0).size
+        (W.meaning sections.old.debug_info.0).is_plain)) }
     ensures others { KeepsOtherSections sections.old sections.new }
     ensures faults { fault_sum W.meaning sections.old ≤ fault_sum W.meaning sections.new }
 {

@@ -1,13 +1,13 @@
 //! The header of a compile unit.
 
-ghost use Rattle.std.specs.Prelude.{◌≡◌, IsTrue, OnOk, IfErr};
-ghost use Rattle.dw_base.specs.Numbers.{is_width, word_of};
+ghost use Rattle.std.specs.Prelude.{◌≡◌, IsTrue, IsFalse, OnOk, IfErr};
+ghost use Rattle.dw_base.specs.Numbers.{is_width};
+ghost use Rattle.dw_base.specs.declared.error.Error.{Error as AnError};
 ghost use Rattle.dw_base.specs.Spelling.{fields_size};
 ghost use Rattle.dw_writer.specs.Meaning.{IsSameWriter, Appends};
-ghost use Rattle.dw_writer.specs.Causes.{offset_fits};
-ghost use Rattle.dw_unit.specs.Valid.{is_encodable};
+ghost use Rattle.dw_unit.specs.Causes.{Refused, Is};
+ghost use Rattle.dw_unit.specs.UnitFaults.{is_encodable, encoding_fails, fields_fail};
 ghost use Rattle.dw_unit.specs.UnitText.{fields_text};
-ghost use Rattle.dw_unit.specs.Causes.{EncodingRefused, FieldsRefused};
 
 use dw_base::constants::DW_UT_compile;
 use dw_base::{Encoding, Error, Result, SectionId};
@@ -23,7 +23,7 @@ fn is_supported_width(size: u8) -> bool
 /// Refuses versions and address sizes that have no spelling.
 pub(crate) fn check_encoding(encoding: Encoding) -> Result<()>
     ensures ok { OnOk result (IsTrue (is_encodable encoding)) }
-    ensures err { IfErr result (EncodingRefused encoding) }
+    ensures err { IfErr result (Is (encoding_fails encoding)) }
 {
     if encoding.version < 2 || encoding.version > 5 {
         return Err(Error::UnsupportedVersion(encoding.version));
@@ -40,9 +40,11 @@ pub(crate) fn write_fields<W: Writer>(encoding: Encoding, table: usize, w: &mut 
     ensures ok { OnOk result
         (Appends (W.meaning w.old) (W.meaning w.new) (fields_size encoding)
         (fields_text encoding table)) }
-    ensures fits { OnOk result
-        (IsTrue (offset_fits (W.meaning w.old).is_plain (word_of encoding.format) table)) }
-    ensures err { IfErr result (FieldsRefused (W.meaning w.old) (W.meaning w.new) encoding table) }
+    ensures sound { OnOk result
+        ((e : AnError) → IsFalse (fields_fail encoding table (W.meaning w.old).is_plain e)) }
+    ensures err { IfErr result
+        (Refused (W.meaning w.old) (W.meaning w.new)
+        (Is (fields_fail encoding table (W.meaning w.old).is_plain))) }
     ensures same { IsSameWriter (W.meaning w.old) (W.meaning w.new) }
 {
     let word = encoding.format.word_size();

@@ -1,18 +1,19 @@
 //! The places of a unit's entries, found before the first byte is written.
 
-ghost use Rattle.std.specs.Prelude.{◌≡◌, ◌+◌, ◌<◌, ◌≤◌, ◌^◌, ◌++◌, ◌∷◌, [], ℕ, true, length, map, All, IfOk, OnOk};
-ghost use Rattle.dw_base.specs.Entries.{Null, closes};
+ghost use Rattle.std.specs.Prelude.{◌≡◌, ◌+◌, ◌<◌, ◌≤◌, ◌^◌, ◌++◌, ◌∷◌, [], ℕ, Option, true, length, map, All, IfOk, OnOk, IfErr};
+ghost use Rattle.dw_base.specs.Entries.{Open, Null, closes};
 ghost use Rattle.dw_base.specs.Spelling.{header_size as size_of_header};
+ghost use Rattle.dw_base.specs.declared.error.Error.TheVariants.{NoMemory, ValueTooLarge};
 ghost use Rattle.dw_entries.specs.Tree.{AreIn, IsIn, mark_of, marks, children_in, has_entry, are_entries_distinct};
+ghost use Rattle.dw_unit.specs.Causes.{RoomRefused};
 ghost use Rattle.dw_unit.specs.Coded.{shapes_of, code_at};
-ghost use Rattle.dw_unit.specs.Laid.{values_size as size_of_values, entry_size as size_of_entry, sizes_of, laid_from};
-ghost use Rattle.dw_unit.specs.Places.{placement_of, has_place, IsSamePlacement};
-ghost use Rattle.dw_entries.specs.Values.{capped};
+ghost use Rattle.dw_unit.specs.Laid.{values_size as size_of_values, entry_size as size_of_entry, sized, sizes_of, IsPlacement, HasNoRoom};
+ghost use Rattle.dw_unit.specs.Places.{placement_of, has_place};
 
 use crate::places::Places;
-use dw_base::{Encoding, uleb128_size};
-use dw_entries::{Attribute, DebuggingInformationEntry, Item};
-use std::alloc::{AllocError, Global};
+use dw_base::{Encoding, Result, uleb128_size};
+use dw_entries::{Attribute, DebuggingInformationEntry, Item, sum};
+use std::alloc::Global;
 
 /// The bytes of a header: the length, with its escape in the 64-bit format, the version, the place
 /// of the table and the address size; in version 5 the type of the unit, too (DWARF 5, 7.5.1.1).
@@ -26,27 +27,37 @@ fn header_size(encoding: Encoding) -> u64
 }
 
 /// The bytes of values.
-fn values_size(encoding: Encoding, attributes: &[Attribute]) -> u64
-    ensures { result ≡ capped (size_of_values encoding attributes.now) }
+fn values_size(encoding: Encoding, attributes: &[Attribute]) -> Result<u64>
+    ensures ok { IfOk result
+        (λ n. (place : ℕ → Option ℕ) → n ≡ size_of_values encoding place attributes.now) }
+    ensures err { IfErr result
+        (λ e. (e ≡ ValueTooLarge)
+        × ((place : ℕ → Option ℕ) → 2 ^ 64 ≤ size_of_values encoding place attributes.now)) }
 {
     let mut size: u64 = 0;
     for attribute in attributes {
-        size = size.saturating_add(attribute.get().size(encoding));
+        let more = attribute.get().size(encoding)?;
+        size = sum(size, more)?;
     }
-    size
+    Ok(size)
 }
 
 /// The bytes of an entry with its code.
-fn entry_size(encoding: Encoding, entry: &DebuggingInformationEntry, code: u64) -> u64
-    ensures { result ≡ capped (size_of_entry encoding code entry.now) }
+fn entry_size(encoding: Encoding, entry: &DebuggingInformationEntry, code: u64) -> Result<u64>
+    ensures ok { IfOk result
+        (λ n. (place : ℕ → Option ℕ) → n ≡ size_of_entry encoding place code entry.now) }
+    ensures err { IfErr result
+        (λ e. (e ≡ ValueTooLarge)
+        × ((place : ℕ → Option ℕ) → 2 ^ 64 ≤ size_of_entry encoding place code entry.now)) }
 {
     let sibling = if entry.has_sibling() {
         encoding.format.word_size() as u64
     } else {
         0
     };
-    let values = values_size(encoding, entry.attributes());
-    (uleb128_size(code) as u64).saturating_add(sibling.saturating_add(values))
+    let values = values_size(encoding, entry.attributes())?;
+    let behind_code = sum(sibling, values)?;
+    sum(uleb128_size(code) as u64, behind_code)
 }
 
 /// Places so far, and the entries whose children aren't closed yet.
@@ -57,11 +68,12 @@ pub(crate) struct Layout {
 }
 
 impl Layout {
-    ghost use Rattle.dw_unit.specs.Laying.{layout_value, unlaid, entered, closed_in, stepped};
+    ghost use Rattle.dw_unit.specs.Laying.{layout_value, unlaid, begun, entered, closed_in, stepped, mark_size, Extends};
 
     /// Entries of which none has a place yet.
-    fn new(alloc: Global, count: usize, start: u64) -> Result<Layout, AllocError>
-        ensures { IfOk result (λ l. layout_value l ≡ unlaid count start) }
+    fn new(alloc: Global, count: usize, start: u64) -> Result<Layout>
+        ensures ok { IfOk result (λ l. layout_value l ≡ unlaid count start) }
+        ensures err { IfErr result (λ e. e ≡ NoMemory) }
     {
         Ok(Layout {
             places: Places {
@@ -73,17 +85,24 @@ impl Layout {
         })
     }
 
-    /// Lays an entry out, of so many bytes.
-    fn enter(&mut self, index: usize, size: u64, is_parent: bool) -> Result<(), AllocError>
+    /// Gives an entry its place, which its own size may hang on.
+    fn begin(&mut self, index: usize)
         requires room { index < length (layout_value self.old).places }
-        requires past_room { index < length (layout_value self.old).pasts }
-        ensures { OnOk result
-            (layout_value self.new
-            ≡ entered index (capped ((layout_value self.old).end + size)) is_parent
-            (layout_value self.old)) }
+        ensures { layout_value self.new ≡ begun (Open index) (layout_value self.old) }
     {
         self.places.places[index] = self.places.end;
-        self.places.end = self.places.end.saturating_add(size);
+    }
+
+    /// Lays out the bytes of an entry that has its place.
+    fn enter(&mut self, index: usize, size: u64, is_parent: bool) -> Result<()>
+        requires room { index < length (layout_value self.old).pasts }
+        ensures ok { OnOk result
+            (layout_value self.new
+            ≡ entered index ((layout_value self.old).end + size) is_parent
+            (layout_value self.old)) }
+        ensures err { IfErr result (RoomRefused (2 ^ 64 ≤ (layout_value self.old).end + size)) }
+    {
+        self.places.end = sum(self.places.end, size)?;
         if is_parent {
             self.parents.push(index)?;
         } else {
@@ -93,17 +112,20 @@ impl Layout {
     }
 
     /// Closes the innermost list of children, by one byte.
-    fn close(&mut self)
+    fn close(&mut self) -> Result<()>
         requires { All (λ i. i < length (layout_value self.old).pasts)
             (layout_value self.old).parents }
-        ensures { layout_value self.new
-            ≡ closed_in (layout_value self.old).parents (capped ((layout_value self.old).end + 1))
-            (layout_value self.old) }
+        ensures ok { OnOk result
+            (layout_value self.new
+            ≡ closed_in (layout_value self.old).parents ((layout_value self.old).end + 1)
+            (layout_value self.old)) }
+        ensures err { IfErr result (RoomRefused (2 ^ 64 ≤ (layout_value self.old).end + 1)) }
     {
-        self.places.end = self.places.end.saturating_add(1);
+        self.places.end = sum(self.places.end, 1)?;
         if let Some(index) = self.parents.pop() {
             self.places.pasts[index] = self.places.end;
         }
+        Ok(())
     }
 
     /// Lays an item out.
@@ -113,37 +135,45 @@ impl Layout {
         entries: &[DebuggingInformationEntry],
         item: Item,
         code: u64,
-    ) -> Result<(), AllocError>
+    ) -> Result<()>
         requires within { IsIn (length entries.now) (mark_of item) }
         requires room { length (layout_value self.old).places ≡ length entries.now }
         requires past_room { length (layout_value self.old).pasts ≡ length entries.now }
         requires parents { All (λ i. i < length entries.now) (layout_value self.old).parents }
-        ensures { OnOk result
-            (layout_value self.new ≡ stepped encoding entries.now code (mark_of item)
+        ensures ok { OnOk result
+            ((place : ℕ → ℕ) →
+            Extends (begun (mark_of item) (layout_value self.old)) place →
+            layout_value self.new ≡ stepped entries.now (mark_of item)
+            ((layout_value self.old).end
+            + mark_size encoding entries.now code (mark_of item) place)
             (layout_value self.old)) }
+        ensures err { IfErr result
+            (RoomRefused ((place : ℕ → ℕ) →
+            Extends (begun (mark_of item) (layout_value self.old)) place →
+            2 ^ 64 ≤ (layout_value self.old).end
+            + mark_size encoding entries.now code (mark_of item) place)) }
     {
         match item {
             Item::Open(index) => {
                 let entry = &entries[index];
-                let size = entry_size(encoding, entry, code);
+                self.begin(index);
+                let size = entry_size(encoding, entry, code)?;
                 self.enter(index, size, !entry.child_ids().is_empty())
             }
-            Item::Null => {
-                self.close();
-                Ok(())
-            }
+            Item::Null => self.close(),
         }
     }
 }
 
-/// Finds the place of each entry among items that are one tree.
+/// Finds the place of each entry among items that are one tree. Refused as `ValueTooLarge` where
+/// they come to no number of 64 bits.
 pub(crate) fn lay_out(
     alloc: Global,
     encoding: Encoding,
     entries: &[DebuggingInformationEntry],
     items: &[Item],
     codes: &[u64],
-) -> Result<Places, AllocError>
+) -> Result<Places>
     requires within { AreIn (length entries.now) (marks items.now) }
     requires distinct { are_entries_distinct (marks items.now) ≡ true }
     requires closed { closes 1 (map (children_in entries.now) (marks items.now) ++ Null ∷ [])
@@ -151,22 +181,22 @@ pub(crate) fn lay_out(
     requires codes { codes.now
         ≡ map (code_at encoding entries.now (shapes_of encoding entries.now [] (marks items.now)))
         (marks items.now) }
-    ensures places { IfOk result
-        (λ p. size_of_header encoding
-        + sizes_of encoding entries.now (shapes_of encoding entries.now [] (marks items.now))
-        (marks items.now) < 2 ^ 64 →
-        IsSamePlacement (placement_of p)
-        (laid_from encoding entries.now (shapes_of encoding entries.now [] (marks items.now))
-        (size_of_header encoding) (marks items.now))) }
+    ensures placed { IfOk result
+        (λ p. IsPlacement
+        (sized encoding entries.now (shapes_of encoding entries.now [] (marks items.now)))
+        entries.now (size_of_header encoding) (marks items.now) (placement_of p)) }
     ensures end { IfOk result
-        (λ p. p.end ≡ capped
-        (size_of_header encoding
-        + sizes_of encoding entries.now (shapes_of encoding entries.now [] (marks items.now))
-        (marks items.now))) }
+        (λ p. p.end ≡ size_of_header encoding
+        + sizes_of (sized encoding entries.now (shapes_of encoding entries.now [] (marks items.now))
+        (placement_of p).place) entries.now (marks items.now)) }
     ensures inside { IfOk result
         (λ p. (i : ℕ) → has_place (placement_of p) i ≡ has_entry (marks items.now) i) }
     ensures bounded { IfOk result
         (λ p. (i : ℕ) → ((placement_of p).place i ≤ p.end) × ((placement_of p).past i ≤ p.end)) }
+    ensures err { IfErr result
+        (RoomRefused (HasNoRoom
+        (sized encoding entries.now (shapes_of encoding entries.now [] (marks items.now)))
+        entries.now (size_of_header encoding) (marks items.now))) }
 {
     let mut layout = Layout::new(alloc, entries.len(), header_size(encoding))?;
     for (k, item) in items.iter().enumerate() {

@@ -1,10 +1,10 @@
 //! Where the entries of a unit stand.
 
-ghost use Rattle.std.specs.Prelude.{◌≡◌, ◌≤◌, ◌-◌, ℕ, Some, None, IsTrue, IsFalse, OnOk, IfErr, if◌then◌else◌};
+ghost use Rattle.std.specs.Prelude.{◌≡◌, ◌≤◌, ◌-◌, ℕ, IsTrue, IsFalse, OnOk, IfErr};
 ghost use Rattle.dw_base.specs.Numbers.{word_of, fits, length_size, length_fits};
 ghost use Rattle.dw_base.specs.declared.common.Format.TheVariants.{Dwarf32};
 ghost use Rattle.dw_base.specs.declared.error.Error.TheVariants.{InitialLengthOverflow};
-ghost use Rattle.dw_unit.specs.Places.{placement_of, has_place};
+ghost use Rattle.dw_unit.specs.Places.{placement_of, found};
 
 use dw_base::{Error, Format, Result, UnitEntryId};
 
@@ -26,8 +26,7 @@ pub(crate) struct Places {
 impl Places {
     /// The place of an entry, if it stands in the tree.
     pub(crate) fn place(&self, entry: UnitEntryId) -> Option<u64>
-        ensures { result ≡ (if has_place (placement_of self.now) entry.0 then Some
-            ((placement_of self.now).place entry.0) else None) }
+        ensures { result ≡ found (placement_of self.now).place entry.0 }
     {
         match self.places.get(entry.index()) {
             Some(place) if *place != 0 => Some(*place),

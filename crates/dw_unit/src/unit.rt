@@ -230,7 +230,8 @@ impl Unit {
     ghost use Rattle.dw_writer.specs.Sections.{fault_sum};
     ghost use Rattle.dw_unit.specs.Whole.{settled, marked_written};
     ghost use Rattle.dw_unit.specs.Valid.{IsWritable};
-    ghost use Rattle.dw_unit.specs.Written.{AppendsTree, KeepsOtherSections};
+    ghost use Rattle.dw_unit.specs.Pending.{PendsTree};
+    ghost use Rattle.dw_unit.specs.Written.{KeepsOtherSections};
     ghost use Rattle.dw_unit.specs.Causes.{UnitRefused};
 
     /// Writes the unit at the end of `.debug_info` and its abbreviation table at the end of
@@ -240,16 +241,19 @@ impl Unit {
     /// Refused as `UnsupportedVersion` or `UnsupportedWordSize` where the version isn't 2 to 5 or
     /// the address size isn't 1, 2, 4 or 8, as `InvalidAttributeValue` where a string has a zero
     /// byte, as `InvalidReference` where a reference names an entry outside the unit's tree, as
+    /// `InvalidAddress` where an address is a symbol's and the writer records no relocations, as
     /// `InitialLengthOverflow` where a 32-bit unit has 0xffff_fff0 bytes or more after its length
-    /// (DWARF 5, 7.4), as `ValueTooLarge` where the place of its table has no room in a word, and
-    /// as `WriteFault` or `NoMemory`. A refused unit is as it was, or has its base types moved, and
+    /// (DWARF 5, 7.4), as `ValueTooLarge` where an address or an offset has no room in its width,
+    /// the place of the table none in a word, or the unit's size none in 64 bits, and as
+    /// `WriteFault` or `NoMemory`. A refused unit is as it was, or has its base types moved, and
     /// the two sections may have got some of the bytes.
     pub fn write<W: Writer>(&mut self, sections: &mut Sections<W>) -> Result<()>
         requires { self.old.is_written ≡ false }
         ensures unit { OnOk result
-            (AppendsTree W.meaning sections.old sections.new self.old.encoding
+            (PendsTree W.meaning sections.old sections.new self.old.encoding
             (settled self.old).entries) }
-        ensures writable { OnOk result (IsWritable self.old) }
+        ensures writable { OnOk result
+            (IsWritable (W.meaning sections.old.debug_info.0).is_plain self.old) }
         ensures marked { OnOk result (self.new ≡ marked_written (settled self.old)) }
 
         ensures err { IfErr result (UnitRefused W.meaning sections.old sections.new self.old) }

@@ -9,7 +9,7 @@ ghost use Rattle.dw_unit.specs.UnitValue.{UnitValue};
 ghost use Rattle.dw_unit.specs.Valid.{IsWritable};
 ghost use Rattle.dw_unit.specs.Whole.{settled, written};
 ghost use Rattle.dw_unit.specs.Causes.{UnitsRefused};
-ghost use Rattle.dw_unit.specs.Written.{AppendsUnits, KeepsOtherSections};
+ghost use Rattle.dw_unit.specs.Written.{AppendsUnits, to_write, KeepsOtherSections};
 
 use crate::unit::Unit;
 use dw_base::{Result, UnitId};
@@ -93,8 +93,11 @@ impl UnitTable {
     /// may have got some of its bytes.
     pub fn write<W: Writer>(&mut self, sections: &mut Sections<W>) -> Result<()>
         requires { length self.old ≤ 1 }
-        ensures units { OnOk result (AppendsUnits W.meaning sections.old sections.new self.old) }
-        ensures writable { OnOk result (All (λ u. u.is_written ≡ false → IsWritable u) self.old) }
+        ensures units { OnOk result
+            (AppendsUnits W.meaning sections.old sections.new (to_write self.old)) }
+        ensures writable { OnOk result
+            (All (λ u. u.is_written ≡ false →
+            IsWritable (W.meaning sections.old.debug_info.0).is_plain u) self.old) }
         ensures marked { OnOk result (self.new ≡ map written self.old) }
         ensures emptied { OnOk result (NoFixups sections.new) }
 
@@ -121,8 +124,11 @@ impl UnitTable {
     /// Writes the units. The lists of fixups stay as they are.
     fn write_units<W: Writer>(&mut self, sections: &mut Sections<W>) -> Result<()>
         requires { length self.old ≤ 1 }
-        ensures units { OnOk result (AppendsUnits W.meaning sections.old sections.new self.old) }
-        ensures writable { OnOk result (All (λ u. u.is_written ≡ false → IsWritable u) self.old) }
+        ensures units { OnOk result
+            (AppendsUnits W.meaning sections.old sections.new (to_write self.old)) }
+        ensures writable { OnOk result
+            (All (λ u. u.is_written ≡ false →
+            IsWritable (W.meaning sections.old.debug_info.0).is_plain u) self.old) }
         ensures marked { OnOk result (self.new ≡ map written self.old) }
 
         ensures err { IfErr result (UnitsRefused W.meaning sections.old sections.new self.old) }

@@ -1,19 +1,21 @@
 //! How values are written.
 
-ghost use Rattle.std.specs.Prelude.{◌≡◌, ◌++◌, ◌∷◌, [], ◌==◌, not, true, Ok, IsTrue, IsFalse, OnOk, IfErr};
-ghost use Rattle.std.specs.List.{list_any};
-ghost use Rattle.dw_base.specs.Numbers.{num, word_of};
-ghost use Rattle.dw_base.specs.Forms.{kind_of};
-ghost use Rattle.dw_base.specs.Spelling.{operand_bytes};
-ghost use Rattle.dw_base.specs.Spellable.{IsText, FormFits};
-ghost use Rattle.dw_writer.specs.Meaning.{IsSameWriter, Adds};
-ghost use Rattle.dw_entries.specs.Values.{form_of, constant_of, operand_of, is_writable, operand_size, refers_inside, reference_form as form_of_reference, capped};
-ghost use Rattle.dw_unit.specs.Places.{placement_of, has_place, FitsWords};
-ghost use Rattle.dw_unit.specs.Causes.{BodyRefused};
+ghost use Rattle.std.specs.Prelude.{◌++◌, ◌∷◌, [], length, IsTrue, IsFalse, OnOk, IfErr};
+ghost use Rattle.dw_base.specs.Leb128.{uleb};
+ghost use Rattle.dw_base.specs.Numbers.{is_width, num, word_of};
+ghost use Rattle.dw_base.specs.declared.error.Error.{Error as AnError};
+ghost use Rattle.dw_writer.specs.Drafts.{Drafts};
+ghost use Rattle.dw_writer.specs.Meaning.{IsSameWriter, Adds, Appends};
+ghost use Rattle.dw_writer.specs.Causes.{BytesRefused};
+ghost use Rattle.dw_writer.specs.SectionTexts.{offset_text, address_text};
+ghost use Rattle.dw_entries.specs.Content.{number_fails, text_fails, address_fails, offset_fails, reference_fails};
+ghost use Rattle.dw_entries.specs.Values.{value_draft, value_fails, IsRanged};
+ghost use Rattle.dw_unit.specs.Causes.{Refused, Is};
+ghost use Rattle.dw_unit.specs.Places.{placement_of, targets_at, FitsWords};
 
 use crate::places::Places;
-use dw_base::{Encoding, Error, Format, Result, UnitEntryId};
-use dw_entries::AttributeValue;
+use dw_base::{Address, Encoding, Error, Format, Result, SectionId, UnitEntryId};
+use dw_entries::{AttributeValue, Content};
 use dw_writer::Writer;
 
 /// Writes what stands for the value in an entry.
@@ -23,28 +25,103 @@ pub(crate) fn write_value<W: Writer>(
     value: &AttributeValue,
     w: &mut W,
 ) -> Result<()>
-    requires { FitsWords encoding.format (placement_of places.now) }
+    requires width { IsTrue (is_width encoding.address_size) }
+    requires fit { FitsWords encoding.format (placement_of places.now) }
     ensures ok { OnOk result
-        (Adds (W.meaning w.old) (W.meaning w.new)
-        (operand_bytes (W.meaning w.old).is_big (kind_of encoding (form_of encoding value.now))
-        (operand_of (placement_of places.now).place value.now))) }
-    ensures fits { OnOk result
-        (FormFits (kind_of encoding (form_of encoding value.now))
-        (operand_of (placement_of places.now).place value.now)) }
-    ensures spelled { OnOk result (IsTrue (is_writable value.now)) }
-    ensures placed { OnOk result
-        (IsTrue (refers_inside (has_place (placement_of places.now)) value.now)) }
+        (Drafts (W.meaning w.old) (W.meaning w.new) [] []
+        (value_draft encoding (targets_at places.now) value.now)) }
+    ensures sound { OnOk result
+        ((e : AnError) → IsFalse (value_fails encoding (targets_at places.now).place
+        (W.meaning w.old).is_plain value.now e)) }
+    ensures ranged { OnOk result (IsRanged encoding value.now) }
     ensures err { IfErr result
-        (BodyRefused (W.meaning w.old) (W.meaning w.new) (is_writable value.now)
-        (refers_inside (has_place (placement_of places.now)) value.now)) }
+        (Refused (W.meaning w.old) (W.meaning w.new)
+        (Is (value_fails encoding (targets_at places.now).place (W.meaning w.old).is_plain
+        value.now))) }
     ensures same { IsSameWriter (W.meaning w.old) (W.meaning w.new) }
 {
-    match value {
-        AttributeValue::Data1(number) => w.write_u8(*number),
-        AttributeValue::Udata(number) => w.write_uleb128(*number),
-        AttributeValue::String(text) => write_text(text.slice(), w),
-        AttributeValue::UnitRef(entry) => write_reference(encoding.format, places, *entry, w),
+    match value.content(encoding) {
+        Content::Nothing => Ok(()),
+        Content::Plain { value, size } => write_plain(value, size, w),
+        Content::Wide(number) => w.write_u128(number),
+        Content::Leb(number) => w.write_uleb128(number),
+        Content::SignedLeb(number) => w.write_sleb128(number),
+        Content::Block(bytes) => write_block(bytes, w),
+        Content::Closed(text) => write_text(text, w),
+        Content::Target(address) => write_target(address, encoding.address_size, w),
+        Content::Offset { value, section } => write_place(encoding.format, value, section, w),
+        Content::EntryPlace(entry) => write_reference(encoding.format, places, entry, w),
     }
+}
+
+/// Writes a number of so many bytes.
+fn write_plain<W: Writer>(value: u64, size: u8, w: &mut W) -> Result<()>
+    requires { IsTrue (is_width size) }
+    ensures ok { OnOk result
+        (Adds (W.meaning w.old) (W.meaning w.new) (num (W.meaning w.old).is_big size value)) }
+    ensures sound { OnOk result ((e : AnError) → IsFalse (number_fails size value e)) }
+    ensures err { IfErr result
+        (Refused (W.meaning w.old) (W.meaning w.new) (Is (number_fails size value))) }
+    ensures same { IsSameWriter (W.meaning w.old) (W.meaning w.new) }
+{
+    w.write_udata(value, size)
+}
+
+/// Writes bytes with their length before them.
+fn write_block<W: Writer>(bytes: &[u8], w: &mut W) -> Result<()>
+    ensures ok { OnOk result
+        (Adds (W.meaning w.old) (W.meaning w.new) (uleb (length bytes.now) ++ bytes.now)) }
+    ensures err { IfErr result (BytesRefused (W.meaning w.old) (W.meaning w.new)) }
+    ensures same { IsSameWriter (W.meaning w.old) (W.meaning w.new) }
+{
+    w.write_uleb128(bytes.len() as u64)?;
+    w.write(bytes)
+}
+
+/// Writes a text and the zero that closes it, or nothing where the text itself has a zero.
+fn write_text<W: Writer>(text: &[u8], w: &mut W) -> Result<()>
+    ensures ok { OnOk result (Adds (W.meaning w.old) (W.meaning w.new) (text.now ++ 0 ∷ [])) }
+    ensures sound { OnOk result ((e : AnError) → IsFalse (text_fails text.now e)) }
+    ensures err { IfErr result
+        (Refused (W.meaning w.old) (W.meaning w.new) (Is (text_fails text.now))) }
+    ensures same { IsSameWriter (W.meaning w.old) (W.meaning w.new) }
+{
+    if text.contains(&0) {
+        return Err(Error::InvalidAttributeValue);
+    }
+    w.write(text)?;
+    w.write_u8(0)
+}
+
+/// Writes an address of the target.
+fn write_target<W: Writer>(address: Address, size: u8, w: &mut W) -> Result<()>
+    requires { IsTrue (is_width size) }
+    ensures ok { OnOk result
+        (Appends (W.meaning w.old) (W.meaning w.new) size (address_text size address)) }
+    ensures sound { OnOk result
+        ((e : AnError) → IsFalse (address_fails size (W.meaning w.old).is_plain address e)) }
+    ensures err { IfErr result
+        (Refused (W.meaning w.old) (W.meaning w.new)
+        (Is (address_fails size (W.meaning w.old).is_plain address))) }
+    ensures same { IsSameWriter (W.meaning w.old) (W.meaning w.new) }
+{
+    w.write_address(address, size)
+}
+
+/// Writes an offset into a section.
+fn write_place<W: Writer>(format: Format, value: usize, section: SectionId, w: &mut W) -> Result<()>
+    ensures ok { OnOk result
+        (Appends (W.meaning w.old) (W.meaning w.new) (word_of format)
+        (offset_text (word_of format) section value)) }
+    ensures sound { OnOk result
+        ((e : AnError) →
+        IsFalse (offset_fails (word_of format) (W.meaning w.old).is_plain value e)) }
+    ensures err { IfErr result
+        (Refused (W.meaning w.old) (W.meaning w.new)
+        (Is (offset_fails (word_of format) (W.meaning w.old).is_plain value))) }
+    ensures same { IsSameWriter (W.meaning w.old) (W.meaning w.new) }
+{
+    w.write_offset(value, section, format.word_size())
 }
 
 /// Writes the place of an entry, which has to stand in the tree.
@@ -58,32 +135,15 @@ fn write_reference<W: Writer>(
     ensures ok { OnOk result
         (Adds (W.meaning w.old) (W.meaning w.new)
         (num (W.meaning w.old).is_big (word_of format) ((placement_of places.now).place entry.0))) }
-    ensures placed { OnOk result (IsTrue (has_place (placement_of places.now) entry.0)) }
+    ensures sound { OnOk result
+        ((e : AnError) → IsFalse (reference_fails ((targets_at places.now).place entry.0) e)) }
     ensures err { IfErr result
-        (BodyRefused (W.meaning w.old) (W.meaning w.new) true
-        (has_place (placement_of places.now) entry.0)) }
+        (Refused (W.meaning w.old) (W.meaning w.new)
+        (Is (reference_fails ((targets_at places.now).place entry.0)))) }
     ensures same { IsSameWriter (W.meaning w.old) (W.meaning w.new) }
 {
     let Some(place) = places.place(entry) else {
         return Err(Error::InvalidReference);
     };
     w.write_udata(place, format.word_size())
-}
-
-/// Writes a text and the zero that closes it, or nothing where the text itself has a zero.
-fn write_text<W: Writer>(text: &[u8], w: &mut W) -> Result<()>
-    ensures ok { OnOk result (Adds (W.meaning w.old) (W.meaning w.new) (text.now ++ 0 ∷ [])) }
-    ensures fits { OnOk result (IsText text.now) }
-    ensures spelled { OnOk result (IsFalse (list_any (λ b. b == 0) text.now)) }
-    ensures err { IfErr result
-        (BodyRefused (W.meaning w.old) (W.meaning w.new) (not (list_any (λ b. b == 0) text.now))
-        true) }
-    ensures refused { IsTrue (list_any (λ b. b == 0) text.now) → w.new ≡ w.old }
-    ensures same { IsSameWriter (W.meaning w.old) (W.meaning w.new) }
-{
-    if text.contains(&0) {
-        return Err(Error::InvalidAttributeValue);
-    }
-    w.write(text)?;
-    w.write_u8(0)
 }

@@ -1,16 +1,16 @@
--- Where a script's units have a spelling and nothing fails, they are listed.
+-- Where a script's Dwarf is valid and nothing fails, they are listed.
 use Rattle.std.proofs.Common.{◌≡◌, ◌∙◌, sym, ap, subst, ℕ, List, refl, arith, inl, inr}
-use Rattle.std.specs.Prelude.{◌⊎◌, Option, Some, Result, Ok, Err}
+use Rattle.std.specs.Prelude.{◌⊎◌, true, Option, Some, Result, Ok, Err}
 use Rattle.dw_dwarf.specs.Valid.{IsValid}
 use Rattle.dw_base.specs.Faults.{HasRisen}
 use Rattle.dw_ends.specs.Ends.{Intake}
 use Rattle.dwarf_build.specs.Script.{script}
-use Rattle.dwarf_build.specs.Answers.{IsBuild, IsShort, HasNoSpelling, Says, Prints, code_of}
+use Rattle.dwarf_build.specs.Answers.{IsBuild, IsShort, HasFault, Says, Prints, code_of}
 use Rattle.dwarf_build.specs.declared.script.Script.{Script}
 use Rattle.dwarf_build.specs.declared.script.Refusal.{Refusal}
 use Rattle.dwarf_build.specs.declared.status.Status.{Status}
 use Rattle.dwarf_build.specs.declared.status.Status.TheVariants.{Listed, Usage, ScriptRefused, WriteRefused, SourceFailed, SinkFailed, NoMemory, TooLong}
-use Rattle.dwarf_build.proofs.Unspelled.{valid_spelled}
+use Rattle.dwarf_build.proofs.Faulty.{valid_faultless}
 
 same_script : (a b : Script) (r : Result Script Refusal) → r ≡ Ok a → r ≡ Ok b → a ≡ b
 same_script a b r p q = let e : ◌≡◌ {A = Result Script Refusal} (Ok a) (Ok b) = sym p ∙ q in cc
@@ -18,7 +18,7 @@ same_script a b r p q = let e : ◌≡◌ {A = Result Script Refusal} (Ok a) (Ok
 not_refused : (a : Script) (x : Refusal) (r : Result Script Refusal) → r ≡ Ok a → r ≡ Err x → ⊥
 not_refused a x r p q = let e : ◌≡◌ {A = Result Script Refusal} (Ok a) (Err x) = sym p ∙ q in cc
 
-module _ (words : List (List ℕ)) (left : Option (List ℕ)) (bytes : List ℕ) (s : Script) (build : IsBuild words) (told : left ≡ Some bytes) (short : IsShort bytes) (accepted : script bytes ≡ Ok s) (valid : IsValid s.dwarf.units) where
+module _ (words : List (List ℕ)) (left : Option (List ℕ)) (bytes : List ℕ) (s : Script) (build : IsBuild words) (told : left ≡ Some bytes) (short : IsShort bytes) (accepted : script bytes ≡ Ok s) (valid : IsValid true s.dwarf) where
   listed_only : (status : Status) (text : List ℕ) → Says words left status text → status ≡ Listed
   listed_only Listed text h = refl
   listed_only Usage text h = absurd (h.0 build)
@@ -30,8 +30,8 @@ module _ (words : List (List ℕ)) (left : Option (List ℕ)) (bytes : List ℕ)
       let value = h.1.says.1.value in
       let refusal = h.1.says.1.says in
       let is : value ≡ s = same_script value s (script bytes) (ap script (sym same) ∙ h.1.says.1.accepted) accepted in
-      let unspelled : Script → Type 0 = λ v. HasNoSpelling v.dwarf.units refusal.error in
-      absurd (valid_spelled s.dwarf.units refusal.error valid (subst unspelled is refusal.cause))
+      let fails : Script → Type 0 = λ v. HasFault v.dwarf refusal.error in
+      absurd (valid_faultless s.dwarf refusal.error valid (subst fails is refusal.cause))
   listed_only SourceFailed text h = absurd h
   listed_only SinkFailed text h = absurd h
   listed_only NoMemory text h = absurd h

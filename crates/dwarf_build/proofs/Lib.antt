@@ -5,7 +5,7 @@ pub mod Lines
 pub mod Listings
 pub mod Answered
 pub mod ScriptUnits
-pub mod Unspelled
+pub mod Faulty
 pub mod Completeness
 pub mod Runs
 mod Worked

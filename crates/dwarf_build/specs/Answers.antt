@@ -1,16 +1,15 @@
 -- What the program answers, by its status.
-use Rattle.std.specs.Prelude.{◌≡◌, ◌⊎◌, ℕ, ◌<◌, ◌≤◌, List, [], ◌∷◌, length, map, Any, Option, Some, Ok, Err, codes}
+use Rattle.std.specs.Prelude.{◌≡◌, ◌⊎◌, ℕ, ◌<◌, ◌≤◌, true, List, [], ◌∷◌, length, Any, Option, Some, Ok, Err, codes}
 use Rattle.dw_base.specs.Order.{is_big_of}
 use Rattle.dw_base.specs.declared.error.Error.{Error}
-use Rattle.dw_unit.specs.UnitValue.{UnitValue}
-use Rattle.dw_unit.specs.Whole.{settled}
-use Rattle.dw_unit.specs.Causes.{UnitUnspelled}
-use Rattle.dw_unit.specs.Built.{Built}
-use Rattle.dw_dwarf.specs.Valid.{IsValid}
+use Rattle.dw_unit.specs.Causes.{UnitFails}
+use Rattle.dw_dwarf.specs.Valid.{IsValid, settled_dwarf}
+use Rattle.dw_dwarf.specs.Written.{SectionTexts, AreTextsOf}
+use Rattle.dw_dwarf.specs.declared.dwarf.Dwarf.{Dwarf}
 use Rattle.dw_base.specs.Faults.{HasRisen}
 use Rattle.dw_ends.specs.Ends.{Input, Intake, used_up, with_after, TakesPrefix}
 use Rattle.dwarf_build.specs.Script.{script}
-use Rattle.dwarf_build.specs.Texts.{usage_text, too_long_text, refusal_text, refused_text, sections_text, only_units}
+use Rattle.dwarf_build.specs.Texts.{usage_text, too_long_text, refusal_text, refused_text, sections_text}
 use Rattle.dwarf_build.specs.declared.answer.Stop.{Stop}
 use Rattle.dwarf_build.specs.declared.answer.Stop.TheVariants as stop
 use Rattle.dwarf_build.specs.declared.status.Status.{Status}
@@ -41,20 +40,19 @@ IsShort bytes = length bytes ≤ longest_script
 -- the listing of sections that are read as exactly the script's units, with nothing in other sections. It comes, with
 -- status 0, only for valid units, so that no reference in it names an entry outside its tree
 pub record ListsScript (s : Script) (text : List ℕ) : Type 0 where
-  pub info : List ℕ
-  pub abbrevs : List ℕ
-  pub valid : IsValid s.dwarf.units
-  pub built : Built (map settled s.dwarf.units) (is_big_of s.endian) info abbrevs
-  pub listed : text ≡ sections_text (is_big_of s.endian) (only_units info abbrevs)
+  pub texts : SectionTexts
+  pub valid : IsValid true s.dwarf
+  pub are : AreTextsOf (is_big_of s.endian) (settled_dwarf s.dwarf) texts
+  pub listed : text ≡ sections_text (is_big_of s.endian) texts
 
--- some unit has no spelling
-abbrev pub HasNoSpelling : List UnitValue → Error → Type 0
-HasNoSpelling units error = Any (λ u. UnitUnspelled u error) units
+-- A plain writer can't take some unit, whose table would stand first.
+abbrev pub HasFault : Dwarf → Error → Type 0
+HasFault d error = Any (λ u. UnitFails u 0 true error) d.units
 
--- some unit of the script has no spelling, and the text says why
+-- some unit of the script can't be written, and the text says why
 pub record IsWriteRefusal (s : Script) (text : List ℕ) : Type 0 where
   pub error : Error
-  pub cause : HasNoSpelling s.dwarf.units error
+  pub cause : HasFault s.dwarf error
   pub says : text ≡ refused_text error
 
 -- what is said of an accepted script
@@ -155,6 +153,6 @@ pub record RunAnswers (words : List (List ℕ)) (source_old source_new : Input) 
 abbrev pub ListsValid : List (List ℕ) → Input → Input → Intake → Intake → ℕ → Type 0
 ListsValid words source_old source_new sink_old sink_new code =
     IsBuild words → (bytes : List ℕ) → source_old.left ≡ Some bytes → IsShort bytes →
-    (s : Script) → script bytes ≡ Ok s → IsValid s.dwarf.units →
+    (s : Script) → script bytes ≡ Ok s → IsValid true s.dwarf →
     (HasRisen source_old.faults source_new.faults → ⊥) → (HasRisen sink_old.faults sink_new.faults → ⊥) →
     (code ≡ 0) ⊎ (code ≡ 6)

@@ -33,10 +33,37 @@ one_more_unit (v ∷ vs) u = Err NotBuilt
 
 -- the value that an attribute gets
 abbrev pub attribute_value : Value → AttributeValue
-attribute_value (value.String bytes) = stored.String bytes
-attribute_value (value.Udata n) = stored.Udata n
+attribute_value (value.Address a) = stored.Address a
+attribute_value (value.Block bytes) = stored.Block bytes
 attribute_value (value.Data1 n) = stored.Data1 n
+attribute_value (value.Data2 n) = stored.Data2 n
+attribute_value (value.Data4 n) = stored.Data4 n
+attribute_value (value.Data8 n) = stored.Data8 n
+attribute_value (value.Data16 n) = stored.Data16 n
+attribute_value (value.Sdata z) = stored.Sdata z
+attribute_value (value.Udata n) = stored.Udata n
+attribute_value (value.ImplicitConst z) = stored.ImplicitConst z
+attribute_value (value.Flag b) = stored.Flag b
+attribute_value value.FlagPresent = stored.FlagPresent
 attribute_value (value.UnitRef i) = stored.UnitRef (record { 0 = i })
+attribute_value (value.DebugInfoRefSup n) = stored.DebugInfoRefSup n
+attribute_value (value.DebugMacinfoRef n) = stored.DebugMacinfoRef n
+attribute_value (value.DebugMacroRef n) = stored.DebugMacroRef n
+attribute_value (value.DebugTypesRef n) = stored.DebugTypesRef n
+attribute_value (value.DebugStrRefSup n) = stored.DebugStrRefSup n
+attribute_value (value.String bytes) = stored.String bytes
+attribute_value (value.Encoding n) = stored.Encoding n
+attribute_value (value.DecimalSign n) = stored.DecimalSign n
+attribute_value (value.Endianity n) = stored.Endianity n
+attribute_value (value.Accessibility n) = stored.Accessibility n
+attribute_value (value.Visibility n) = stored.Visibility n
+attribute_value (value.Virtuality n) = stored.Virtuality n
+attribute_value (value.Language n) = stored.Language n
+attribute_value (value.AddressClass n) = stored.AddressClass n
+attribute_value (value.IdentifierCase n) = stored.IdentifierCase n
+attribute_value (value.CallingConvention n) = stored.CallingConvention n
+attribute_value (value.Inline n) = stored.Inline n
+attribute_value (value.Ordering n) = stored.Ordering n
 
 -- a unit with an entry added under a parent, for which an id was handed out
 abbrev pub after_add : ℕ → ℕ → UnitValue → Outcome UnitValue

@@ -4,6 +4,7 @@ use Rattle.dw_base.specs.SectionName.{section_name}
 use Rattle.dw_base.specs.declared.section_id.SectionId.TheVariants.{DebugAbbrev, DebugStr, DebugLineStr, DebugLine, DebugRanges, DebugRngLists, DebugLoc, DebugLocLists, DebugInfo, DebugFrame, EhFrame}
 use Rattle.dw_base.specs.ErrorName.{error_name}
 use Rattle.dw_base.specs.declared.error.Error.{Error}
+use Rattle.dw_dwarf.specs.Written.{SectionTexts}
 use Rattle.dw_ends.specs.Listing.{listing}
 use Rattle.dw_script.specs.Reasons.{reason_text}
 use Rattle.dwarf_build.specs.declared.script.Refusal.{Refusal}
@@ -24,22 +25,8 @@ refusal_text r = codes "line " ++ decimal r.line ++ codes ": " ++ reason_text r.
 abbrev pub refused_text : Error → List ℕ
 refused_text e = codes "refused: " ++ error_name e ++ codes "\n"
 
--- the bytes of the sections that are written
-pub record SectionBytes : Type 0 where
-  pub debug_abbrev : List ℕ
-  pub debug_str : List ℕ
-  pub debug_line_str : List ℕ
-  pub debug_line : List ℕ
-  pub debug_ranges : List ℕ
-  pub debug_rnglists : List ℕ
-  pub debug_loc : List ℕ
-  pub debug_loclists : List ℕ
-  pub debug_info : List ℕ
-  pub debug_frame : List ℕ
-  pub eh_frame : List ℕ
-
 -- each under its name, in the order in which they are listed
-abbrev pub named : SectionBytes → List (List ℕ × List ℕ)
+abbrev pub named : SectionTexts → List (List ℕ × List ℕ)
 named s =
     (section_name DebugAbbrev, s.debug_abbrev) ∷ (section_name DebugStr, s.debug_str) ∷ (section_name DebugLineStr, s.debug_line_str)
     ∷ (section_name DebugLine, s.debug_line) ∷ (section_name DebugRanges, s.debug_ranges) ∷ (section_name DebugRngLists, s.debug_rnglists)
@@ -47,21 +34,5 @@ named s =
     ∷ (section_name DebugFrame, s.debug_frame) ∷ (section_name EhFrame, s.eh_frame) ∷ []
 
 -- the listing of sections in a byte order
-abbrev pub sections_text : Bool → SectionBytes → List ℕ
+abbrev pub sections_text : Bool → SectionTexts → List ℕ
 sections_text big s = listing big (named s)
-
--- only these two sections have bytes
-abbrev pub only_units : List ℕ → List ℕ → SectionBytes
-only_units info abbrevs = record {
-  debug_abbrev = abbrevs;
-  debug_str = [];
-  debug_line_str = [];
-  debug_line = [];
-  debug_ranges = [];
-  debug_rnglists = [];
-  debug_loc = [];
-  debug_loclists = [];
-  debug_info = info;
-  debug_frame = [];
-  eh_frame = [];
-}

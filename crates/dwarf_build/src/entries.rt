@@ -187,10 +187,38 @@ fn set_attribute(
 fn owned_value(alloc: Global, value: Value<'_>) -> Result<AttributeValue, AllocError>
     ensures { IfOk result (λ v. v ≡ attribute_value value.entry) }
 {
-    match value {
-        Value::String(bytes) => Ok(AttributeValue::String(Bytes::from(bytes.decode(alloc)?))),
-        Value::Udata(number) => Ok(AttributeValue::Udata(number)),
-        Value::Data1(number) => Ok(AttributeValue::Data1(number)),
-        Value::UnitRef(entry) => Ok(AttributeValue::UnitRef(id_of(entry))),
-    }
+    let stored = match value {
+        Value::Address(address) => AttributeValue::Address(address),
+        Value::Block(bytes) => AttributeValue::Block(Bytes::from(bytes.decode(alloc)?)),
+        Value::Data1(number) => AttributeValue::Data1(number),
+        Value::Data2(number) => AttributeValue::Data2(number),
+        Value::Data4(number) => AttributeValue::Data4(number),
+        Value::Data8(number) => AttributeValue::Data8(number),
+        Value::Data16(number) => AttributeValue::Data16(number),
+        Value::Sdata(number) => AttributeValue::Sdata(number),
+        Value::Udata(number) => AttributeValue::Udata(number),
+        Value::ImplicitConst(number) => AttributeValue::ImplicitConst(number),
+        Value::Flag(is_set) => AttributeValue::Flag(is_set),
+        Value::FlagPresent => AttributeValue::FlagPresent,
+        Value::UnitRef(entry) => AttributeValue::UnitRef(id_of(entry)),
+        Value::DebugInfoRefSup(offset) => AttributeValue::DebugInfoRefSup(offset),
+        Value::DebugMacinfoRef(offset) => AttributeValue::DebugMacinfoRef(offset),
+        Value::DebugMacroRef(offset) => AttributeValue::DebugMacroRef(offset),
+        Value::DebugTypesRef(signature) => AttributeValue::DebugTypesRef(signature),
+        Value::DebugStrRefSup(offset) => AttributeValue::DebugStrRefSup(offset),
+        Value::String(bytes) => AttributeValue::String(Bytes::from(bytes.decode(alloc)?)),
+        Value::Encoding(code) => AttributeValue::Encoding(code),
+        Value::DecimalSign(code) => AttributeValue::DecimalSign(code),
+        Value::Endianity(code) => AttributeValue::Endianity(code),
+        Value::Accessibility(code) => AttributeValue::Accessibility(code),
+        Value::Visibility(code) => AttributeValue::Visibility(code),
+        Value::Virtuality(code) => AttributeValue::Virtuality(code),
+        Value::Language(code) => AttributeValue::Language(code),
+        Value::AddressClass(code) => AttributeValue::AddressClass(code),
+        Value::IdentifierCase(code) => AttributeValue::IdentifierCase(code),
+        Value::CallingConvention(code) => AttributeValue::CallingConvention(code),
+        Value::Inline(code) => AttributeValue::Inline(code),
+        Value::Ordering(code) => AttributeValue::Ordering(code),
+    };
+    Ok(stored)
 }

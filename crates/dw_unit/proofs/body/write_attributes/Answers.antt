@@ -1,58 +1,67 @@
-use Rattle.std.proofs.Common.{◌<◌, length, arith, refl}
+use Rattle.std.proofs.Common.{◌≡◌, ◌<◌, List, [], length, refl, subst, arith, take}
+use Rattle.std.proofs.lemmas.List.{take_all}
+use Rattle.std.specs.Prelude.{IsFalse, Bool}
+use Rattle.std.proofs.lemmas.List.Elements.{All-nil}
 use Rattle.std.proofs.lemmas.Result.{err_from_is_err_and}
-use Rattle.dw_base.specs.Spelling.{attribute_bytes}
-use Rattle.dw_base.specs.Spellable.{IsAttribute}
-use Rattle.dw_writer.proofs.Steps.{IsSameWriter-trans}
-use Rattle.dw_abbrev.proofs.Steps.{Adds-none}
-use Rattle.dw_unit.specs.Places.{placement_of, has_place}
-use Rattle.dw_entries.specs.Values.{is_writable, refers_inside}
-use Rattle.dw_unit.specs.Shapes.{read_attribute}
-use Rattle.dw_unit.specs.Coded.{are_values_writable, refer_inside}
-use Rattle.dw_unit.proofs.Writes.{Adds-mapped, All-mapped, passes_more, fails_at, refused_after}
+use Rattle.dw_base.specs.declared.error.Error.{Error}
+use Rattle.dw_writer.proofs.WriteLaws.{Drafts-nothing, Drafts-more}
+use Rattle.dw_entries.specs.Values.{value_fails}
+use Rattle.dw_entries.specs.Values.{IsRanged}
+use Rattle.dw_entries.specs.declared.attribute.Attribute.{Attribute}
+use Rattle.dw_unit.specs.Causes.{Is, Refused}
+use Rattle.dw_unit.specs.Places.{targets_at}
+use Rattle.dw_unit.specs.UnitFaults.{attributes_fail}
+use Rattle.dw_unit.specs.UnitText.{attribute_draft}
+use Rattle.dw_unit.proofs.Faults.{none_more, some_at, All-more, refused_after}
 use Rattle.dw_unit.proofs.body.write_attributes.Goals as goal
 
 pub loop-attribute-init : goal.loop-attribute-init
 loop-attribute-init g c = record {
-  added = Adds-none (g.W.Writer.meaning c.args.w.now);
-  fits = λ k d h. absurd (omega arith);
-  spelled = refl;
-  placed = refl;
+  added = Drafts-nothing (g.W.Writer.meaning c.args.w.now) [];
+  sound = λ e. refl;
+  ranged = All-nil (λ (a : Attribute). IsRanged c.args.encoding a.value);
 }
 
 pub loop-attribute-preserved : goal.loop-attribute-preserved
 loop-attribute-preserved g c =
     let e = c.args.encoding in
-    let p = placement_of c.args.places.now in
+    let u = targets_at c.args.places.now in
     let xs = c.args.attributes.now in
     let i = c.loop-attribute.attribute-index in
     let x = c.attribute-item.result in
     let below : i < length xs = c.loop-attribute-test.true in
-    let added = rw c.get.ensures at c.in_ok-write_value.ensures.ok in
-    let fits = rw c.get.ensures at c.in_ok-write_value.ensures.fits in
-    let spelled = rw c.get.ensures at c.in_ok-write_value.ensures.spelled in
-    let placed = rw c.get.ensures at c.in_ok-write_value.ensures.placed in
+    let fails : Attribute → Error → Bool = λ a. value_fails e u.place (g.W.Writer.meaning c.args.w.now).is_plain a.value in
+    let wrote = rw c.get.ensures at c.in_ok-write_value.ensures.ok in
+    let passed = rw c.get.ensures at c.in_ok-write_value.ensures.sound in
+    let ranged = rw c.get.ensures at c.in_ok-write_value.ensures.ranged in
+    let here : (err : Error) → IsFalse (fails x err) = subst (λ plain. (err : Error) → IsFalse (value_fails e u.place plain x.value err)) c.loop-attribute.invariant.added.text.same.kind passed in
     record {
-      added = Adds-mapped (read_attribute e p) xs i x below c.attribute-item.is (λ big. attribute_bytes big e) c.loop-attribute.invariant.added added;
-      fits = All-mapped (read_attribute e p) xs i x below c.attribute-item.is (IsAttribute e) c.loop-attribute.invariant.fits fits;
-      spelled = passes_more (λ a. is_writable a.value) xs i x below c.attribute-item.is c.loop-attribute.invariant.spelled spelled;
-      placed = passes_more (λ a. refers_inside (has_place p) a.value) xs i x below c.attribute-item.is c.loop-attribute.invariant.placed placed;
+      added = Drafts-more (attribute_draft e u) xs i x below c.attribute-item.is c.loop-attribute.invariant.added wrote;
+      sound = none_more fails xs i x below c.attribute-item.is c.loop-attribute.invariant.sound here;
+      ranged = All-more (λ a. IsRanged c.args.encoding a.value) xs i x below c.attribute-item.is c.loop-attribute.invariant.ranged ranged;
     }
 
 pub returns-in_err-write_value-clause-err : goal.returns-in_err-write_value-clause-err
 returns-in_err-write_value-clause-err g c =
-    let has = has_place (placement_of c.args.places.now) in
+    let e = c.args.encoding in
+    let place = (targets_at c.args.places.now).place in
     let xs = c.args.attributes.now in
     let i = c.loop-attribute.attribute-index in
     let x = c.attribute-item.result in
     let below : i < length xs = c.loop-attribute-test.true in
-    let p = err_from_is_err_and c.from_residual.result c.from_residual.ensures.1 in
+    let plain = (g.W.Writer.meaning c.args.w.now).is_plain in
+    let fails : Attribute → Error → Bool = λ a. value_fails e place plain a.value in
     let refused = rw c.get.ensures at c.in_err-write_value.ensures.err in
+    let here = subst (λ k. Refused (g.W.Writer.meaning c.loop-attribute.w) (g.W.Writer.meaning c.write_value.new.w) (Is (value_fails e place k x.value)) c.in_err-write_value.field-0.0) c.loop-attribute.invariant.added.text.same.kind refused in
+    let p = err_from_is_err_and c.from_residual.result c.from_residual.ensures.1 in
     rw (p.1, p.2)
-    (refused_after (g.W.Writer.meaning c.args.w.now) (g.W.Writer.meaning c.loop-attribute.w) (g.W.Writer.meaning c.write_value.new.w)
-    (is_writable x.value) (are_values_writable xs) (refers_inside has x.value) (refer_inside has xs) c.in_err-write_value.field-0.0 c.loop-attribute.invariant.added.same
-    (fails_at (λ a. is_writable a.value) xs i x below c.attribute-item.is)
-    (fails_at (λ a. refers_inside has a.value) xs i x below c.attribute-item.is)
-    refused)
+    (refused_after (g.W.Writer.meaning c.args.w.now) (g.W.Writer.meaning c.loop-attribute.w) (g.W.Writer.meaning c.write_value.new.w) (Is (fails x)) (Is (attributes_fail e place plain xs))
+    c.loop-attribute.invariant.added.text.same (some_at fails xs i x below c.attribute-item.is) c.in_err-write_value.field-0.0 here)
 
-pub returns-in_err-write_value-clause-same : goal.returns-in_err-write_value-clause-same
-returns-in_err-write_value-clause-same g c = IsSameWriter-trans c.loop-attribute.invariant.added.same c.write_value.ensures.same
+pub returns-clause-sound : goal.returns-clause-sound
+returns-clause-sound g c =
+    let xs = c.args.attributes.now in
+    let i = c.loop-attribute.attribute-index in
+    let all : take i xs ≡ xs = take_all i xs (omega (arith, c.loop-attribute-test.false)) in
+    let fails : List Attribute → Error → Bool = attributes_fail c.args.encoding (targets_at c.args.places.now).place (g.W.Writer.meaning c.args.w.now).is_plain in
+    subst (λ ys. (e : Error) → IsFalse (fails ys e)) all c.loop-attribute.invariant.sound

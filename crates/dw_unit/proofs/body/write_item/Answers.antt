@@ -1,25 +1,39 @@
-use Rattle.std.proofs.Common.{All, length, sym, subst, arith}
-use Rattle.dw_base.specs.Spellable.{IsAttribute}
-use Rattle.dw_writer.proofs.Outcomes.{OnOk-map}
-use Rattle.dw_writer.proofs.Plain.{num-byte}
-use Rattle.dw_unit.specs.Places.{placement_of}
-use Rattle.dw_unit.specs.Shapes.{read_attributes}
+use Rattle.std.proofs.Common.{[], length, sym, subst, arith}
+use Rattle.std.specs.Prelude.{IsFalse, IsTrue}
+use Rattle.dw_writer.proofs.Outcomes.{OnOk-map, IfErr-map}
+use Rattle.dw_entries.specs.Entries.{EntryValue}
 use Rattle.dw_entries.specs.Tree.{IsIn, mark_of}
-use Rattle.dw_unit.specs.Coded.{HasOperands}
 use Rattle.dw_entries.proofs.ChildReads.{indexed}
+use Rattle.dw_unit.specs.Places.{targets_at}
+use Rattle.dw_unit.specs.UnitFaults.{attributes_fail, mark_fails}
+use Rattle.dw_unit.proofs.Drafted.{Drafts-byte}
+use Rattle.dw_unit.proofs.Faults.{because-map}
 use Rattle.dw_unit.proofs.body.write_item.Goals as goal
-
-pub returns-in-Open-clause-fits : goal.returns-in-Open-clause-fits
-returns-in-Open-clause-fits g c =
-    let e = c.args.encoding in
-    let es = c.args.entries.now in
-    let p = placement_of c.args.places.now in
-    let i = c.in-Open.index in
-    let within = subst (λ item. IsIn (length es) (mark_of item)) c.in-Open.is c.requires.within in
-    let is = indexed es i c.index-entries-index.result within c.index-entries-index.is in
-    OnOk-map c.write_entry.result c.write_entry.ensures.fits
-    (λ h. subst (λ item. HasOperands e es p (mark_of item)) (sym c.in-Open.is) (subst (λ x. All (IsAttribute e) (read_attributes e p i x)) is h))
 
 pub returns-in-Null-clause-ok : goal.returns-in-Null-clause-ok
 returns-in-Null-clause-ok g c =
-    let zero = rw (num-byte _ 0 (omega arith)) at c.write_u8.ensures.ok in rw c.in-Null.is zero
+    rw c.in-Null.is (OnOk-map c.write_u8.result c.write_u8.ensures.ok (Drafts-byte [] 0 (omega arith)))
+
+pub returns-in-Open-clause-sound : goal.returns-in-Open-clause-sound
+returns-in-Open-clause-sound g c =
+    let e = c.args.encoding in
+    let es = c.args.entries.now in
+    let place = (targets_at c.args.places.now).place in
+    let plain = (g.W.Writer.meaning c.args.w.now).is_plain in
+    let i = c.in-Open.index in
+    let within = subst (λ item. IsIn (length es) (mark_of item)) c.in-Open.is c.requires.within in
+    let is = indexed es i c.index-entries-index.result within c.index-entries-index.is in
+    OnOk-map c.write_entry.result c.write_entry.ensures.sound
+    (λ h err. subst (λ item. IsFalse (mark_fails e es place plain (mark_of item) err)) (sym c.in-Open.is) (subst (λ (x : EntryValue). IsFalse (attributes_fail e place plain x.attributes err)) is (h err)))
+
+pub returns-in-Open-clause-err : goal.returns-in-Open-clause-err
+returns-in-Open-clause-err g c =
+    let e = c.args.encoding in
+    let es = c.args.entries.now in
+    let place = (targets_at c.args.places.now).place in
+    let plain = (g.W.Writer.meaning c.args.w.now).is_plain in
+    let i = c.in-Open.index in
+    let within = subst (λ item. IsIn (length es) (mark_of item)) c.in-Open.is c.requires.within in
+    let is = indexed es i c.index-entries-index.result within c.index-entries-index.is in
+    IfErr-map c.write_entry.result c.write_entry.ensures.err
+    (because-map (λ h. h) (λ err h. subst (λ item. IsTrue (mark_fails e es place plain (mark_of item) err)) (sym c.in-Open.is) (subst (λ (x : EntryValue). IsTrue (attributes_fail e place plain x.attributes err)) is h)))

@@ -1,16 +1,18 @@
-use Rattle.std.specs.Prelude.{[], IsTrue, map, take}
-use Rattle.std.specs.List.{flat_map}
-use Rattle.dw_base.specs.Spelling.{mark_bytes}
-use Rattle.dw_writer.specs.Meaning.{Adds}
-use Rattle.dw_unit.specs.Places.{placement_of, has_place}
+use Rattle.std.proofs.Common.{take}
+use Rattle.std.specs.Prelude.{[], IsFalse}
+use Rattle.dw_base.specs.declared.error.Error.{Error}
+use Rattle.dw_writer.specs.Drafts.{Drafts}
 use Rattle.dw_entries.specs.Tree.{marks}
-use Rattle.dw_unit.specs.Coded.{shapes_of, coded_mark, are_writable, are_placed, HaveOperands}
+use Rattle.dw_unit.specs.Coded.{shapes_of}
+use Rattle.dw_unit.specs.Pending.{AreMarksRanged}
+use Rattle.dw_unit.specs.Places.{targets_at}
+use Rattle.dw_unit.specs.UnitFaults.{marks_fail}
+use Rattle.dw_unit.specs.UnitText.{marks_draft}
 use Rattle.dw_unit.proofs.body.write_items.Given as goal
 
 abbrev pub invariant-loop-k : goal.invariant-loop-k
 invariant-loop-k g l = record {
-  added : Adds (g.W.Writer.meaning l.initial.w) (g.W.Writer.meaning l.w) (flat_map (mark_bytes (g.W.Writer.meaning l.initial.w).is_big l.encoding) (map (coded_mark l.encoding l.entries (placement_of l.places) (shapes_of l.encoding l.entries [] (marks l.items))) (take l.k (marks l.items))));
-  fits : HaveOperands l.encoding l.entries (placement_of l.places) (take l.k (marks l.items));
-  spelled : IsTrue (are_writable l.entries (take l.k (marks l.items)));
-  placed : IsTrue (are_placed (has_place (placement_of l.places)) l.entries (take l.k (marks l.items)));
+  added : Drafts (g.W.Writer.meaning l.initial.w) (g.W.Writer.meaning l.w) [] [] (marks_draft l.encoding l.entries (targets_at l.places) (shapes_of l.encoding l.entries [] (marks l.items)) (take l.k (marks l.items)));
+  sound : (e : Error) → IsFalse (marks_fail l.encoding l.entries (targets_at l.places).place (g.W.Writer.meaning l.initial.w).is_plain (take l.k (marks l.items)) e);
+  ranged : AreMarksRanged l.encoding l.entries (take l.k (marks l.items));
 }

@@ -1,46 +1,27 @@
-use Rattle.std.proofs.Common.{◌≡◌, ◌∙◌, sym, ap, subst, ℕ, Bool, true, false, [], ◌∷◌, append-nil}
-use Rattle.std.specs.Prelude.{All, IsTrue, if◌then◌else◌}
-use Rattle.std.specs.List.{flat_map}
-use Rattle.std.proofs.lemmas.List.Elements.{All-nil, All-cons}
-use Rattle.dw_base.specs.Numbers.{num, fits, word_of}
-use Rattle.dw_base.specs.Spelling.{attribute_bytes}
-use Rattle.dw_base.specs.Spellable.{IsAttribute}
+use Rattle.std.proofs.Common.{◌≡◌, ◌∙◌, sym, ap, ℕ, [], Bool, true, false}
+use Rattle.std.specs.Prelude.{if◌then◌else◌}
+use Rattle.dw_base.specs.Numbers.{word_of}
 use Rattle.dw_base.specs.declared.common.Encoding.{Encoding}
-use Rattle.dw_writer.specs.Meaning.{Adds}
-use Rattle.dw_abbrev.proofs.Steps.{Adds-none}
+use Rattle.dw_writer.specs.Drafts.{no_draft, whole}
+use Rattle.dw_writer.proofs.WriteLaws.{Drafts-is, Drafts-nothing}
 use Rattle.dw_entries.specs.Entries.{EntryValue, has_sibling}
-use Rattle.dw_unit.specs.Shapes.{before_attributes, read_sibling}
-use Rattle.dw_unit.proofs.Forms.{reference-bytes, reference-fits}
+use Rattle.dw_unit.specs.UnitText.{fitting_text, sibling_draft}
+use Rattle.dw_unit.proofs.Drafted.{Drafts-fitting, width-word}
 use Rattle.dw_unit.proofs.body.write_sibling.Goals as goal
 
-module _ (e : Encoding) (x : EntryValue) (past : ℕ) where
-  -- what stands first, by whether the entry names the place past it
-  before : (b : Bool) → has_sibling x ≡ b → before_attributes x (read_sibling e past) ≡ (if b then read_sibling e past ∷ [] else [])
-  before b h = ap (λ t. if t then read_sibling e past ∷ [] else []) h
-
-  past-bytes : (big : Bool) → has_sibling x ≡ true → flat_map (attribute_bytes big e) (before_attributes x (read_sibling e past)) ≡ num big (word_of e.format) past
-  past-bytes big h =
-      ap (flat_map (attribute_bytes big e)) (before true h)
-      ∙ append-nil (attribute_bytes big e (read_sibling e past))
-      ∙ reference-bytes big e past
-
-  past-fits : IsTrue (fits (word_of e.format) past) → (b : Bool) → has_sibling x ≡ b → All (IsAttribute e) (before_attributes x (read_sibling e past))
-  past-fits h true is = subst (All (IsAttribute e)) (sym (before true is)) (All-cons (IsAttribute e) (read_sibling e past) [] (reference-fits e past h) (All-nil (IsAttribute e)))
-  past-fits h false is = subst (All (IsAttribute e)) (sym (before false is)) (All-nil (IsAttribute e))
+-- what stands first, by whether the entry names the place past it
+sibling_by : (e : Encoding) (past : ℕ) (x : EntryValue) (b : Bool) → has_sibling x ≡ b → (if b then whole (word_of e.format) (fitting_text (word_of e.format) past) else no_draft) ≡ sibling_draft e past x
+sibling_by e past x b h = ap (λ (t : Bool). if t then whole (word_of e.format) (fitting_text (word_of e.format) past) else no_draft) (sym h)
 
 pub returns-in_ok-write_udata-clause-ok : goal.returns-in_ok-write_udata-clause-ok
 returns-in_ok-write_udata-clause-ok g c =
-    let old = g.W.Writer.meaning c.args.w.now in
-    let new = g.W.Writer.meaning c.write_udata.new.self in
+    let e = c.args.encoding in
+    let w = word_of e.format in
     let wrote = rw c.word_size.ensures at c.in_ok-write_udata.ensures.ok in
-    subst (λ l. Adds old new l) (sym (past-bytes c.args.encoding c.args.entry.now c.args.past old.is_big (sym c.has_sibling.ensures ∙ c.if-has_sibling.true))) wrote
-
-pub returns-in_ok-write_udata-clause-fits : goal.returns-in_ok-write_udata-clause-fits
-returns-in_ok-write_udata-clause-fits g c =
-    past-fits c.args.encoding c.args.entry.now c.args.past c.requires true (sym c.has_sibling.ensures ∙ c.if-has_sibling.true)
+    Drafts-is (Drafts-fitting [] w c.args.past (width-word e.format) c.requires wrote)
+    (sibling_by e c.args.past c.args.entry.now true (sym c.has_sibling.ensures ∙ c.if-has_sibling.true))
 
 pub returns-else-has_sibling-clause-ok : goal.returns-else-has_sibling-clause-ok
 returns-else-has_sibling-clause-ok g c =
-    let at = g.W.Writer.meaning c.args.w.now in
-    let none = before c.args.encoding c.args.entry.now c.args.past false (sym c.has_sibling.ensures ∙ c.if-has_sibling.false) in
-    subst (λ l. Adds at at (flat_map (attribute_bytes at.is_big c.args.encoding) l)) (sym none) (Adds-none at)
+    Drafts-is (Drafts-nothing (g.W.Writer.meaning c.args.w.now) [])
+    (sibling_by c.args.encoding c.args.past c.args.entry.now false (sym c.has_sibling.ensures ∙ c.if-has_sibling.false))

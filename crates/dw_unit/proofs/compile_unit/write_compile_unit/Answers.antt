@@ -1,13 +1,17 @@
-use Rattle.std.proofs.Common.{◌∙◌, sym, ap, subst, arith}
+use Rattle.std.proofs.Common.{ℕ, subst, arith}
 use Rattle.std.proofs.lemmas.Result.{err_from_is_err_and}
 use Rattle.dw_writer.proofs.Outcomes.{OnOk-map, IfErr-map}
+use Rattle.dw_writer.proofs.Steps.{IsSameWriter-trans}
 use Rattle.dw_entries.specs.Tree.{marks}
-use Rattle.dw_unit.specs.Coded.{are_writable, HaveOperands}
-use Rattle.dw_unit.specs.Places.{placement_of}
-use Rattle.dw_unit.specs.Whole.{tree_placement}
-use Rattle.dw_unit.proofs.SamePlaces.{operands-same}
+use Rattle.dw_unit.specs.Causes.{Is}
+use Rattle.dw_unit.specs.Pending.{AreMarksRanged}
+use Rattle.dw_unit.specs.Places.{targets_at}
+use Rattle.dw_unit.specs.UnitFaults.{fields_fail, header_fails, marks_fail, unit_fails}
+use Rattle.dw_unit.specs.UnitText.{tree_draft, unit_length}
+use Rattle.dw_unit.proofs.Faults.{OnOk-both, refused_after}
 use Rattle.dw_unit.proofs.PlaceSteps.{found_codes}
-use Rattle.dw_unit.proofs.UnitSteps.{tree_added, unit_small, references_are, unit_added, unit_length_is, tree_length_is, place_within, length_refused, body_refused}
+use Rattle.dw_unit.proofs.TreeSteps.{tree_drafted, in_header, in_marks, unit_sound}
+use Rattle.dw_unit.proofs.UnitSteps.{unit_drafted, unit_length_is, place_within, length_refused, in_fields}
 use Rattle.dw_unit.proofs.compile_unit.write_compile_unit.Goals as goal
 
 pub write_items-requires-clause-codes : goal.write_items-requires-clause-codes
@@ -17,73 +21,84 @@ write_items-requires-clause-codes g c =
 pub returns-clause-ok : goal.returns-clause-ok
 returns-clause-ok g c =
     let e = c.args.encoding in
-    let es = c.args.entries.now in
-    let p = placement_of c.args.places.now in
-    let start = c.in_ok-place.ensures.ok in
+    let u = targets_at c.args.places.now in
     let fields = c.in_ok-write_fields.ensures.ok in
-    let body = c.in_ok-write_items.ensures.ok in
-    let small = unit_small e es p (marks c.args.items.now) _ c.args.table c.len.result c.requires.tree start fields body c.len.ensures (omega arith) in
-    let entries = tree_added (g.W.Writer.meaning c.args.w.now).is_big e es p (marks c.args.items.now) c.requires.tree (fields.same.order ∙ start.same.order) (c.requires.places small) body in
-    let long = unit_length_is e c.args.table c.len.result c.len-start.result _ fields entries c.len.ensures c.len-start.ensures in
+    let body = tree_drafted e c.args.entries.now u (marks c.args.items.now) c.requires.tree c.in_ok-write_items.ensures.ok in
+    let long = unit_length_is e c.args.table c.len.result c.len-start.result fields body c.len.ensures c.len-start.ensures in
     let patch = rw (c.in_ok-place.ensures.place, long) at c.write_initial_length_at.ensures.ok in
-    OnOk-map c.write_initial_length_at.result patch (λ last. unit_added e c.args.table _ start fields entries last)
+    let fits = rw long at c.write_initial_length_at.ensures.fits in
+    OnOk-both c.write_initial_length_at.result fits patch (λ fit last. unit_drafted e c.args.table c.in_ok-place.ensures.ok fields body fit last)
 
 pub returns-clause-fits : goal.returns-clause-fits
 returns-clause-fits g c =
     let e = c.args.encoding in
-    let es = c.args.entries.now in
-    let p = placement_of c.args.places.now in
-    let start = c.in_ok-place.ensures.ok in
+    let u = targets_at c.args.places.now in
     let fields = c.in_ok-write_fields.ensures.ok in
-    let body = c.in_ok-write_items.ensures.ok in
-    let small = unit_small e es p (marks c.args.items.now) _ c.args.table c.len.result c.requires.tree start fields body c.len.ensures (omega arith) in
-    let entries = tree_added (g.W.Writer.meaning c.args.w.now).is_big e es p (marks c.args.items.now) c.requires.tree (fields.same.order ∙ start.same.order) (c.requires.places small) body in
-    let long = unit_length_is e c.args.table c.len.result c.len-start.result _ fields entries c.len.ensures c.len-start.ensures in
-    rw (long ∙ tree_length_is (g.W.Writer.meaning c.args.w.now).is_big e es) at c.write_initial_length_at.ensures.fits
+    let body = tree_drafted e c.args.entries.now u (marks c.args.items.now) c.requires.tree c.in_ok-write_items.ensures.ok in
+    let long = unit_length_is e c.args.table c.len.result c.len-start.result fields body c.len.ensures c.len-start.ensures in
+    rw long at c.write_initial_length_at.ensures.fits
 
-pub returns-clause-operands : goal.returns-clause-operands
-returns-clause-operands g c =
+pub returns-clause-ranged : goal.returns-clause-ranged
+returns-clause-ranged g c =
+    let ranged = subst (AreMarksRanged c.args.encoding c.args.entries.now) c.requires.tree c.in_ok-write_items.ensures.ranged in
+    OnOk-map c.write_initial_length_at.result c.write_initial_length_at.ensures.ok (λ last. ranged)
+
+pub returns-clause-sound : goal.returns-clause-sound
+returns-clause-sound g c =
     let e = c.args.encoding in
     let es = c.args.entries.now in
-    let p = placement_of c.args.places.now in
-    let start = c.in_ok-place.ensures.ok in
-    let fields = c.in_ok-write_fields.ensures.ok in
-    let body = c.in_ok-write_items.ensures.ok in
-    let small = unit_small e es p (marks c.args.items.now) _ c.args.table c.len.result c.requires.tree start fields body c.len.ensures (omega arith) in
-    let operands = subst (HaveOperands e es p) c.requires.tree c.in_ok-write_items.ensures.fits in
-    let there = operands-same e p (tree_placement e es) (c.requires.places small) es _ operands in
-    OnOk-map c.write_initial_length_at.result c.write_initial_length_at.ensures.ok (λ last. there)
+    let u = targets_at c.args.places.now in
+    let plain = (g.W.Writer.meaning c.args.w.now).is_plain in
+    let body = tree_drafted e es u (marks c.args.items.now) c.requires.tree c.in_ok-write_items.ensures.ok in
+    let long = unit_length_is e c.args.table c.len.result c.len-start.result c.in_ok-write_fields.ensures.ok body c.len.ensures c.len-start.ensures in
+    let fields = rw (c.in_ok-place.ensures.same.kind) at c.in_ok-write_fields.ensures.sound in
+    let marks_sound = rw (c.in_ok-write_fields.ensures.same.kind, c.in_ok-place.ensures.same.kind) at c.in_ok-write_items.ensures.sound in
+    let fits = rw long at c.write_initial_length_at.ensures.fits in
+    OnOk-map c.write_initial_length_at.result fits (λ fit. unit_sound e es c.args.table u plain (marks c.args.items.now) c.requires.tree fields fit marks_sound)
 
-pub returns-clause-references : goal.returns-clause-references
-returns-clause-references g c =
-    let inside = references_are c.args.entries.now (placement_of c.args.places.now) (marks c.args.items.now) c.requires.tree c.requires.inside in
-    let placed = c.in_ok-write_items.ensures.placed in
-    OnOk-map c.write_initial_length_at.result c.write_initial_length_at.ensures.ok (λ last. sym inside ∙ placed)
+pub returns-in_err-write_fields-clause-err : goal.returns-in_err-write_fields-clause-err
+returns-in_err-write_fields-clause-err g c =
+    let e = c.args.encoding in
+    let es = c.args.entries.now in
+    let u = targets_at c.args.places.now in
+    let m = g.W.Writer.meaning c.args.w.now in
+    let long = unit_length e (tree_draft e es u).size in
+    let here = rw (c.in_ok-place.ensures.same.kind) at c.in_err-write_fields.ensures.err in
+    let p = err_from_is_err_and c.from_residual-in_err-write_fields.result c.from_residual-in_err-write_fields.ensures.1 in
+    rw (p.1, p.2)
+    (refused_after m (g.W.Writer.meaning c.write_initial_length.new.self) (g.W.Writer.meaning c.write_fields.new.w) (Is (fields_fail e c.args.table m.is_plain)) (Is (unit_fails e es c.args.table u m.is_plain))
+    c.in_ok-place.ensures.same (λ err h. in_header e es c.args.table u m.is_plain err (in_fields e c.args.table m.is_plain long err h)) c.in_err-write_fields.field-0.0 here)
 
 pub returns-in_err-write_items-clause-err : goal.returns-in_err-write_items-clause-err
 returns-in_err-write_items-clause-err g c =
+    let e = c.args.encoding in
     let es = c.args.entries.now in
-    let start = c.in_ok-place.ensures.ok in
-    let fields = c.in_ok-write_fields.ensures.ok in
-    let inside = references_are es (placement_of c.args.places.now) (marks c.args.items.now) c.requires.tree c.requires.inside in
-    let failed = err_from_is_err_and c.from_residual-in_err-write_items.result c.from_residual-in_err-write_items.ensures.1 in
-    let refused = rw (inside, ap (are_writable es) c.requires.tree) at c.in_err-write_items.ensures.err in
-    rw (failed.1, failed.2)
-    (body_refused (g.W.Writer.meaning c.args.w.now) (g.W.Writer.meaning c.write_fields.new.w) (g.W.Writer.meaning c.write_items.new.w) c.args.encoding es c.args.table c.in_err-write_items.field-0.0 refused (omega (arith, start.same.faults, fields.same.faults)))
+    let u = targets_at c.args.places.now in
+    let m = g.W.Writer.meaning c.args.w.now in
+    let ms = marks c.args.items.now in
+    let here = rw (c.in_ok-write_fields.ensures.same.kind, c.in_ok-place.ensures.same.kind) at c.in_err-write_items.ensures.err in
+    let same = IsSameWriter-trans c.in_ok-place.ensures.same c.in_ok-write_fields.ensures.same in
+    let p = err_from_is_err_and c.from_residual-in_err-write_items.result c.from_residual-in_err-write_items.ensures.1 in
+    rw (p.1, p.2)
+    (refused_after m (g.W.Writer.meaning c.write_fields.new.w) (g.W.Writer.meaning c.write_items.new.w) (Is (marks_fail e es u.place m.is_plain ms)) (Is (unit_fails e es c.args.table u m.is_plain))
+    same (in_marks e es c.args.table u m.is_plain ms c.requires.tree) c.in_err-write_items.field-0.0 here)
 
 pub returns-clause-err : goal.returns-clause-err
 returns-clause-err g c =
     let e = c.args.encoding in
     let es = c.args.entries.now in
-    let p = placement_of c.args.places.now in
+    let u = targets_at c.args.places.now in
+    let m = g.W.Writer.meaning c.args.w.now in
+    let long : ℕ = unit_length e (tree_draft e es u).size in
     let start = c.in_ok-place.ensures.ok in
     let fields = c.in_ok-write_fields.ensures.ok in
-    let body = c.in_ok-write_items.ensures.ok in
-    let small = unit_small e es p (marks c.args.items.now) _ c.args.table c.len.result c.requires.tree start fields body c.len.ensures (omega arith) in
-    let entries = tree_added (g.W.Writer.meaning c.args.w.now).is_big e es p (marks c.args.items.now) c.requires.tree (fields.same.order ∙ start.same.order) (c.requires.places small) body in
-    let long = unit_length_is e c.args.table c.len.result c.len-start.result _ fields entries c.len.ensures c.len-start.ensures in
-    IfErr-map c.write_initial_length_at.result c.write_initial_length_at.ensures.err
-    (λ error h. length_refused (g.W.Writer.meaning c.args.w.now) (g.W.Writer.meaning c.write_items.new.w) (g.W.Writer.meaning c.write_initial_length_at.new.self)
-    e es c.args.table _ _ _ error (omega arith) h (long ∙ tree_length_is (g.W.Writer.meaning c.args.w.now).is_big e es)
-    (omega (arith, place_within e c.in_ok-place.place start c.in_ok-place.ensures.place, fields.size, entries.size))
-    (omega (arith, start.same.faults, fields.same.faults, entries.same.faults)))
+    let body = tree_drafted e es u (marks c.args.items.now) c.requires.tree c.in_ok-write_items.ensures.ok in
+    let is = unit_length_is e c.args.table c.len.result c.len-start.result fields body c.len.ensures c.len-start.ensures in
+    let refused = rw is at c.write_initial_length_at.ensures.err in
+    let inside = place_within e c.in_ok-place.place start c.in_ok-place.ensures.place in
+    let same = IsSameWriter-trans c.in_ok-place.ensures.same (IsSameWriter-trans c.in_ok-write_fields.ensures.same c.in_ok-write_items.ensures.same) in
+    let mid = g.W.Writer.meaning c.write_items.new.w in
+    let new = g.W.Writer.meaning c.write_initial_length_at.new.self in
+    IfErr-map c.write_initial_length_at.result refused
+    (λ err h. refused_after m mid new (Is (header_fails e c.args.table m.is_plain long)) (Is (unit_fails e es c.args.table u m.is_plain)) same (in_header e es c.args.table u m.is_plain) err
+    (length_refused mid new e c.args.table m.is_plain long c.in_ok-place.place (omega (arith, inside, fields.size, body.text.size)) err h))

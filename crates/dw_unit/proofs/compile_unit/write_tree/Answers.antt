@@ -1,15 +1,21 @@
-use Rattle.std.proofs.Common.{◌∙◌, sym, ap, subst, length}
+use Rattle.std.proofs.Common.{◌∙◌, sym, ap, subst, length, refl, arith}
 use Rattle.std.proofs.lemmas.List.{length-map}
 use Rattle.std.proofs.lemmas.Result.{err_from_is_err_and}
-use Rattle.dw_writer.specs.Causes.{HasRisen}
+use Rattle.std.specs.Prelude.{IsFalse}
+use Rattle.dw_base.specs.declared.error.Error.{Error}
 use Rattle.dw_writer.specs.Sections.{SomeHasRisen}
 use Rattle.dw_writer.proofs.FaultLaws.{SomeHasRisen-abbrev, SomeHasRisen-info}
 use Rattle.dw_writer.proofs.Outcomes.{IfErr-map}
 use Rattle.dw_entries.specs.Tree.{marks, mark_of, AreTagged}
-use Rattle.dw_unit.specs.Places.{placement_of}
 use Rattle.dw_entries.proofs.Tagged.{preorder_tagged}
-use Rattle.dw_unit.proofs.UnitSteps.{OnOk-four, bytes_refused, refused_within, table_added, place_plain, tree_is_unit}
-use Rattle.dw_unit.proofs.PlaceSteps.{tree_distinct, tree_closes, tree_codes, tree_placed, tree_inside, places_fit, length_refused_early}
+use Rattle.dw_unit.specs.Causes.{Is, TreeFails}
+use Rattle.dw_unit.specs.Pending.{Kept, starts_of}
+use Rattle.dw_unit.specs.Places.{placement_of, targets_of}
+use Rattle.dw_unit.specs.UnitFaults.{unit_fails}
+use Rattle.dw_unit.proofs.Faults.{because-map, bytes_because, OnOk-both}
+use Rattle.dw_unit.proofs.PlaceSteps.{tree_distinct, tree_closes, tree_codes, tree_end, tree_placed, tree_no_room, places_fit, too_long}
+use Rattle.dw_unit.proofs.TextsThere.{unit_there}
+use Rattle.dw_unit.proofs.TreeWritten.{table_added, table_declared, tree_is_one, tree_few, tree_writable, faulty, too_long_faulty, room_refused, OnOk-four}
 use Rattle.dw_unit.proofs.compile_unit.write_tree.Goals as goal
 
 pub assign_codes-requires-clause-tagged : goal.assign_codes-requires-clause-tagged
@@ -34,20 +40,35 @@ pub write_compile_unit-requires-clause-fit : goal.write_compile_unit-requires-cl
 write_compile_unit-requires-clause-fit g c =
     places_fit c.args.encoding.format (placement_of c.in_ok-places.places) c.in_ok-places.places.end c.in_ok-check_length.ensures.ok c.in_ok-places.ensures.bounded
 
-pub write_compile_unit-requires-clause-inside : goal.write_compile_unit-requires-clause-inside
-write_compile_unit-requires-clause-inside g c =
-    tree_inside c.args.entries.now (placement_of c.in_ok-places.places) _ (ap marks c.as_slice-items.ensures.value ∙ c.in_ok-tree.ensures.items) c.in_ok-places.ensures.inside
-
-pub write_compile_unit-requires-clause-places : goal.write_compile_unit-requires-clause-places
-write_compile_unit-requires-clause-places g c =
-    tree_placed c.args.encoding c.args.entries.now (placement_of c.in_ok-places.places) _ (ap marks c.as_slice-items.ensures.value ∙ c.in_ok-tree.ensures.items) c.in_ok-places.ensures.places
+pub returns-in_err-places-clause-err : goal.returns-in_err-places-clause-err
+returns-in_err-places-clause-err g c =
+    let e = c.args.encoding in
+    let es = c.args.entries.now in
+    let meaning = g.W.Writer.meaning in
+    let old = c.args.sections.now in
+    let ms = marks c.as_slice-items.result.now in
+    let tree = ap marks c.as_slice-items.ensures.value ∙ c.in_ok-tree.ensures.items in
+    let failed = err_from_is_err_and c.from_residual-in_err-places.result c.from_residual-in_err-places.ensures.1 in
+    rw (failed.1, failed.2)
+    (room_refused (SomeHasRisen meaning old old) e es (meaning old.debug_abbrev.0).size (meaning old.debug_info.0).is_plain _ (tree_no_room e es ms tree) c.in_err-places.field-0.0 c.in_err-places.ensures.err)
 
 pub returns-in_err-check_length-clause-err : goal.returns-in_err-check_length-clause-err
 returns-in_err-check_length-clause-err g c =
+    let e = c.args.encoding in
+    let es = c.args.entries.now in
+    let meaning = g.W.Writer.meaning in
+    let old = c.args.sections.now in
+    let p = placement_of c.in_ok-places.places in
+    let ms = marks c.as_slice-items.result.now in
     let tree = ap marks c.as_slice-items.ensures.value ∙ c.in_ok-tree.ensures.items in
+    let placed = tree_placed e es p ms tree c.in_ok-places.ensures.placed in
+    let end = tree_end e es ms p.place c.in_ok-places.places.end tree c.in_ok-places.ensures.end in
+    let table = (meaning old.debug_abbrev.0).size in
+    let plain = (meaning old.debug_info.0).is_plain in
+    let h = c.in_err-check_length.ensures.err in
+    let fails = too_long_faulty e es p placed table plain (too_long e es p.place c.in_ok-places.places.end end h.1 h.2) in
     let failed = err_from_is_err_and c.from_residual-in_err-check_length.result c.from_residual-in_err-check_length.ensures.1 in
-    rw (failed.1, failed.2)
-    (length_refused_early (SomeHasRisen g.W.Writer.meaning c.args.sections.now c.args.sections.now) (g.W.Writer.meaning c.args.sections.now.debug_info.0).is_plain (g.W.Writer.meaning c.args.sections.now.debug_abbrev.0).size c.args.encoding c.args.entries.now (marks c.as_slice-items.result.now) c.in_ok-places.places.end c.in_err-check_length.field-0.0 tree c.in_ok-places.ensures.end c.in_err-check_length.ensures.err)
+    rw (failed.1, failed.2, h.0) fails
 
 pub returns-in_err-write-clause-err : goal.returns-in_err-write-clause-err
 returns-in_err-write-clause-err g c =
@@ -56,31 +77,72 @@ returns-in_err-write-clause-err g c =
     let old = c.args.sections.now in
     let new = record old { debug_abbrev = c.write.new.w } in
     rw (failed.1, failed.2)
-    (bytes_refused (meaning old.debug_abbrev.0) (meaning new.debug_abbrev.0) (SomeHasRisen meaning old new) (meaning old.debug_info.0).is_plain (meaning old.debug_abbrev.0).size
-    c.args.encoding c.args.entries.now (SomeHasRisen-abbrev meaning old new) c.in_err-write.field-0.0 c.in_err-write.ensures.err)
+    (bytes_because (TreeFails c.args.encoding c.args.entries.now (meaning old.debug_abbrev.0).size (meaning old.debug_info.0).is_plain) (meaning old.debug_abbrev.0) (meaning new.debug_abbrev.0) (SomeHasRisen-abbrev meaning old new) c.in_err-write.field-0.0 c.in_err-write.ensures.err)
 
 pub returns-clause-err : goal.returns-clause-err
 returns-clause-err g c =
+    let e = c.args.encoding in
+    let es = c.args.entries.now in
     let err = rw c.len-place.ensures at c.write_compile_unit.ensures.err in
     let meaning = g.W.Writer.meaning in
     let old = c.args.sections.now in
     let new = record old { debug_abbrev = c.write.new.w; debug_info = record { 0 = c.write_compile_unit.new.w } } in
+    let p = placement_of c.in_ok-places.places in
+    let tree = ap marks c.as_slice-items.ensures.value ∙ c.in_ok-tree.ensures.items in
+    let placed = tree_placed e es p (marks c.as_slice-items.result.now) tree c.in_ok-places.ensures.placed in
+    let table = (meaning old.debug_abbrev.0).size in
+    let plain = (meaning old.debug_info.0).is_plain in
     IfErr-map c.write_compile_unit.result err
-    (refused_within (HasRisen (meaning old.debug_info.0) (meaning new.debug_info.0)) (SomeHasRisen meaning old new) (meaning old.debug_info.0).is_plain
-    (meaning old.debug_abbrev.0).size c.args.encoding c.args.entries.now (SomeHasRisen-info meaning old new))
+    (because-map {p = Is (unit_fails e es table (targets_of p) plain)} {q = TreeFails e es table plain} (SomeHasRisen-info meaning old new) (faulty e es p placed table plain))
+
+pub returns-clause-writable : goal.returns-clause-writable
+returns-clause-writable g c =
+    let e = c.args.encoding in
+    let es = c.args.entries.now in
+    let meaning = g.W.Writer.meaning in
+    let old = c.args.sections.now in
+    let p = placement_of c.in_ok-places.places in
+    let ms = marks c.as_slice-items.result.now in
+    let tree = ap marks c.as_slice-items.ensures.value ∙ c.in_ok-tree.ensures.items in
+    let placed = tree_placed e es p ms tree c.in_ok-places.ensures.placed in
+    let end = tree_end e es ms p.place c.in_ok-places.places.end tree c.in_ok-places.ensures.end in
+    let sound = rw c.len-place.ensures at c.write_compile_unit.ensures.sound in
+    OnOk-both c.write_compile_unit.result c.write_compile_unit.ensures.fits sound
+    (λ fits h. tree_writable e es p placed (meaning old.debug_abbrev.0).size (meaning old.debug_info.0).is_plain c.requires.encodable c.in_ok-places.places.end end (omega arith) fits h)
 
 pub returns-clause-unit : goal.returns-clause-unit
 returns-clause-unit g c =
     let e = c.args.encoding in
     let es = c.args.entries.now in
+    let meaning = g.W.Writer.meaning in
+    let old = c.args.sections.now in
     let items = c.as_slice-items.result.now in
+    let ms = marks items in
+    let shapes = c.in_ok-assigned.assigned.table in
+    let p = placement_of c.in_ok-places.places in
     let tree = ap marks c.as_slice-items.ensures.value ∙ c.in_ok-tree.ensures.items in
+    let placed = tree_placed e es p ms tree c.in_ok-places.ensures.placed in
     let ok = rw c.len-place.ensures at c.write_compile_unit.ensures.ok in
-    let place = rw c.len-place.ensures at c.write_compile_unit.ensures.place in
+    let kept : Kept = record { starts = starts_of meaning old; places = p } in
+    let table = (meaning old.debug_abbrev.0).size in
+    let passed = rw c.len-place.ensures at c.write_compile_unit.ensures.sound in
+    let fit = places_fit e.format p c.in_ok-places.places.end c.in_ok-check_length.ensures.ok c.in_ok-places.ensures.bounded in
     OnOk-four c.write_compile_unit.result
-    (λ info fits_place fits operands. record {
-      info = info;
-      table = table_added e es (marks items) c.in_ok-assigned.assigned.table tree c.in_ok-assigned.ensures.table c.in_ok-write.ensures.ok;
-      spelled = λ plain. tree_is_unit _ e _ es (marks items) c.in_ok-assigned.assigned.table (length items) c.requires.linked c.requires.rooted tree c.in_ok-assigned.ensures.table (sym (length-map items mark_of)) c.as_slice-items.type_inv.0 c.requires.encodable (place_plain _ _ _ plain fits_place) fits c.in_ok-write.ensures.spelled operands;
+    (λ unit fits ranged sound. record {
+      kept = kept;
+      stands = record {
+        starts = refl;
+        placed = placed;
+        draft = unit.is;
+        encodable = c.requires.encodable;
+        fits = fits;
+        ranged = ranged;
+        declared = table_declared e es ms shapes tree c.in_ok-assigned.ensures.table c.in_ok-write.ensures.spelled;
+        few = tree_few es ms (length items) tree (sym (length-map items mark_of)) c.as_slice-items.type_inv.0;
+        tree = tree_is_one es c.requires.rooted;
+      };
+      unit = unit;
+      table = table_added e es ms shapes tree c.in_ok-assigned.ensures.table c.in_ok-write.ensures.ok;
+      there = λ plain. unit_there e es table p fit c.requires.encodable (subst (λ b. (err : Error) → IsFalse (unit_fails e es table (targets_of p) b err)) plain sound);
     })
-    ok place c.write_compile_unit.ensures.fits c.write_compile_unit.ensures.operands
+    ok c.write_compile_unit.ensures.fits c.write_compile_unit.ensures.ranged passed

@@ -1,10 +1,8 @@
-use Rattle.std.proofs.Common.{◌≡◌, ◌+◌, ◌<◌, ◌^◌, drop}
+use Rattle.std.proofs.Common.{◌≡◌, ◌+◌, ℕ, drop}
+use Rattle.std.specs.Prelude.{Option}
 use Rattle.dw_unit.specs.Laid.{values_size}
-use Rattle.dw_entries.specs.Values.{capped}
 use Rattle.dw_unit.proofs.layout.values_size.Given as goal
 
 abbrev pub invariant-loop-attribute : goal.invariant-loop-attribute
-invariant-loop-attribute l = record {
-  counted : capped (l.size + values_size l.encoding (drop l.attribute-index l.attributes)) ≡ capped (values_size l.encoding l.attributes);
-  fits : l.size < 2 ^ 64;
-}
+invariant-loop-attribute l =
+    (place : ℕ → Option ℕ) → l.size + values_size l.encoding place (drop l.attribute-index l.attributes) ≡ values_size l.encoding place l.attributes

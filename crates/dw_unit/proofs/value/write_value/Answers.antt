@@ -1,48 +1,87 @@
-use Rattle.std.proofs.Common.{◌<◌, ◌^◌, sym, subst, arith}
-use Rattle.std.proofs.lemmas.Bool.{lt-ltb}
-use Rattle.dw_base.specs.Spellable.{IsText}
+use mir.Syntax.{w64}
+use Rattle.std.proofs.Common.{◌∙◌, sym, ap, [], arith}
+use Rattle.std.proofs.lemmas.Int.{to_z-of_z}
+use Rattle.dw_base.specs.Numbers.{word_of}
+use Rattle.dw_base.specs.declared.error.Error.TheVariants as errors
 use Rattle.dw_writer.proofs.Outcomes.{OnOk-map}
-use Rattle.dw_unit.specs.Places.{placement_of}
-use Rattle.dw_unit.proofs.Forms.{IsValue, data1-bytes, udata-bytes, string-bytes, unit_ref-bytes, data1-fits, udata-fits, string-fits, unit_ref-fits}
+use Rattle.dw_writer.proofs.WriteLaws.{Drafts-is, Drafts-whole, Drafts-nothing}
+use Rattle.dw_entries.specs.ContentView.{content_in}
+use Rattle.dw_entries.proofs.ContentLaws.{plain_width}
+use Rattle.dw_unit.specs.Places.{placement_of, targets_at}
+use Rattle.dw_unit.proofs.Drafted.{Drafts-bytes, Drafts-number, nothing_is, plain_is, wide_is, leb_is, signed_leb_is, block_is, closed_is, target_is, offset_is, entry_place_is}
+use Rattle.dw_unit.proofs.Faults.{OnOk-both, fitting_number}
+use Rattle.dw_unit.proofs.PlaceLaws.{found_some}
 use Rattle.dw_unit.proofs.value.write_value.Goals as goal
 
-pub returns-in-Data1-clause-ok : goal.returns-in-Data1-clause-ok
-returns-in-Data1-clause-ok g c = rw (c.in-Data1.is, data1-bytes) c.write_u8.ensures.ok
+pub returns-in-Nothing-clause-ok : goal.returns-in-Nothing-clause-ok
+returns-in-Nothing-clause-ok g c =
+    let is = sym c.content.ensures ∙ ap content_in c.in-Nothing.is in
+    Drafts-is (Drafts-nothing (g.W.Writer.meaning c.args.w.now) []) (nothing_is c.args.encoding (targets_at c.args.places.now) c.args.value.now is)
 
-pub returns-in-Data1-clause-fits : goal.returns-in-Data1-clause-fits
-returns-in-Data1-clause-fits g c =
+pub write_plain-requires : goal.write_plain-requires
+write_plain-requires g c =
+    let is = sym c.content.ensures ∙ ap content_in c.in-Plain.is in
+    plain_width c.args.encoding c.args.value.now c.in-Plain.size c.in-Plain.value is
+
+pub returns-in-Plain-clause-ok : goal.returns-in-Plain-clause-ok
+returns-in-Plain-clause-ok g c =
+    let is = sym c.content.ensures ∙ ap content_in c.in-Plain.is in
+    let w = c.in-Plain.size in
+    let n = c.in-Plain.value in
+    OnOk-both c.write_plain.result c.write_plain.ensures.ok c.write_plain.ensures.sound
+    (λ p h. Drafts-is (Drafts-number [] w n p) (plain_is c.args.encoding (targets_at c.args.places.now) c.args.value.now w n is (fitting_number w n (h errors.ValueTooLarge))))
+
+pub returns-in-Wide-clause-ok : goal.returns-in-Wide-clause-ok
+returns-in-Wide-clause-ok g c =
+    let is = sym c.content.ensures ∙ ap content_in c.in-Wide.is in
+    let n = c.in-Wide.number in
+    OnOk-map c.write_u128.result c.write_u128.ensures.ok
+    (λ p. Drafts-is (Drafts-number [] 16 n p) (wide_is c.args.encoding (targets_at c.args.places.now) c.args.value.now n is))
+
+pub returns-in-Leb-clause-ok : goal.returns-in-Leb-clause-ok
+returns-in-Leb-clause-ok g c =
+    let is = sym c.content.ensures ∙ ap content_in c.in-Leb.is in
+    OnOk-map c.write_uleb128.result c.write_uleb128.ensures.ok
+    (λ p. Drafts-is (Drafts-bytes [] p) (leb_is c.args.encoding (targets_at c.args.places.now) c.args.value.now c.in-Leb.number is))
+
+pub returns-in-SignedLeb-clause-ok : goal.returns-in-SignedLeb-clause-ok
+returns-in-SignedLeb-clause-ok g c =
+    let is = sym c.content.ensures ∙ ap content_in c.in-SignedLeb.is in
+    let wrote = rw (to_z-of_z w64 c.in-SignedLeb.number (omega arith)) at c.write_sleb128.ensures.ok in
+    OnOk-map c.write_sleb128.result wrote
+    (λ p. Drafts-is (Drafts-bytes [] p) (signed_leb_is c.args.encoding (targets_at c.args.places.now) c.args.value.now c.in-SignedLeb.number is))
+
+pub returns-in-Block-clause-ok : goal.returns-in-Block-clause-ok
+returns-in-Block-clause-ok g c =
+    let is = sym c.content.ensures ∙ ap content_in c.in-Block.is in
+    OnOk-map c.write_block.result c.write_block.ensures.ok
+    (λ p. Drafts-is (Drafts-bytes [] p) (block_is c.args.encoding (targets_at c.args.places.now) c.args.value.now c.in-Block.bytes.now is))
+
+pub returns-in-Closed-clause-ok : goal.returns-in-Closed-clause-ok
+returns-in-Closed-clause-ok g c =
+    let is = sym c.content.ensures ∙ ap content_in c.in-Closed.is in
+    OnOk-both c.write_text.result c.write_text.ensures.ok c.write_text.ensures.sound
+    (λ p h. Drafts-is (Drafts-bytes [] p) (closed_is c.args.encoding (targets_at c.args.places.now) c.args.value.now c.in-Closed.text.now is (h errors.InvalidAttributeValue)))
+
+pub returns-in-Target-clause-ok : goal.returns-in-Target-clause-ok
+returns-in-Target-clause-ok g c =
+    let is = sym c.content.ensures ∙ ap content_in c.in-Target.is in
+    OnOk-map c.write_target.result c.write_target.ensures.ok
+    (λ p. Drafts-is (Drafts-whole [] p) (target_is c.args.encoding (targets_at c.args.places.now) c.args.value.now c.in-Target.address is c.requires.width))
+
+pub returns-in-Offset-clause-ok : goal.returns-in-Offset-clause-ok
+returns-in-Offset-clause-ok g c =
+    let is = sym c.content.ensures ∙ ap content_in c.in-Offset.is in
+    OnOk-map c.write_place.result c.write_place.ensures.ok
+    (λ p. Drafts-is (Drafts-whole [] p) (offset_is c.args.encoding (targets_at c.args.places.now) c.args.value.now c.in-Offset.section c.in-Offset.value is))
+
+pub returns-in-EntryPlace-clause-ok : goal.returns-in-EntryPlace-clause-ok
+returns-in-EntryPlace-clause-ok g c =
     let e = c.args.encoding in
-    let place = (placement_of c.args.places.now).place in
-    let small : c.in-Data1.number < 2 ^ 8 = omega arith in
-    OnOk-map c.write_u8.result c.write_u8.ensures.ok (λ _. subst (IsValue place e) (sym c.in-Data1.is) (data1-fits place e c.in-Data1.number (lt-ltb _ _ small)))
-
-pub returns-in-Udata-clause-ok : goal.returns-in-Udata-clause-ok
-returns-in-Udata-clause-ok g c = rw (c.in-Udata.is, udata-bytes) c.write_uleb128.ensures.ok
-
-pub returns-in-Udata-clause-fits : goal.returns-in-Udata-clause-fits
-returns-in-Udata-clause-fits g c =
-    let e = c.args.encoding in
-    let place = (placement_of c.args.places.now).place in
-    let small : c.in-Udata.number < 2 ^ 64 = omega arith in
-    OnOk-map c.write_uleb128.result c.write_uleb128.ensures.ok (λ _. subst (IsValue place e) (sym c.in-Udata.is) (udata-fits place e c.in-Udata.number small))
-
-pub returns-in-String-clause-ok : goal.returns-in-String-clause-ok
-returns-in-String-clause-ok g c =
-    let wrote = rw c.slice.ensures at c.write_text.ensures.ok in
-    rw (c.in-String.is, string-bytes) wrote
-
-pub returns-in-String-clause-fits : goal.returns-in-String-clause-fits
-returns-in-String-clause-fits g c =
-    let e = c.args.encoding in
-    let place = (placement_of c.args.places.now).place in
-    OnOk-map c.write_text.result c.write_text.ensures.fits (λ h. subst (IsValue place e) (sym c.in-String.is) (string-fits place e c.in-String.text (subst IsText c.slice.ensures h)))
-
-pub returns-in-UnitRef-clause-ok : goal.returns-in-UnitRef-clause-ok
-returns-in-UnitRef-clause-ok g c = rw (c.in-UnitRef.is, unit_ref-bytes) c.write_reference.ensures.ok
-
-pub returns-in-UnitRef-clause-fits : goal.returns-in-UnitRef-clause-fits
-returns-in-UnitRef-clause-fits g c =
-    let e = c.args.encoding in
-    let place = (placement_of c.args.places.now).place in
-    let i = c.in-UnitRef.entry in
-    OnOk-map c.write_reference.result c.write_reference.ensures.ok (λ _. subst (IsValue place e) (sym c.in-UnitRef.is) (unit_ref-fits place e i (c.requires i.0).0))
+    let u = targets_at c.args.places.now in
+    let is = sym c.content.ensures ∙ ap content_in c.in-EntryPlace.is in
+    let i = c.in-EntryPlace.entry in
+    let n = (placement_of c.args.places.now).place i.0 in
+    OnOk-both c.write_reference.result c.write_reference.ensures.ok c.write_reference.ensures.sound
+    (λ p h. Drafts-is (Drafts-number [] (word_of e.format) n p)
+    (entry_place_is e u c.args.value.now i.0 n is (found_some (placement_of c.args.places.now).place i.0 (h errors.InvalidReference)) (c.requires.fit i.0).0))

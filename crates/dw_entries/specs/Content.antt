@@ -1,0 +1,138 @@
+-- What is written for values, whatever their forms are called.
+use Rattle.std.specs.Prelude.{ℕ, ◌+◌, ◌<◌, ◌^◌, ◌+ℤ◌, Bool, false, not, ◌==◌, List, length, Option, Some, None, is_none, ℤ, pos, negsuc, slice_get, IsTrue, ⊤}
+use Rattle.std.specs.List.{list_any}
+use Rattle.dw_base.specs.Numbers.{◌>>=◌, when, word_of, fits}
+use Rattle.dw_base.specs.Leb128.{uleb, sleb, fits_i64}
+use Rattle.dw_base.specs.Forms.{Operand, Absent, Number, Signed, Bytes, Text, Kind, Empty, Fixed, Uleb, Sleb, UlebBlock, Zeroed}
+use Rattle.dw_base.specs.declared.address.Address.{Address as TargetAddress}
+use Rattle.dw_base.specs.declared.address.Address.TheVariants as addresses
+use Rattle.dw_base.specs.declared.common.Encoding.{Encoding}
+use Rattle.dw_base.specs.declared.error.Error.{Error}
+use Rattle.dw_base.specs.declared.error.Error.TheVariants as errors
+use Rattle.dw_base.specs.declared.section_id.SectionId.{SectionId}
+use Rattle.dw_writer.specs.Causes.{offset_fits}
+use Rattle.dw_writer.specs.Layout.{start_of}
+use Rattle.dw_entries.specs.Targets.{Targets}
+
+-- What stands for a value in an entry, by how it is laid out (DWARF 5, 7.5.5).
+pub data Content : Type 0 where
+  -- no bytes at all
+  Nothing : Content
+  -- a number of so many bytes
+  Plain : ℕ → ℕ → Content
+  -- a number of sixteen bytes
+  Wide : ℕ → Content
+  -- a number in LEB128, unsigned or signed
+  Leb : ℕ → Content
+  SignedLeb : ℤ → Content
+  -- bytes after their length in ULEB, and bytes closed by a zero
+  Block : List ℕ → Content
+  Closed : List ℕ → Content
+  -- an address of the target
+  Target : TargetAddress → Content
+  -- an offset into a section
+  Offset : SectionId → ℕ → Content
+  -- the place in the unit of an entry
+  EntryPlace : ℕ → Content
+
+-- a number, where it fits so many bytes
+abbrev pub number_in : ℕ → ℕ → Option Operand
+number_in w n = when (fits w n) (Some (Number n))
+
+-- a text has a zero byte
+abbrev pub has_zero : List ℕ → Bool
+has_zero t = list_any (λ b. b == 0) t
+
+-- a whole number that isn't below zero
+abbrev pub natural : ℤ → Option ℕ
+natural (pos n) = Some n
+natural (negsuc n) = None
+
+-- a symbol's address is its value plus an addend
+abbrev pub address_in : Targets → TargetAddress → Option ℕ
+address_in t (addresses.Constant n) = Some n
+address_in t (addresses.Symbol s a) = slice_get t.layout.symbols s >>= λ v. natural (a +ℤ pos v)
+
+-- the operand, if each number in it fits and what it leads to is there
+abbrev pub content_operand : Encoding → Targets → Content → Option Operand
+content_operand e t Nothing = Some Absent
+content_operand e t (Plain w n) = number_in w n
+content_operand e t (Wide n) = Some (Number n)
+content_operand e t (Leb n) = Some (Number n)
+content_operand e t (SignedLeb z) = Some (Signed z)
+content_operand e t (Block xs) = Some (Bytes xs)
+content_operand e t (Closed s) = when (not (has_zero s)) (Some (Text s))
+content_operand e t (Target a) = address_in t a >>= number_in e.address_size
+content_operand e t (Offset section n) = number_in (word_of e.format) (n + start_of t.layout section)
+content_operand e t (EntryPlace i) = t.place i >>= number_in (word_of e.format)
+
+-- the kind of its form
+abbrev pub content_kind : Encoding → Content → Kind
+content_kind e Nothing = Empty
+content_kind e (Plain w n) = Fixed w
+content_kind e (Wide n) = Fixed 16
+content_kind e (Leb n) = Uleb
+content_kind e (SignedLeb z) = Sleb
+content_kind e (Block xs) = UlebBlock
+content_kind e (Closed s) = Zeroed
+content_kind e (Target a) = Fixed e.address_size
+content_kind e (Offset section n) = Fixed (word_of e.format)
+content_kind e (EntryPlace i) = Fixed (word_of e.format)
+
+-- the bytes of it
+abbrev pub content_size : Encoding → Content → ℕ
+content_size e Nothing = 0
+content_size e (Plain w n) = w
+content_size e (Wide n) = 16
+content_size e (Leb n) = length (uleb n)
+content_size e (SignedLeb z) = length (sleb z)
+content_size e (Block xs) = length (uleb (length xs)) + length xs
+content_size e (Closed s) = length s + 1
+content_size e (Target a) = e.address_size
+content_size e (Offset section n) = word_of e.format
+content_size e (EntryPlace i) = word_of e.format
+
+-- the numbers of it are those of their types
+abbrev pub IsContentRanged : Content → Type 0
+IsContentRanged (Wide n) = n < 2 ^ 128
+IsContentRanged (Leb n) = n < 2 ^ 64
+IsContentRanged (SignedLeb z) = IsTrue (fits_i64 z)
+IsContentRanged (Block xs) = length xs < 2 ^ 64
+IsContentRanged c = ⊤
+
+-- Faults, a line for each error
+
+-- a number has no room
+abbrev pub number_fails : ℕ → ℕ → Error → Bool
+number_fails w n errors.ValueTooLarge = not (fits w n)
+number_fails w n err = false
+
+-- a text has a zero byte
+abbrev pub text_fails : List ℕ → Error → Bool
+text_fails s errors.InvalidAttributeValue = has_zero s
+text_fails s err = false
+
+-- a constant address has no room, and a plain writer takes no symbol
+abbrev pub address_fails : ℕ → Bool → TargetAddress → Error → Bool
+address_fails w is_plain (addresses.Constant n) err = number_fails w n err
+address_fails w is_plain (addresses.Symbol s a) errors.InvalidAddress = is_plain
+address_fails w is_plain (addresses.Symbol s a) err = false
+
+-- an offset has no room: a plain writer puts it in its place, another in a signed addend
+abbrev pub offset_fails : ℕ → Bool → ℕ → Error → Bool
+offset_fails w is_plain n errors.ValueTooLarge = not (offset_fits is_plain w n)
+offset_fails w is_plain n err = false
+
+-- an entry that is named has no place
+abbrev pub reference_fails : Option ℕ → Error → Bool
+reference_fails place errors.InvalidReference = is_none place
+reference_fails place err = false
+
+-- why what is written is refused, where entries have these places
+abbrev pub content_fails : Encoding → (ℕ → Option ℕ) → Bool → Content → Error → Bool
+content_fails e place is_plain (Plain w n) err = number_fails w n err
+content_fails e place is_plain (Closed s) err = text_fails s err
+content_fails e place is_plain (Target a) err = address_fails e.address_size is_plain a err
+content_fails e place is_plain (Offset section n) err = offset_fails (word_of e.format) is_plain n err
+content_fails e place is_plain (EntryPlace i) err = reference_fails (place i) err
+content_fails e place is_plain c err = false

@@ -1,0 +1,20 @@
+-- What the operands of a unit's values lead to.
+use Rattle.std.specs.Prelude.{ℕ, Option}
+use Rattle.dw_writer.specs.Drafts.{Info}
+use Rattle.dw_writer.specs.Layout.{Layout}
+
+-- Where the entries of a unit's tree stand, counted from the unit's first byte, and the place past each.
+pub record UnitTargets : Type 0 where
+  pub place : ℕ → Option ℕ
+  pub past : ℕ → ℕ
+
+-- The same in sections that stand where they start in the end, with the places of all units' entries in .debug_info.
+pub record Targets : Type 0 where
+  pub place : ℕ → Option ℕ
+  pub past : ℕ → ℕ
+  pub info : Info
+  pub layout : Layout
+
+-- what the operands of a unit that is written lead to in a layout
+abbrev pub targets_in : UnitTargets → Layout → Info → Targets
+targets_in u l info = record { place = u.place; past = u.past; info = info; layout = l }

@@ -1,0 +1,83 @@
+-- What the steps that write a tree come to.
+use Rattle.std.specs.Prelude.{◌≡◌, ◌≢◌, ℕ, ◌+◌, ◌<◌, ◌^◌, Bool, true, false, not, ◌||◌, List, [], length, refl, map, IsTrue, IsFalse, Result, Ok, Err, OnOk}
+use Rattle.std.proofs.Common.{sym, ◌∙◌, ap, subst, arith, inl, inr}
+use Rattle.dw_base.specs.Abbreviations.{Shape}
+use Rattle.dw_base.specs.Entries.{Mark, is_one_tree}
+use Rattle.dw_base.specs.Numbers.{length_fits}
+use Rattle.dw_base.specs.Spellable.{AreDeclarations}
+use Rattle.dw_base.specs.Spelling.{header_size, table_bytes}
+use Rattle.dw_base.specs.declared.common.Encoding.{Encoding}
+use Rattle.dw_base.specs.declared.error.Error.{Error}
+use Rattle.dw_base.specs.declared.error.Error.TheVariants as errors
+use Rattle.dw_writer.specs.Meaning.{Meaning, Adds}
+use Rattle.dw_abbrev.specs.Codes.{declarations}
+use Rattle.dw_entries.specs.Entries.{EntryValue, entry_at}
+use Rattle.dw_entries.specs.Tree.{preorder, children_in}
+use Rattle.dw_entries.proofs.Tagged.{root_within}
+use Rattle.dw_entries.proofs.TreeLaws.{preorder_one_tree}
+use Rattle.dw_unit.specs.Causes.{Because, TreeFails, RoomRefused}
+use Rattle.dw_unit.specs.Coded.{shapes_of}
+use Rattle.dw_unit.specs.Places.{Placement, targets_of}
+use Rattle.dw_unit.specs.UnitFaults.{is_encodable, unit_fails}
+use Rattle.dw_unit.specs.UnitText.{tree_draft, unit_length}
+use Rattle.dw_unit.specs.Valid.{IsWritableTree}
+use Rattle.dw_unit.specs.Whole.{tree_declared, tree_size, tree_table, IsTreePlacement, TreeHasNoRoom}
+use Rattle.dw_unit.proofs.DistinctShapes.{tree_shapes-found}
+use Rattle.dw_unit.proofs.ReadMarks.{tree_draft-size}
+use Rattle.dw_unit.proofs.TreeSteps.{header_fault, marks_fault, in_header}
+
+-- the shapes that were found are the tree's
+pub table_added : {m0 m1 : Meaning} (e : Encoding) (es : List EntryValue) (ms : List (Mark ℕ)) (shapes : List Shape) → ms ≡ preorder es → shapes ≡ shapes_of e es [] ms →
+    Adds m0 m1 (table_bytes (declarations shapes)) → Adds m0 m1 (tree_table e es)
+table_added {m0} {m1} e es ms shapes tree at h =
+    subst (λ t. Adds m0 m1 (table_bytes (declarations t))) (at ∙ tree_shapes-found e es ms tree) h
+
+pub table_declared : (e : Encoding) (es : List EntryValue) (ms : List (Mark ℕ)) (shapes : List Shape) → ms ≡ preorder es → shapes ≡ shapes_of e es [] ms → AreDeclarations (declarations shapes) → AreDeclarations (tree_declared e es)
+table_declared e es ms shapes tree at h = subst (λ t. AreDeclarations (declarations t)) (at ∙ tree_shapes-found e es ms tree) h
+
+-- the entries are one tree, of no more marks than there are items
+pub tree_is_one : (es : List EntryValue) → (entry_at es 0).tag ≢ 0 → IsTrue (is_one_tree (map (children_in es) (preorder es)))
+tree_is_one es tag = preorder_one_tree es (root_within es tag)
+
+pub tree_few : (es : List EntryValue) (ms : List (Mark ℕ)) (n : ℕ) → ms ≡ preorder es → n ≡ length ms → n < 2 ^ 64 → length (preorder es) < 2 ^ 64
+tree_few es ms n tree count few = omega (arith, count, ap length tree)
+
+second : (a b : Bool) → IsFalse (a || b) → IsFalse b
+second true b h = absurd (let x : true ≡ false = h in cc)
+second false b h = h
+
+module _ (e : Encoding) (es : List EntryValue) (p : Placement) (placed : IsTreePlacement e es p) (table : ℕ) (plain : Bool) where
+  -- the length that is told is that of the sizes
+  length_is : unit_length e (tree_draft e es (targets_of p)).size ≡ unit_length e (tree_size e es p.place)
+  length_is = ap (unit_length e) (tree_draft-size e es p)
+
+  -- a tree without a fault where its entries stand can be written
+  pub tree_writable : IsTrue (is_encodable e) → (end : ℕ) → end ≡ header_size e + tree_size e es p.place → end < 2 ^ 64 →
+      IsTrue (length_fits e.format (unit_length e (tree_draft e es (targets_of p)).size)) → ((err : Error) → IsFalse (unit_fails e es table (targets_of p) plain err)) → IsWritableTree plain e es
+  tree_writable encodable end is small fits sound = record {
+    encodable = encodable;
+    places = p;
+    placed = placed;
+    room = omega (arith, is);
+    fits = ap (length_fits e.format) (sym length_is) ∙ fits;
+    sound = λ err. second (header_fault e es table (targets_of p) plain err) (marks_fault e es table (targets_of p) plain (preorder es) err) (sound err);
+  }
+
+  -- a fault of the unit where its entries stand
+  pub faulty : (err : Error) → IsTrue (unit_fails e es table (targets_of p) plain err) → TreeFails e es table plain err
+  faulty err h = inr (record { places = p; placed = placed; fails = h })
+
+  -- a length that is too long
+  pub too_long_faulty : IsTrue (not (length_fits e.format (unit_length e (tree_size e es p.place)))) → TreeFails e es table plain errors.InitialLengthOverflow
+  too_long_faulty h =
+      faulty errors.InitialLengthOverflow (in_header e es table (targets_of p) plain errors.InitialLengthOverflow (ap (λ n. not (length_fits e.format n)) length_is ∙ h))
+
+-- no room for the entries
+pub room_refused : (rise : Type 0) (e : Encoding) (es : List EntryValue) (table : ℕ) (plain : Bool) (full : Type 0) → (full → TreeHasNoRoom e es) → (err : Error) → RoomRefused full err → Because rise (TreeFails e es table plain) err
+room_refused rise e es table plain full f errors.NoMemory h = tt
+room_refused rise e es table plain full f errors.ValueTooLarge h = inl (refl, f h)
+room_refused rise e es table plain full f err h = absurd h
+
+pub OnOk-four : {T E A B C D G : Type 0} (r : Result T E) → (A → B → C → D → G) → OnOk r A → OnOk r B → OnOk r C → OnOk r D → OnOk r G
+OnOk-four (Ok x) f a b c d = f a b c d
+OnOk-four (Err e) f a b c d = tt
