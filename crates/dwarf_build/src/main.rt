@@ -13,6 +13,8 @@ mod status;
 mod tests;
 #[cfg(test)]
 mod tree_tests;
+#[cfg(test)]
+mod value_tests;
 
 ghost use Rattle.std.specs.Prelude.{◌≡◌, ◌⊎◌, IfErr};
 
