@@ -1,13 +1,11 @@
 -- New sections hold the Dwarf that was written into them.
 use Rattle.std.specs.Prelude.{◌≡◌, ℕ, Bool, true, false, not, List, [], ◌∷◌, ◌++◌, map, filter, All, Some, None, refl, if◌then◌else◌}
-use Rattle.std.proofs.Common.{sym, ◌∙◌, ap, subst, append-nil}
+use Rattle.std.proofs.Common.{sym, ◌∙◌, ap, subst}
 use Rattle.std.specs.List.{flat_map}
 use Rattle.std.proofs.lemmas.List.Elements.{All-head, All-tail}
-use Rattle.dw_base.specs.declared.section_id.SectionId.TheVariants.{DebugAbbrev, DebugInfo}
 use Rattle.dw_writer.specs.Texts.{Text, followed}
 use Rattle.dw_writer.specs.Contents.{Meaning}
-use Rattle.dw_writer.specs.Layout.{Layout, start_of}
-use Rattle.dw_writer.specs.Meaning.{Adds}
+use Rattle.dw_writer.specs.Layout.{Layout}
 use Rattle.dw_writer.specs.Resolved.{resolved}
 use Rattle.dw_writer.specs.New.{IsEmptyPlainWriter, IsEmptyWriter, IsNewPlain}
 use Rattle.dw_writer.proofs.NewLemmas.{EachWriter-map}

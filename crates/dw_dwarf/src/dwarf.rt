@@ -1,6 +1,6 @@
 //! The DWARF of one file.
 
-ghost use Rattle.std.specs.Prelude.{◌≡◌, ◌⊎◌, ◌≤◌, true, [], length, OnOk, OnErr, IfErr};
+ghost use Rattle.std.specs.Prelude.{◌≡◌, ◌⊎◌, ◌≤◌, [], length, OnOk, OnErr, IfErr};
 ghost use Rattle.dw_base.specs.declared.error.Error.TheVariants.{NoMemory};
 ghost use Rattle.dw_writer.specs.Sections.{SomeHasRisen, fault_sum, NoFixups};
 ghost use Rattle.dw_unit.specs.Written.{AppendsUnits, to_write};
@@ -40,8 +40,8 @@ impl Dwarf {
     /// The table has one unit at most so far. Refused as `UnsupportedVersion` or
     /// `UnsupportedWordSize` where a unit's version isn't 2 to 5 or its address size isn't 1, 2, 4
     /// or 8, as `InvalidAttributeValue` where a string has a zero byte, as `InvalidReference` where
-    /// a reference names an entry outside its unit's tree, as `InvalidAddress` where an address is a
-    /// symbol's and the sections record no relocations, as `InitialLengthOverflow` where a 32-bit
+    /// a reference names an entry outside its unit's tree, as `InvalidAddress` where an address is
+    /// a symbol's and the sections record no relocations, as `InitialLengthOverflow` where a 32-bit
     /// unit has 0xffff_fff0 bytes or more after its length (DWARF 5, 7.4), as `ValueTooLarge` where
     /// an address, an offset, the place of a table or the size of a unit has no room, and as
     /// `WriteFault` or `NoMemory`. A refused unit stays as it was, or has its base types moved, and
@@ -74,9 +74,10 @@ impl Dwarf {
 
         ensures err { IfErr result (DwarfRefused W.meaning sections.old sections.new self.old) }
         ensures kept { OnErr result ((self.new ≡ self.old) ⊎ (self.new ≡ settled_dwarf self.old)) }
-        // A valid Dwarf is refused over new plain sections only for want of memory, or by a fault
-        // that was counted.
-        ensures complete { AreNewPlain W.meaning sections.old → IsValid true self.old →
+        // A valid Dwarf is refused over new sections only for want of memory, or by a fault that
+        // was counted. What is valid hangs on whether symbols can be written.
+        ensures complete { AreNew W.meaning sections.old →
+            IsValid (W.meaning sections.old.debug_info.0).is_plain self.old →
             (SomeHasRisen W.meaning sections.old sections.new → ⊥) →
             IfErr result (λ e. e ≡ NoMemory) }
 

@@ -4,6 +4,8 @@
 
 mod dwarf;
 #[cfg(test)]
+mod relocation_tests;
+#[cfg(test)]
 mod tests;
 
 pub use dw_base::{
