@@ -3,9 +3,9 @@
 ghost use Rattle.std.specs.Prelude.{◌≡◌, ◌^◌, ◌<◌, ◌≤◌, pos, neg_ℤ, option_map, option_and_then};
 ghost use Rattle.dw_script.specs.Numbers.{below, digit_in, number_below, number_in, number_of, signed_number, within_i64};
 
-/// The number below 2^128 that a field spells.
-pub(crate) fn parse_u128(field: &[u8]) -> Option<u128>
-    ensures { result ≡ number_below (2 ^ 128) field.now }
+/// The number below 2^64 that a field spells.
+pub fn parse_u64(field: &[u8]) -> Option<u64>
+    ensures { result ≡ number_below (2 ^ 64) field.now }
 {
     match field {
         [b'0', b'x', digits @ ..] => number_in_base(digits, 16),
@@ -13,39 +13,42 @@ pub(crate) fn parse_u128(field: &[u8]) -> Option<u128>
     }
 }
 
-/// The number below 2^64 that a field spells.
-pub fn parse_u64(field: &[u8]) -> Option<u64>
-    ensures { result ≡ number_below (2 ^ 64) field.now }
+/// The number below 2^128 that a field spells.
+pub(crate) fn parse_u128(field: &[u8]) -> Option<u128>
+    ensures { result ≡ number_below (2 ^ 128) field.now }
 {
-    u64::try_from(parse_u128(field)?).ok()
+    match field {
+        [b'0', b'x', digits @ ..] => wide_number_in_base(digits, 16),
+        _ => wide_number_in_base(field, 10),
+    }
 }
 
 /// The number below 2^64 that a field spells, as a place or an index.
 pub(crate) fn parse_usize(field: &[u8]) -> Option<usize>
     ensures { result ≡ number_below (2 ^ 64) field.now }
 {
-    usize::try_from(parse_u128(field)?).ok()
+    usize::try_from(parse_u64(field)?).ok()
 }
 
 /// The number below 2^32 that a field spells.
 pub(crate) fn parse_u32(field: &[u8]) -> Option<u32>
     ensures { result ≡ number_below (2 ^ 32) field.now }
 {
-    u32::try_from(parse_u128(field)?).ok()
+    u32::try_from(parse_u64(field)?).ok()
 }
 
 /// The number below 2^16 that a field spells.
 pub fn parse_u16(field: &[u8]) -> Option<u16>
     ensures { result ≡ number_below (2 ^ 16) field.now }
 {
-    u16::try_from(parse_u128(field)?).ok()
+    u16::try_from(parse_u64(field)?).ok()
 }
 
 /// The number below 2^8 that a field spells.
 pub fn parse_u8(field: &[u8]) -> Option<u8>
     ensures { result ≡ number_below (2 ^ 8) field.now }
 {
-    u8::try_from(parse_u128(field)?).ok()
+    u8::try_from(parse_u64(field)?).ok()
 }
 
 /// The number from -2^63 to 2^63 - 1 that a field spells, `-` before it where it is below 0.
@@ -72,8 +75,26 @@ fn parse_negative(magnitude: &[u8]) -> Option<i64>
     0i64.checked_sub_unsigned(parse_u64(magnitude)?)
 }
 
-// The number that one or more digits of a base spell, if it is below 2^128.
-fn number_in_base(digits: &[u8], base: u8) -> Option<u128>
+// The number that one or more digits of a base spell, if it is below 2^64.
+fn number_in_base(digits: &[u8], base: u8) -> Option<u64>
+    requires { 0 < base }
+    ensures { result ≡ option_and_then (below (2 ^ 64)) (number_in base digits.now) }
+{
+    if digits.is_empty() {
+        return None;
+    }
+    let mut value = 0u64;
+    for byte in digits {
+        let digit = digit_in_base(*byte, base)?;
+        value = value
+            .checked_mul(u64::from(base))?
+            .checked_add(u64::from(digit))?;
+    }
+    Some(value)
+}
+
+// The same below 2^128. Only values of 16 bytes pay for such wide sums.
+fn wide_number_in_base(digits: &[u8], base: u8) -> Option<u128>
     requires { 0 < base }
     ensures { result ≡ option_and_then (below (2 ^ 128)) (number_in base digits.now) }
 {

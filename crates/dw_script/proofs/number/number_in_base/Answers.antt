@@ -11,9 +11,9 @@ returns-in_err-checked_mul c =
     let base = c.args.base in
     let value = c.loop-byte.value in
     let i = c.loop-byte.byte-index in
-    let past : 2 ^ 128 ≤ value * base = search rules in
+    let past : 2 ^ 64 ≤ value * base = search rules in
     let number = number_in_step base value bs i c.in_ok-digit.digit (omega arith) c.loop-byte.invariant.0 (search rules) in
-    rw (c.from_residual-in_err-checked_mul.ensures, number) (sym (below-read_on (2 ^ 128) base _ (drop (i + 1) bs) (omega arith) (omega arith)))
+    rw (c.from_residual-in_err-checked_mul.ensures, number) (sym (below-read_on (2 ^ 64) base _ (drop (i + 1) bs) (omega arith) (omega arith)))
 
 pub returns-in_err-value : goal.returns-in_err-value
 returns-in_err-value c =
@@ -22,7 +22,7 @@ returns-in_err-value c =
     let value = c.loop-byte.value in
     let i = c.loop-byte.byte-index in
     let number = number_in_step base value bs i c.in_ok-digit.digit (omega arith) c.loop-byte.invariant.0 (search rules) in
-    rw (c.from_residual-in_err-value.ensures, number) (sym (below-read_on (2 ^ 128) base _ (drop (i + 1) bs) (omega arith) (search rules)))
+    rw (c.from_residual-in_err-value.ensures, number) (sym (below-read_on (2 ^ 64) base _ (drop (i + 1) bs) (omega arith) (search rules)))
 
 pub loop-byte-preserved : goal.loop-byte-preserved
 loop-byte-preserved c =
@@ -39,4 +39,4 @@ returns c =
     let value = c.loop-byte.value in
     let whole = read_on-drop_all c.args.base value bs c.loop-byte.byte-index (omega arith) in
     let number : number_in c.args.base bs ≡ Some value = sym c.loop-byte.invariant.0 ∙ whole in
-    rw number (sym (below-within (2 ^ 128) value c.loop-byte.invariant.1))
+    rw number (sym (below-within (2 ^ 64) value c.loop-byte.invariant.1))

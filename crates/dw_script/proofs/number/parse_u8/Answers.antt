@@ -6,4 +6,4 @@ use Rattle.dw_script.proofs.number.parse_u8.Goals as goal
 pub returns : goal.returns
 returns c =
     c.ok.ensures.value
-    ∙ result_ok_narrowed c.try_from.result (2 ^ 128) (2 ^ 8) c.in_ok-parse_u128.field-0 (number_of c.args.field.now) (sym c.in_ok-parse_u128.ensures) c.try_from.ensures
+    ∙ result_ok_narrowed c.try_from.result (2 ^ 64) (2 ^ 8) c.in_ok-parse_u64.field-0 (number_of c.args.field.now) (sym c.in_ok-parse_u64.ensures) c.try_from.ensures

@@ -1,9 +1,0 @@
-use Rattle.std.proofs.Common.{◌∙◌, ◌^◌, sym}
-use Rattle.dw_script.specs.Numbers.{number_of}
-use Rattle.dw_script.proofs.Limits.{result_ok_narrowed}
-use Rattle.dw_script.proofs.number.parse_u64.Goals as goal
-
-pub returns : goal.returns
-returns c =
-    c.ok.ensures.value
-    ∙ result_ok_narrowed c.try_from.result (2 ^ 128) (2 ^ 64) c.in_ok-parse_u128.field-0 (number_of c.args.field.now) (sym c.in_ok-parse_u128.ensures) c.try_from.ensures
