@@ -1,5 +1,6 @@
-//! Values of every kind, in every version, both formats and both byte orders. The bytes are by hand
-//! from the tables of forms (DWARF 5, 7.5.5 and 7.5.6).
+//! Values of every kind, in each version once, among them both formats and both byte orders. The
+//! bytes of all kinds together come from a model of the tables of forms (DWARF 5, 7.5.5 and 7.5.6)
+//! that shares no code with the program; those of single values are from the same tables.
 
 use crate::tests::{build, told_of};
 use std::alloc::Global;
