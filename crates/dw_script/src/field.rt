@@ -168,8 +168,8 @@ pub(crate) fn next_hex_bytes<'a>(fields: &mut Pieces<'a>) -> Result<HexBytes<'a>
 }
 
 /// The end of the line: no field is left over.
-pub(crate) fn expect_end(mut fields: Pieces<'_>) -> Result<(), Reason>
-    ensures { result ≡ end_of_fields (pieces_left fields.entry) }
+pub(crate) fn expect_end(fields: &mut Pieces<'_>) -> Result<(), Reason>
+    ensures { result ≡ end_of_fields (pieces_left fields.old) }
 {
     match fields.next() {
         None => Ok(()),

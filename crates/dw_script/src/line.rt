@@ -27,7 +27,7 @@ pub fn parse_line(line: &[u8]) -> Result<Option<Command<'_>>, Reason>
     if !is_printable(line) {
         return Err(Reason::BadByte);
     }
-    let command = parse_fields(Pieces::new(line, b' '))?;
+    let command = parse_fields(&mut Pieces::new(line, b' '))?;
     Ok(Some(command))
 }
 
@@ -48,10 +48,10 @@ fn is_printable(line: &[u8]) -> bool
     line.iter().all(|b| 0x20 <= *b && *b <= 0x7e)
 }
 
-fn parse_fields(mut fields: Pieces<'_>) -> Result<Command<'_>, Reason>
-    ensures { result ≡ command_of (pieces_left fields.entry) }
+fn parse_fields<'a>(fields: &mut Pieces<'a>) -> Result<Command<'a>, Reason>
+    ensures { result ≡ command_of (pieces_left fields.old) }
 {
-    match next_word(&mut fields)? {
+    match next_word(fields)? {
         Word::Order => parse_order(fields),
         Word::Unit => parse_unit(fields),
         Word::Add => parse_add(fields),
@@ -71,20 +71,20 @@ fn change_of(unit: u64, change: Change<'_>) -> Command<'_>
     Command::Change { unit, change }
 }
 
-fn parse_order(mut fields: Pieces<'_>) -> Result<Command<'_>, Reason>
-    ensures { result ≡ order_line (pieces_left fields.entry) }
+fn parse_order<'a>(fields: &mut Pieces<'a>) -> Result<Command<'a>, Reason>
+    ensures { result ≡ order_line (pieces_left fields.old) }
 {
-    let order = next_byte_order(&mut fields)?;
+    let order = next_byte_order(fields)?;
     expect_end(fields)?;
     Ok(Command::Order(order))
 }
 
-fn parse_unit(mut fields: Pieces<'_>) -> Result<Command<'_>, Reason>
-    ensures { result ≡ unit_line (pieces_left fields.entry) }
+fn parse_unit<'a>(fields: &mut Pieces<'a>) -> Result<Command<'a>, Reason>
+    ensures { result ≡ unit_line (pieces_left fields.old) }
 {
-    let version = next_u16(&mut fields)?;
-    let address_size = next_u8(&mut fields)?;
-    let format = next_format(&mut fields)?;
+    let version = next_u16(fields)?;
+    let address_size = next_u8(fields)?;
+    let format = next_format(fields)?;
     expect_end(fields)?;
     Ok(Command::Unit(Encoding {
         address_size,
@@ -93,72 +93,72 @@ fn parse_unit(mut fields: Pieces<'_>) -> Result<Command<'_>, Reason>
     }))
 }
 
-fn parse_add(mut fields: Pieces<'_>) -> Result<Command<'_>, Reason>
-    ensures { result ≡ add_line (pieces_left fields.entry) }
+fn parse_add<'a>(fields: &mut Pieces<'a>) -> Result<Command<'a>, Reason>
+    ensures { result ≡ add_line (pieces_left fields.old) }
 {
-    let unit = next_u64(&mut fields)?;
-    let parent = next_u64(&mut fields)?;
-    let tag = next_tag(&mut fields)?;
+    let unit = next_u64(fields)?;
+    let parent = next_u64(fields)?;
+    let tag = next_tag(fields)?;
     expect_end(fields)?;
     Ok(change_of(unit, Change::Add { parent, tag }))
 }
 
-fn parse_reserve(mut fields: Pieces<'_>) -> Result<Command<'_>, Reason>
-    ensures { result ≡ reserve_line (pieces_left fields.entry) }
+fn parse_reserve<'a>(fields: &mut Pieces<'a>) -> Result<Command<'a>, Reason>
+    ensures { result ≡ reserve_line (pieces_left fields.old) }
 {
-    let unit = next_u64(&mut fields)?;
+    let unit = next_u64(fields)?;
     expect_end(fields)?;
     Ok(change_of(unit, Change::Reserve))
 }
 
-fn parse_add_reserved(mut fields: Pieces<'_>) -> Result<Command<'_>, Reason>
-    ensures { result ≡ add_reserved_line (pieces_left fields.entry) }
+fn parse_add_reserved<'a>(fields: &mut Pieces<'a>) -> Result<Command<'a>, Reason>
+    ensures { result ≡ add_reserved_line (pieces_left fields.old) }
 {
-    let unit = next_u64(&mut fields)?;
-    let entry = next_u64(&mut fields)?;
-    let parent = next_u64(&mut fields)?;
-    let tag = next_tag(&mut fields)?;
+    let unit = next_u64(fields)?;
+    let entry = next_u64(fields)?;
+    let parent = next_u64(fields)?;
+    let tag = next_tag(fields)?;
     expect_end(fields)?;
     Ok(change_of(unit, Change::AddReserved { entry, parent, tag }))
 }
 
-fn parse_sibling(mut fields: Pieces<'_>) -> Result<Command<'_>, Reason>
-    ensures { result ≡ sibling_line (pieces_left fields.entry) }
+fn parse_sibling<'a>(fields: &mut Pieces<'a>) -> Result<Command<'a>, Reason>
+    ensures { result ≡ sibling_line (pieces_left fields.old) }
 {
-    let unit = next_u64(&mut fields)?;
-    let entry = next_u64(&mut fields)?;
-    let sibling = next_flag(&mut fields)?;
+    let unit = next_u64(fields)?;
+    let entry = next_u64(fields)?;
+    let sibling = next_flag(fields)?;
     expect_end(fields)?;
     Ok(change_of(unit, Change::Sibling { entry, sibling }))
 }
 
-fn parse_set(mut fields: Pieces<'_>) -> Result<Command<'_>, Reason>
-    ensures { result ≡ set_line (pieces_left fields.entry) }
+fn parse_set<'a>(fields: &mut Pieces<'a>) -> Result<Command<'a>, Reason>
+    ensures { result ≡ set_line (pieces_left fields.old) }
 {
-    let unit = next_u64(&mut fields)?;
-    let entry = next_u64(&mut fields)?;
-    let name = next_attribute(&mut fields)?;
-    let value = next_value(&mut fields)?;
+    let unit = next_u64(fields)?;
+    let entry = next_u64(fields)?;
+    let name = next_attribute(fields)?;
+    let value = next_value(fields)?;
     expect_end(fields)?;
     Ok(change_of(unit, Change::Set { entry, name, value }))
 }
 
-fn parse_delete(mut fields: Pieces<'_>) -> Result<Command<'_>, Reason>
-    ensures { result ≡ delete_line (pieces_left fields.entry) }
+fn parse_delete<'a>(fields: &mut Pieces<'a>) -> Result<Command<'a>, Reason>
+    ensures { result ≡ delete_line (pieces_left fields.old) }
 {
-    let unit = next_u64(&mut fields)?;
-    let entry = next_u64(&mut fields)?;
-    let name = next_attribute(&mut fields)?;
+    let unit = next_u64(fields)?;
+    let entry = next_u64(fields)?;
+    let name = next_attribute(fields)?;
     expect_end(fields)?;
     Ok(change_of(unit, Change::Delete { entry, name }))
 }
 
-fn parse_delete_child(mut fields: Pieces<'_>) -> Result<Command<'_>, Reason>
-    ensures { result ≡ delete_child_line (pieces_left fields.entry) }
+fn parse_delete_child<'a>(fields: &mut Pieces<'a>) -> Result<Command<'a>, Reason>
+    ensures { result ≡ delete_child_line (pieces_left fields.old) }
 {
-    let unit = next_u64(&mut fields)?;
-    let parent = next_u64(&mut fields)?;
-    let entry = next_u64(&mut fields)?;
+    let unit = next_u64(fields)?;
+    let parent = next_u64(fields)?;
+    let entry = next_u64(fields)?;
     expect_end(fields)?;
     Ok(change_of(unit, Change::DeleteChild { parent, entry }))
 }
