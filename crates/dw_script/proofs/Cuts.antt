@@ -1,12 +1,13 @@
 -- The first piece of some bytes, and the pieces after it.
-use Rattle.std.proofs.Common.{◌≡◌, ℕ, suc, ◌+◌, ◌<◌, ◌≤◌, Bool, true, false, cond, List, [], ◌∷◌, length, take, drop, Some, None, refl, arith, rules, tests, subst, nat_lt, not, inl, inr, ◌==◌}
+use Rattle.std.proofs.Common.{◌≡◌, ℕ, suc, ◌+◌, ◌<◌, ◌≤◌, Bool, true, false, cond, List, [], ◌∷◌, length, take, drop, Option, Some, None, refl, arith, rules, tests, subst, nat_lt, not, inl, inr, ◌==◌}
 use Rattle.std.specs.Prelude.{position}
 use Rattle.std.specs.List.{slice_split, position_or_len, onto_first}
 use Rattle.std.proofs.lemmas.List.Splits.{slice_split_first, length-slice_split}
-use Rattle.std.proofs.lemmas.List.Sums.{count_by-le-length}
+use Rattle.std.proofs.lemmas.List.Sums.{count_by-le-length, position_or_len_is}
 use Rattle.std.proofs.lemmas.Option.{cond_some}
-use Rattle.std.proofs.lemmas.Bool.{cases_lt}
+use Rattle.std.proofs.lemmas.Bool.{cases_lt, cond_above, cond_below, false_from_ne_true}
 use Rattle.std.proofs.lemmas.Bool.Decides.{nat_tests}
+use Rattle.memchr.specs.Find.{IsFirstByte}
 use Rattle.dw_script.specs.Pieces.{pieces}
 
 -- the place of the first that passes, if one does
@@ -45,3 +46,14 @@ slice_split_whole p (b ∷ bytes) h =
 -- with no separator the bytes are one piece
 pub pieces_none : (separator : ℕ) (bytes : List ℕ) → position (λ b. b == separator) bytes ≡ None → pieces separator bytes ≡ bytes ∷ []
 pieces_none separator bytes e = slice_split_whole (λ b. b == separator) bytes (no_place e)
+
+-- the first byte that passes stands at the place of the first
+pub first_byte : (p : ℕ → Bool) (bytes : List ℕ) (found : Option ℕ) → IsFirstByte p bytes found → found ≡ position p bytes
+first_byte p bytes None none =
+    let len = length bytes in
+    let e = position_or_len_is p bytes len 0 (omega arith) (λ k lt. false_from_ne_true _ (none k (omega arith) lt)) (λ lt. absurd (omega (arith, lt))) in
+    cond_above (position_or_len p bytes) len (Some (position_or_len p bytes)) None None (omega (arith, e)) refl
+first_byte p bytes (Some at) (low, passes) =
+    let e = position_or_len_is p bytes at 0 (omega (arith, low.high)) (λ k lt. false_from_ne_true _ (low.before k (omega arith) lt)) (λ _. passes) in
+    let inside = cond_below (position_or_len p bytes) (length bytes) (Some (position_or_len p bytes)) None (omega (arith, e, low.high)) in
+    subst (λ (n : ℕ). Some n ≡ position p bytes) e inside

@@ -2,6 +2,7 @@
 use Rattle.std.specs.Prelude.{ℕ, List, [], Option, Some, None, ◌==◌}
 use Rattle.std.specs.List.{slice_split}
 use Rattle.std.specs.Borrow.{Bor}
+use Rattle.dw_script.specs.declared.script.ScriptLines.{ScriptLines}
 use Rattle.dw_script.specs.declared.pieces.Pieces.{Pieces}
 
 -- what ends a line
@@ -28,3 +29,7 @@ pieces_after separator (Some rest) = pieces separator rest.now
 -- the pieces that are still to come
 unfoldable pub pieces_left : Pieces → List (List ℕ)
 pieces_left p = pieces_after p.separator p.rest
+
+-- the lines that are still to come
+unfoldable pub lines_left : ScriptLines → List (List ℕ)
+lines_left l = pieces_after newline l.rest

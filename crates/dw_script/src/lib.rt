@@ -14,6 +14,7 @@ mod names;
 mod number;
 mod pieces;
 mod reason;
+mod script;
 mod table;
 mod value;
 mod word;
@@ -23,8 +24,8 @@ pub use command::Command;
 pub use hex_bytes::HexBytes;
 pub use line::parse_line;
 pub use number::{parse_u8, parse_u16, parse_u64};
-pub use pieces::{Pieces, lines};
 pub use reason::Reason;
+pub use script::{ScriptLines, lines};
 pub use value::Value;
 
 #[cfg(test)]

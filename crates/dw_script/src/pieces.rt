@@ -1,8 +1,8 @@
-//! Bytes, cut at each separator: a script into lines, and a line into fields.
+//! Bytes, cut at each separator: a line into fields, and a field into parts.
 
-ghost use Rattle.std.specs.Prelude.{◌≡◌, ◌∷◌, ◌+◌, ◌<◌, ◌≤◌, ◌==◌, IfSome, length, position};
+ghost use Rattle.std.specs.Prelude.{◌≡◌, ◌∷◌, ◌<◌, ◌==◌, IfSome, length, position};
 ghost use Rattle.std.specs.Iterator.{YieldsFirstRef, item_count};
-ghost use Rattle.dw_script.specs.Pieces.{newline, pieces, pieces_after, pieces_left};
+ghost use Rattle.dw_script.specs.Pieces.{pieces, pieces_after, pieces_left};
 
 /// The pieces between separators, from the first on; n separators give n + 1 pieces.
 #[derive(Debug, Drop)]
@@ -37,16 +37,6 @@ impl<'a> Iterator for Pieces<'a> {
         self.rest = rest;
         Some(piece)
     }
-}
-
-/// The lines of a script, which may lack its last newline.
-pub fn lines(script: &[u8]) -> Pieces<'_>
-    ensures lines { pieces_left result ≡ pieces newline script.now }
-
-    // So a line's number fits wherever the script's length does.
-    ensures few { length (pieces_left result) ≤ length script.now + 1 }
-{
-    Pieces::new(script, b'\n')
 }
 
 // The bytes before the first separator, and those after it.

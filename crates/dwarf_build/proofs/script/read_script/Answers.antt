@@ -1,5 +1,5 @@
 use Rattle.std.proofs.Common.{◌∙◌, sym, ap, subst, ◌+◌, length, arith}
-use Rattle.dw_script.specs.Pieces.{pieces_left}
+use Rattle.dw_script.specs.Pieces.{lines_left}
 use Rattle.dwarf_build.specs.Script.{script, after_lines, empty_script, HasFewUnits}
 use Rattle.dwarf_build.proofs.Lines.{after_lines-ok}
 use Rattle.dwarf_build.proofs.ScriptUnits.{empty_few, line_few}
@@ -8,12 +8,12 @@ use Rattle.dwarf_build.proofs.script.read_script.Goals as goal
 pub loop-line-init : goal.loop-line-init
 unfolding script
 loop-line-init c =
-    let same = ap pieces_left c.into_iter-line-iterator.ensures.into_iter_gives in
+    let same = ap lines_left c.into_iter-line-iterator.ensures.into_iter_gives in
     record {
       can_next = tt;
       finite = tt;
       few = subst (λ s. HasFewUnits s.dwarf.units) (sym c.new-script.ensures) empty_few;
-      left = ap (λ s. after_lines 1 s (pieces_left c.into_iter-line-iterator.result)) c.new-script.ensures
+      left = ap (λ s. after_lines 1 s (lines_left c.into_iter-line-iterator.result)) c.new-script.ensures
           ∙ ap (after_lines 1 empty_script) (same ∙ c.lines-line-items.ensures.lines);
       room = omega (arith, c.lines-line-items.ensures.few, ap length same);
     }
@@ -25,7 +25,7 @@ loop-line-preserved c =
       can_next = tt;
       finite = tt;
       few = line_few c.loop-line.script c.read_line.new.self c.in-Some.line.now c.in_ok-read_line.ensures.ok c.loop-line.invariant.few;
-      left = sym (after_lines-ok (c.loop-line.number + 1) c.loop-line.script c.read_line.new.self c.in-Some.line.now (pieces_left c.next.new.self) c.in_ok-read_line.ensures.ok)
+      left = sym (after_lines-ok (c.loop-line.number + 1) c.loop-line.script c.read_line.new.self c.in-Some.line.now (lines_left c.next.new.self) c.in_ok-read_line.ensures.ok)
           ∙ sym (ap (after_lines (c.loop-line.number + 1) c.loop-line.script) step) ∙ c.loop-line.invariant.left;
       room = omega (arith, c.loop-line.invariant.room, ap length step);
     }

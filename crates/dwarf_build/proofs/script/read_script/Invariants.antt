@@ -1,5 +1,5 @@
 use Rattle.std.proofs.Common.{◌≡◌, ◌+◌, ◌≤◌, length}
-use Rattle.dw_script.specs.Pieces.{pieces_left}
+use Rattle.dw_script.specs.Pieces.{lines_left}
 use Rattle.dwarf_build.specs.Script.{script, after_lines, HasFewUnits}
 use Rattle.dwarf_build.proofs.script.read_script.Given as goal
 
@@ -8,6 +8,6 @@ invariant-loop-line l = record {
   can_next : (goal.iterator-loop-line).can_next l.line-iterator;
   finite : (goal.iterator-loop-line).is_finite l.line-iterator;
   few : HasFewUnits l.script.dwarf.units;
-  left : after_lines (l.number + 1) l.script (pieces_left l.line-iterator) ≡ script l.bytes;
-  room : l.number + length (pieces_left l.line-iterator) ≤ length l.bytes + 1;
+  left : after_lines (l.number + 1) l.script (lines_left l.line-iterator) ≡ script l.bytes;
+  room : l.number + length (lines_left l.line-iterator) ≤ length l.bytes + 1;
 }
