@@ -168,40 +168,74 @@ fn spells_headers(rt: HostRuntime) -> Result<(), Fail> {
     Ok(())
 }
 
-/// Appends the hex of a number below 256 in `size` bytes.
-fn push_number(text: &mut String, order: &str, size: usize, number: usize) -> Result<(), Fail> {
-    for place in 0..size {
-        let rank = if order == "big" {
-            size - 1 - place
-        } else {
-            place
-        };
-        let byte = if rank == 0 { number } else { 0 };
-        write!(text, "{byte:02x}")?;
+/// A unit's byte order and encoding.
+#[derive(Clone, Copy, Debug)]
+pub(crate) struct UnitHead {
+    pub(crate) order: &'static str,
+    pub(crate) version: usize,
+    pub(crate) address_size: usize,
+    pub(crate) format: usize,
+}
+
+/// Both byte orders, each with both formats.
+pub(crate) const ORDERS_AND_FORMATS: [(&str, usize); 4] = [
+    ("little", 32),
+    ("little", 64),
+    ("big", 32),
+    ("big", 64),
+];
+
+/// Appends the hex of a number in `size` bytes.
+pub(crate) fn push_number(
+    text: &mut String,
+    order: &str,
+    size: usize,
+    number: u128,
+) -> Result<(), Fail> {
+    if order == "big" {
+        for byte in number
+            .to_be_bytes()
+            .iter()
+            .skip(16usize.saturating_sub(size))
+        {
+            write!(text, "{byte:02x}")?;
+        }
+    } else {
+        for byte in number.to_le_bytes().iter().take(size) {
+            write!(text, "{byte:02x}")?;
+        }
     }
     Ok(())
 }
 
-/// The hex of what follows a unit's length: the rest of its header, and its root.
-fn fields_of(
-    alloc: Global,
-    order: &str,
-    version: usize,
-    address_size: usize,
-    word: usize,
-) -> Result<String, Fail> {
-    let mut text = String::new(alloc);
-    push_number(&mut text, order, 2, version)?;
-    if version == 5 {
-        push_number(&mut text, order, 1, 1)?;
-        push_number(&mut text, order, 1, address_size)?;
-        push_number(&mut text, order, word, 0)?;
+/// Appends the hex of what follows a unit's length: the rest of its header, and its root's code.
+pub(crate) fn push_fields(text: &mut String, head: UnitHead) -> Result<(), Fail> {
+    let order = head.order;
+    let word = head.format / 8;
+    push_number(text, order, 2, head.version as u128)?;
+    if head.version == 5 {
+        push_number(text, order, 1, 1)?;
+        push_number(text, order, 1, head.address_size as u128)?;
+        push_number(text, order, word, 0)?;
     } else {
-        push_number(&mut text, order, word, 0)?;
-        push_number(&mut text, order, 1, address_size)?;
+        push_number(text, order, word, 0)?;
+        push_number(text, order, 1, head.address_size as u128)?;
     }
-    push_number(&mut text, order, 1, 1)?;
-    Ok(text)
+    push_number(text, order, 1, 1)
+}
+
+/// The hex of a unit that has this behind its length.
+pub(crate) fn unit_of(alloc: Global, head: UnitHead, fields: &str) -> Result<String, Fail> {
+    let escape = if head.format == 64 { "ffffffff" } else { "" };
+    let mut unit = String::from_str(alloc, escape)?;
+    push_number(
+        &mut unit,
+        head.order,
+        head.format / 8,
+        (fields.len() / 2) as u128,
+    )?;
+    unit.push_str(fields)?;
+    Ok(unit)
 }
 
 /// Builds a unit of this version and address size in both orders and formats.
@@ -211,18 +245,17 @@ fn check_encodings(
     version: usize,
     address_size: usize,
 ) -> Result<(), Fail> {
-    let rows = [
-        ("little", 32, 4, ""),
-        ("little", 64, 8, "ffffffff"),
-        ("big", 32, 4, ""),
-        ("big", 64, 8, "ffffffff"),
-    ];
-    for (order, format, word, escape) in rows {
+    for (order, format) in ORDERS_AND_FORMATS {
         let script = format!(in alloc; "order {order}\nunit {version} {address_size} {format}\n")?;
-        let fields = fields_of(alloc, order, version, address_size, word)?;
-        let mut length = String::new(alloc);
-        push_number(&mut length, order, word, fields.len() / 2)?;
-        let unit = format!(in alloc; "{escape} {length} {fields}")?;
+        let head = UnitHead {
+            order,
+            version,
+            address_size,
+            format,
+        };
+        let mut fields = String::new(alloc);
+        push_fields(&mut fields, head)?;
+        let unit = unit_of(alloc, head, fields.as_str())?;
         let info = told(alloc, unit.as_str())?;
         let (status, text) = build(alloc, script.as_bytes())?;
         assert_eq!(rt; status, 0, "at {script}");
