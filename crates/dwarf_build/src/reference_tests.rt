@@ -17,18 +17,21 @@ const ROOT_TABLE: &str = "01 11 00 00 00 00";
 fn refers_to_earlier_and_later_entries(rt: HostRuntime) -> Result<(), Fail> {
     let rows = [
         (
-            "unit 4 4 32 / add 0 0 0x2e / add 0 0 0x24 / set 0 1 DW_AT_type unit_ref 2 / set 0 2 DW_AT_byte_size data1 4",
+            "unit 4 4 32 / add 0 0 0x2e / add 0 0 0x24 / \
+             set 0 1 DW_AT_type unit_ref 2 / set 0 2 DW_AT_byte_size data1 4",
             "10000000 0400 00000000 04 01 02 04 03 0c000000 00",
             "01 11 01 00 00 02 24 00 0b 0b 00 00 03 2e 00 49 13 00 00 00",
         ),
         (
-            "unit 5 8 32 / add 0 0 0x2e / add 0 0 0x24 / set 0 1 DW_AT_type unit_ref 2 / set 0 2 DW_AT_byte_size data1 4",
+            "unit 5 8 32 / add 0 0 0x2e / add 0 0 0x24 / \
+             set 0 1 DW_AT_type unit_ref 2 / set 0 2 DW_AT_byte_size data1 4",
             "11000000 0500 01 08 00000000 01 02 04 03 0d000000 00",
             "01 11 01 00 00 02 24 00 0b 0b 00 00 03 2e 00 49 13 00 00 00",
         ),
         // A later entry, and the root.
         (
-            "unit 5 8 32 / add 0 0 0x34 / add 0 0 0x39 / set 0 1 DW_AT_type unit_ref 2 / set 0 2 DW_AT_type unit_ref 0",
+            "unit 5 8 32 / add 0 0 0x34 / add 0 0 0x39 / \
+             set 0 1 DW_AT_type unit_ref 2 / set 0 2 DW_AT_type unit_ref 0",
             "14000000 0500 01 08 00000000 01 02 12000000 03 0c000000 00",
             "01 11 01 00 00 02 34 00 49 13 00 00 03 39 00 49 13 00 00 00",
         ),
@@ -61,7 +64,8 @@ fn names_the_place_past_children(rt: HostRuntime) -> Result<(), Fail> {
         ),
         // Before the attributes that were set, and around entries that have children, too.
         (
-            "unit 5 8 32 / add 0 0 0x39 / set 0 1 3 udata 1 / sibling 0 1 1 / add 0 1 0x39 / sibling 0 2 1 / add 0 2 0x34",
+            "unit 5 8 32 / add 0 0 0x39 / set 0 1 3 udata 1 / sibling 0 1 1 / \
+             add 0 1 0x39 / sibling 0 2 1 / add 0 2 0x34",
             "18000000 0500 01 08 00000000 01 02 1b000000 01 03 1a000000 04 00 00 00",
             "01 11 01 00 00 02 39 01 01 13 03 0f 00 00 03 39 01 01 13 00 00 04 34 00 00 00 00",
         ),

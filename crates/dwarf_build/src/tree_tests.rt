@@ -42,7 +42,9 @@ fn shares_codes_between_entries_of_one_shape(rt: HostRuntime) -> Result<(), Fail
     check_sections(
         &rt,
         rt.alloc(),
-        "unit 5 8 32 / set 0 0 DW_AT_name string 61 / add 0 0 0x34 / set 0 1 DW_AT_byte_size data1 4 / add 0 0 0x34 / set 0 2 DW_AT_byte_size data1 8",
+        "unit 5 8 32 / set 0 0 DW_AT_name string 61 / \
+         add 0 0 0x34 / set 0 1 DW_AT_byte_size data1 4 / \
+         add 0 0 0x34 / set 0 2 DW_AT_byte_size data1 8",
         "10000000 0500 01 08 00000000 01 61 00 02 04 02 08 00",
         "01 11 01 03 08 00 00 02 34 00 0b 0b 00 00 00",
     )
@@ -75,7 +77,8 @@ fn spells_trees_in_other_encodings(rt: HostRuntime) -> Result<(), Fail> {
     ];
     for (order, unit, info) in rows {
         let lines = format!(in rt.alloc();
-            "order {order} / unit {unit} / add 0 0 52 / set 0 1 11 data1 0x4 / add 0 0 52 / set 0 2 11 udata 300"
+            "order {order} / unit {unit} / add 0 0 52 / set 0 1 11 data1 0x4 / \
+             add 0 0 52 / set 0 2 11 udata 300"
         )?;
         check_sections(
             &rt,
@@ -93,7 +96,8 @@ fn keeps_the_order_of_attributes_and_entries(rt: HostRuntime) -> Result<(), Fail
     let rows = [
         // A value that is set again stays in its place.
         (
-            "unit 5 8 32 / set 0 0 11 udata 5 / set 0 0 3 udata 6 / set 0 0 DW_AT_byte_size string 41",
+            "unit 5 8 32 / set 0 0 11 udata 5 / set 0 0 3 udata 6 / \
+             set 0 0 DW_AT_byte_size string 41",
             "0c000000 0500 01 08 00000000 01 41 00 06",
             "01 11 00 0b 08 03 0f 00 00 00",
         ),
