@@ -1,56 +1,111 @@
 -- A valid Dwarf is refused over new sections only for want of memory, or by a fault.
-use Rattle.std.specs.Prelude.{◌≡◌, ℕ, ◌<◌, Bool, true, false, length, slice_index_or, IsTrue, refl}
-use Rattle.std.proofs.Common.{subst}
-use Rattle.dw_base.specs.Numbers.{word_of}
-use Rattle.dw_base.specs.declared.common.Format.{Format}
-use Rattle.dw_base.specs.declared.common.Format.TheVariants.{Dwarf32, Dwarf64}
+use Rattle.std.specs.Prelude.{◌≡◌, ◌⊎◌, ℕ, Bool, true, false, List, [], refl, IsTrue, IsFalse}
+use Rattle.std.proofs.Common.{sym, ◌∙◌, ap, subst, inl, inr}
 use Rattle.dw_base.specs.declared.error.Error.{Error}
 use Rattle.dw_base.specs.declared.error.Error.TheVariants as errors
 use Rattle.dw_writer.specs.Contents.{Meaning}
-use Rattle.dw_writer.specs.Causes.{offset_fits}
 use Rattle.dw_writer.specs.Sections.{SomeHasRisen}
 use Rattle.dw_writer.proofs.NewLemmas.{IsEmptyWriter-from_plain}
 use Rattle.dw_writer.specs.declared.sections.Sections.{Sections}
+use Rattle.dw_unit.specs.Built.{Starts, numbered, at_begin}
+use Rattle.dw_unit.specs.Causes.{UnitsFail, UnitsRefused, RefusesAny, ReferencesFail}
+use Rattle.dw_unit.specs.Pending.{Kept, AreInRow, units_draft, info_at, info_of, starts_of}
+use Rattle.dw_unit.specs.UnitFaults.{holes_fail}
 use Rattle.dw_unit.specs.UnitValue.{UnitValue}
-use Rattle.dw_unit.specs.Valid.{IsWritable}
-use Rattle.dw_unit.specs.Causes.{UnitFails, UnitRefused}
-use Rattle.dw_unit.proofs.ValidLaws.{unit_unfailing}
-use Rattle.dw_dwarf.specs.Valid.{IsValid, DwarfRefused}
+use Rattle.dw_unit.specs.Valid.{AreWritable}
+use Rattle.dw_unit.specs.Written.{to_write}
+use Rattle.dw_unit.proofs.Faults.{because-map}
+use Rattle.dw_unit.proofs.PendingSteps.{pending_none}
+use Rattle.dw_unit.proofs.TableLaws.{info_kept, unwritten_keeps, to_write-unwritten, units_unfailing, one_row}
+use Rattle.dw_dwarf.specs.Valid.{AreUnwritten, IsValid, IsValidAt, SomeReferenceFails, DwarfRefused, settled_dwarf}
 use Rattle.dw_dwarf.specs.Written.{AreNewPlain, AreNew}
 use Rattle.dw_dwarf.specs.declared.dwarf.Dwarf.{Dwarf}
-
--- the first table has room for its place
-pub first_fits : (plain : Bool) (format : Format) → IsTrue (offset_fits plain (word_of format) 0)
-first_fits true Dwarf32 = refl
-first_fits true Dwarf64 = refl
-first_fits false format = refl
-
--- a valid unit at its place
-pub valid_at : (plain : Bool) (d : Dwarf) (k : ℕ) (u : UnitValue) → IsValid plain d → k < length d.units → slice_index_or d.units k u ≡ u → IsWritable plain u
-valid_at plain d k u valid within at = subst (IsWritable plain) at (valid k u within)
+use Rattle.dw_dwarf.proofs.Held.{WritesWhole}
 
 -- plain sections are some of any kind
 pub AreNew-from_plain : {W : Type 0} (meaning : W → Meaning) (s : Sections W) → AreNewPlain meaning s → AreNew meaning s
 AreNew-from_plain meaning s empty = record {
   info = IsEmptyWriter-from_plain (meaning s.debug_info.0) (meaning s.debug_info.0).is_big empty.writers.debug_info;
   abbrevs = IsEmptyWriter-from_plain (meaning s.debug_abbrev.0) (meaning s.debug_abbrev.0).is_big empty.writers.debug_abbrev;
+  fixups = empty.fixups;
 }
 
-module _ {W : Type 0} (meaning : W → Meaning) (old new : Sections W) (empty : AreNew meaning old) (calm : SomeHasRisen meaning old new → ⊥) where
+-- what was written was valid
+pub whole_valid : {W : Type 0} (meaning : W → Meaning) (old new : Sections W) (d : Dwarf) → AreWritable (meaning old.debug_info.0).is_plain (meaning old.debug_abbrev.0).size d.units →
+    WritesWhole meaning old new (numbered (settled_dwarf d).units) → IsValidAt (meaning old.debug_info.0).is_plain (starts_of meaning old) d
+whole_valid meaning old new d units whole = record {
+  units = units;
+  references = record { kept = whole.kept; in_row = whole.adds.units.in_row; lead = whole.lead };
+}
+
+-- Why a table is refused, where none of its units was written before and no reference was open.
+pub whole_refused : {W : Type 0} (meaning : W → Meaning) (old new : Sections W) (d : Dwarf) (vs : List UnitValue) (err : Error) → old.debug_info_fixups ≡ [] → AreUnwritten d → RefusesAny meaning old new d.units vs err →
+    DwarfRefused meaning old new d err
+whole_refused {W} meaning old new d vs err none unwritten any =
+    because-map {p = λ e. UnitsFail (meaning old.debug_info.0).is_plain (meaning old.debug_abbrev.0).size d.units e ⊎ ReferencesFail meaning old d.units vs [] [] e}
+    {q = λ e. UnitsFail (meaning old.debug_info.0).is_plain (meaning old.debug_abbrev.0).size d.units e ⊎ SomeReferenceFails (meaning old.debug_info.0).is_plain (starts_of meaning old) (numbered (settled_dwarf d).units) e}
+    (λ r. r) (λ e h. by_case e h) err (any old [] [] none (pending_none meaning old))
+  where
+    by_case : (e : Error) → UnitsFail (meaning old.debug_info.0).is_plain (meaning old.debug_abbrev.0).size d.units e ⊎ ReferencesFail meaning old d.units vs [] [] e →
+        UnitsFail (meaning old.debug_info.0).is_plain (meaning old.debug_abbrev.0).size d.units e ⊎ SomeReferenceFails (meaning old.debug_info.0).is_plain (starts_of meaning old) (numbered (settled_dwarf d).units) e
+    by_case e (inl h) = inl h
+    by_case e (inr h) =
+        let us = to_write d.units in
+        let info : info_at vs ≡ info_of us h.kept = info_kept vs us h.kept (h.keeps (unwritten_keeps d.units unwritten)) in
+        let here : SomeReferenceFails (meaning old.debug_info.0).is_plain (starts_of meaning old) us e = record {
+          kept = h.kept;
+          in_row = h.in_row;
+          fails = subst (λ f. IsTrue (holes_fail f (meaning old.debug_info.0).is_plain (units_draft us h.kept).holes e)) info h.fails;
+        } in
+        inr (subst (λ xs. SomeReferenceFails (meaning old.debug_info.0).is_plain (starts_of meaning old) xs e) (to_write-unwritten 0 d.units unwritten) here)
+
+starts_are : (a b : Starts) → a.info ≡ b.info → a.abbrevs ≡ b.abbrevs → a ≡ b
+starts_are a b p q =
+    ap (λ n. let s : Starts = record { info = n; abbrevs = a.abbrevs } in s) p ∙ ap (λ n. let s : Starts = record { info = b.info; abbrevs = n } in s) q
+
+not_both : (b : Bool) → IsTrue b → IsFalse b → ⊥
+not_both true t f = absurd (let x : true ≡ false = f in cc)
+not_both false t f = absurd (let x : false ≡ true = t in cc)
+
+-- A valid Dwarf has no cause to be refused.
+module _ (plain : Bool) (d : Dwarf) (valid : IsValid plain d) (err : Error) where
+  references_fail : SomeReferenceFails plain at_begin (numbered (settled_dwarf d).units) err → ⊥
+  references_fail h =
+      let us = numbered (settled_dwarf d).units in
+      let own = valid.references in
+      let same = one_row at_begin us own.kept h.kept own.in_row h.in_row in
+      not_both (holes_fail (info_of us h.kept) plain (units_draft us h.kept).holes err) h.fails
+      (subst (λ (ks : List Kept). IsFalse (holes_fail (info_of us ks) plain (units_draft us ks).holes err)) same (own.lead err))
+
+  pub valid_unfailing : UnitsFail plain 0 d.units err ⊎ SomeReferenceFails plain at_begin (numbered (settled_dwarf d).units) err → ⊥
+  valid_unfailing (inl h) = units_unfailing plain 0 d.units valid.units err h
+  valid_unfailing (inr h) = references_fail h
+
+module _ {W : Type 0} (meaning : W → Meaning) (old new : Sections W) (empty : AreNew meaning old) (calm : SomeHasRisen meaning old new → ⊥) (d : Dwarf) where
   abbrev plain : Bool
   plain = (meaning old.debug_info.0).is_plain
 
-  -- what a refusal of a unit comes to that isn't want of memory
-  pub unit_fails : (u : UnitValue) (err : Error) → (err ≡ errors.NoMemory → ⊥) → UnitRefused meaning old new u err → UnitFails u 0 plain err
-  unit_fails u errors.NoMemory some r = absurd (some refl)
-  unit_fails u errors.WriteFault some r = absurd (calm r)
-  unit_fails u err some r = subst (λ n. UnitFails u n plain err) empty.abbrevs.size r
+  begins : starts_of meaning old ≡ at_begin
+  begins = starts_are (starts_of meaning old) at_begin empty.info.size empty.abbrevs.size
 
-  unit_complete : (u : UnitValue) → IsWritable plain u → (err : Error) → UnitRefused meaning old new u err → err ≡ errors.NoMemory
-  unit_complete u valid errors.NoMemory r = refl
-  unit_complete u valid errors.WriteFault r = absurd (calm r)
-  unit_complete u valid err r =
-      absurd (unit_unfailing plain u 0 (first_fits plain u.encoding.format) valid err (subst (λ n. UnitFails u n plain err) empty.abbrevs.size r))
+  at_zero : (err : Error) → UnitsFail plain (meaning old.debug_abbrev.0).size d.units err ⊎ SomeReferenceFails plain (starts_of meaning old) (numbered (settled_dwarf d).units) err →
+      UnitsFail plain 0 d.units err ⊎ SomeReferenceFails plain at_begin (numbered (settled_dwarf d).units) err
+  at_zero err (inl h) = inl (subst (λ n. UnitsFail plain n d.units err) empty.abbrevs.size h)
+  at_zero err (inr h) = inr (subst (λ at. SomeReferenceFails plain at (numbered (settled_dwarf d).units) err) begins h)
 
-  pub dwarf_complete : (d : Dwarf) → IsValid plain d → (err : Error) → DwarfRefused meaning old new d err → err ≡ errors.NoMemory
-  dwarf_complete d valid err r = unit_complete r.1 (valid_at plain d r.0 r.1 valid r.2 r.3) err r.4.1
+  -- what a refusal comes to that isn't want of memory
+  pub dwarf_fails : (err : Error) → (err ≡ errors.NoMemory → ⊥) → DwarfRefused meaning old new d err → UnitsFail plain 0 d.units err ⊎ SomeReferenceFails plain at_begin (numbered (settled_dwarf d).units) err
+  dwarf_fails errors.NoMemory some r = absurd (some refl)
+  dwarf_fails errors.WriteFault some r = absurd (calm r)
+  dwarf_fails err some r = at_zero err r
+
+  pub dwarf_complete : IsValid plain d → (err : Error) → DwarfRefused meaning old new d err → err ≡ errors.NoMemory
+  dwarf_complete valid errors.NoMemory r = refl
+  dwarf_complete valid errors.WriteFault r = absurd (calm r)
+  dwarf_complete valid err r = absurd (valid_unfailing plain d valid err (at_zero err r))
+
+-- what is valid where new plain sections begin is valid
+pub starts_valid : {W : Type 0} (meaning : W → Meaning) (old : Sections W) (d : Dwarf) → AreNewPlain meaning old → IsValidAt (meaning old.debug_info.0).is_plain (starts_of meaning old) d → IsValid true d
+starts_valid meaning old d empty valid =
+    let at = starts_are (starts_of meaning old) at_begin empty.writers.debug_info.size empty.writers.debug_abbrev.size in
+    subst (λ b. IsValid b d) empty.writers.debug_info.plain (subst (λ s. IsValidAt (meaning old.debug_info.0).is_plain s d) at valid)

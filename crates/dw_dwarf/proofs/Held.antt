@@ -1,8 +1,7 @@
 -- New sections hold the Dwarf that was written into them.
-use Rattle.std.specs.Prelude.{◌≡◌, ℕ, Bool, true, false, not, List, [], ◌∷◌, ◌++◌, map, filter, All, Some, None, refl, if◌then◌else◌}
+use Rattle.std.specs.Prelude.{◌≡◌, ℕ, Bool, true, List, [], ◌∷◌, ◌++◌, Some, None, refl, IsFalse}
 use Rattle.std.proofs.Common.{sym, ◌∙◌, ap, subst}
-use Rattle.std.specs.List.{flat_map}
-use Rattle.std.proofs.lemmas.List.Elements.{All-head, All-tail}
+use Rattle.dw_base.specs.declared.error.Error.{Error}
 use Rattle.dw_writer.specs.Texts.{Text, followed}
 use Rattle.dw_writer.specs.Contents.{Meaning}
 use Rattle.dw_writer.specs.Layout.{Layout}
@@ -11,23 +10,17 @@ use Rattle.dw_writer.specs.New.{IsEmptyPlainWriter, IsEmptyWriter, IsNewPlain}
 use Rattle.dw_writer.proofs.NewLemmas.{EachWriter-map}
 use Rattle.dw_writer.specs.declared.sections.Sections.{Sections}
 use Rattle.dw_writer.proofs.Steps.{Adds-appends}
-use Rattle.dw_unit.specs.Built.{Built, whole_file}
+use Rattle.dw_unit.specs.Built.{Built, Numbered, numbered, whole_file}
+use Rattle.dw_unit.specs.Pending.{Kept, units_draft, tables_of, info_at, info_of}
+use Rattle.dw_unit.specs.UnitFaults.{holes_fail}
 use Rattle.dw_unit.specs.UnitValue.{UnitValue}
-use Rattle.dw_unit.specs.Whole.{settled, tree_table}
-use Rattle.dw_unit.specs.Written.{AppendsUnits, to_write}
+use Rattle.dw_unit.specs.Written.{AppendsUnits, CompletesAny, to_write}
 use Rattle.dw_unit.proofs.Files.{empty_tidy, resolved-empty, units_held, units_resolved}
-use Rattle.dw_dwarf.specs.Valid.{IsUnwritten, AreUnwritten, settled_dwarf}
+use Rattle.dw_unit.proofs.PendingSteps.{pending_none}
+use Rattle.dw_unit.proofs.TableLaws.{info_kept, unwritten_keeps, to_write-unwritten}
+use Rattle.dw_dwarf.specs.Valid.{AreUnwritten, settled_dwarf}
 use Rattle.dw_dwarf.specs.Written.{AreNewPlain, AreNew, SectionTexts, HoldsDwarf, ResolvesTo, KeepsOthers}
 use Rattle.dw_dwarf.specs.declared.dwarf.Dwarf.{Dwarf}
-
--- where none was written before, all units are written
-first_written : (u : UnitValue) (us : List UnitValue) (b : Bool) → u.is_written ≡ b → b ≡ false → filter (λ v. not v.is_written) (u ∷ us) ≡ u ∷ filter (λ v. not v.is_written) us
-first_written u us b h fresh = ap (λ (t : Bool). if not t then u ∷ filter (λ v. not v.is_written) us else filter (λ v. not v.is_written) us) (h ∙ fresh)
-
-to_write-all : (us : List UnitValue) → All IsUnwritten us → to_write us ≡ map settled us
-to_write-all [] h = refl
-to_write-all (u ∷ us) h =
-    ap (map settled) (first_written u us u.is_written refl (All-head IsUnwritten u us h)) ∙ ap (λ vs. settled u ∷ vs) (to_write-all us (All-tail IsUnwritten u us h))
 
 followed_by : (t : Text) → followed (Some []) t ≡ t
 unfolding followed
@@ -37,16 +30,33 @@ followed_by (Some xs) = refl
 some_is : {A : Type 0} (x y : A) → Some x ≡ Some y → x ≡ y
 some_is x y h = cc
 
--- the bytes of the units' tables
-abbrev tables_of : List UnitValue → List ℕ
-tables_of us = flat_map (λ u. tree_table u.encoding u.entries) us
+-- What writing a table comes to where none of its units was written before, and no reference was open.
+pub record WritesWhole {W : Type 0} (meaning : W → Meaning) (old new : Sections W) (us : List Numbered) : Type 0 where
+  pub kept : List Kept
+  pub adds : AppendsUnits meaning old new (info_of us kept) us kept
+  pub lead : (err : Error) → IsFalse (holes_fail (info_of us kept) (meaning old.debug_info.0).is_plain (units_draft us kept).holes err)
 
-module _ {W : Type 0} (meaning : W → Meaning) (old new : Sections W) (d : Dwarf) (unwritten : AreUnwritten d) (adds : AppendsUnits meaning old new (to_write d.units)) where
-  abbrev us : List UnitValue
-  us = map settled d.units
+pub writes_whole : {W : Type 0} (meaning : W → Meaning) (old new : Sections W) (d : Dwarf) (vs : List UnitValue) → old.debug_info_fixups ≡ [] → AreUnwritten d → CompletesAny meaning old new d.units vs →
+    WritesWhole meaning old new (numbered (settled_dwarf d).units)
+writes_whole {W} meaning old new d vs none unwritten any =
+    let p = any old [] [] none (pending_none meaning old) in
+    let info : info_at vs ≡ info_of (to_write d.units) p.kept = info_kept vs (to_write d.units) p.kept (p.keeps (unwritten_keeps d.units unwritten)) in
+    let whole : WritesWhole meaning old new (to_write d.units) = record {
+      kept = p.kept;
+      adds = subst (λ f. AppendsUnits meaning old new f (to_write d.units) p.kept) info p.appends;
+      lead = λ err. subst (λ f. IsFalse (holes_fail f (meaning old.debug_info.0).is_plain (units_draft (to_write d.units) p.kept).holes err)) info (p.lead err);
+    } in
+    subst (WritesWhole meaning old new) (to_write-unwritten 0 d.units unwritten) whole
 
-  all_added : AppendsUnits meaning old new us
-  all_added = subst (AppendsUnits meaning old new) (to_write-all d.units unwritten) adds
+module _ {W : Type 0} (meaning : W → Meaning) (old new : Sections W) (d : Dwarf) (whole : WritesWhole meaning old new (numbered (settled_dwarf d).units)) where
+  abbrev us : List Numbered
+  us = numbered (settled_dwarf d).units
+
+  abbrev ks : List Kept
+  ks = whole.kept
+
+  all_added : AppendsUnits meaning old new (info_of us ks) us ks
+  all_added = whole.adds
 
   -- the tables alone stand in .debug_abbrev
   tables_told : IsEmptyPlainWriter (meaning old.debug_abbrev.0) (meaning old.debug_abbrev.0).is_big → (meaning new.debug_abbrev.0).bytes ≡ Some (tables_of us)
@@ -70,16 +80,16 @@ module _ {W : Type 0} (meaning : W → Meaning) (old new : Sections W) (d : Dwar
   dwarf_resolved empty = record {
     built = λ l info abbrevs at_info at_abbrevs told_info told_abbrevs.
         let m = meaning old.debug_info.0 in
-        let built = units_resolved m.is_big m (meaning new.debug_info.0) (meaning old.debug_abbrev.0).size us l empty.info empty.abbrevs.size all_added.info at_info at_abbrevs info told_info in
-        subst (λ b. Built (record { units = us; layout = l } ∷ []) b info abbrevs) (sym all_added.info.same.order)
+        let built = units_resolved m.is_big m (meaning new.debug_info.0) (meaning old.debug_abbrev.0).size us ks l empty.info empty.abbrevs.size all_added.units at_info at_abbrevs info told_info in
+        subst (λ b. Built (record { units = us; layout = l } ∷ []) b info abbrevs) (sym all_added.units.same.order)
         (subst (Built (record { units = us; layout = l } ∷ []) m.is_big info) (tables_resolved empty.abbrevs l abbrevs told_abbrevs) built);
   }
 
   pub dwarf_held : ((w : W) → (meaning w).is_plain ≡ true → (meaning w).records ≡ []) → AreNewPlain meaning old → KeepsOthers old new → HoldsDwarf meaning new (settled_dwarf d)
   dwarf_held law empty others =
       let m = meaning old.debug_info.0 in
-      let plain : (meaning new.debug_info.0).is_plain ≡ true = all_added.info.same.kind ∙ empty.writers.debug_info.plain in
-      let held = units_held m.is_big m (meaning new.debug_info.0) (meaning old.debug_abbrev.0).size us empty.writers.debug_info (law new.debug_info.0 plain) empty.writers.debug_abbrev.size all_added.info in
+      let plain : (meaning new.debug_info.0).is_plain ≡ true = all_added.units.same.kind ∙ empty.writers.debug_info.plain in
+      let held = units_held m.is_big m (meaning new.debug_info.0) (meaning old.debug_abbrev.0).size us ks empty.writers.debug_info (law new.debug_info.0 plain) empty.writers.debug_abbrev.size all_added.units in
       let stays : Sections W = record old { debug_abbrev = new.debug_abbrev; debug_info = new.debug_info; debug_info_fixups = new.debug_info_fixups; debug_loc_fixups = new.debug_loc_fixups; debug_loclists_fixups = new.debug_loclists_fixups } in
       let kept = λ (f : Sections W → W) (h : (meaning (f stays)).bytes ≡ Some []). let P : Sections W → Type 0 = λ s. (meaning (f s)).bytes ≡ Some [] in subst P (sym others) h in
       let texts : SectionTexts = record {
@@ -98,7 +108,7 @@ module _ {W : Type 0} (meaning : W → Meaning) (old new : Sections W) (d : Dwar
       record {
         texts = texts;
         are = record {
-          units = subst (λ b. Built (whole_file us ∷ []) b held.0 (tables_of us)) (sym all_added.info.same.order) held.1.1;
+          units = subst (λ b. Built (whole_file (settled_dwarf d).units ∷ []) b held.0 (tables_of us)) (sym all_added.units.same.order) held.1.1;
           strings = refl;
           line_strings = refl;
           lines = refl;
@@ -131,3 +141,7 @@ AreNewPlain-from meaning big s h = record {
       (λ w e. record { bytes = e.bytes; size = e.size; records = e.records; order = refl; plain = e.plain }) h.writers;
   fixups = h.fixups;
 }
+
+-- units are written in the byte order of their section
+pub same_order : {W : Type 0} (meaning : W → Meaning) (old new : Sections W) (us vs : List UnitValue) → old.debug_info_fixups ≡ [] → CompletesAny meaning old new us vs → (meaning new.debug_info.0).is_big ≡ (meaning old.debug_info.0).is_big
+same_order meaning old new us vs none any = (any old [] [] none (pending_none meaning old)).appends.units.same.order

@@ -1,34 +1,49 @@
 -- A Dwarf that can be written.
-use Rattle.std.specs.Prelude.{◌≡◌, Bool, false, map, All}
+use Rattle.std.specs.Prelude.{◌≡◌, ◌⊎◌, Bool, false, List, map, All, IsTrue}
 use Rattle.dw_base.specs.declared.error.Error.{Error}
 use Rattle.dw_writer.specs.Contents.{Meaning}
+use Rattle.dw_writer.specs.Sections.{SomeHasRisen}
 use Rattle.dw_writer.specs.declared.sections.Sections.{Sections}
-use Rattle.dw_unit.specs.Causes.{UnitsRefused}
+use Rattle.dw_unit.specs.Built.{Numbered, Starts, numbered, at_begin}
+use Rattle.dw_unit.specs.Causes.{Because, UnitsFail}
+use Rattle.dw_unit.specs.Pending.{Kept, AreInRow, units_draft, info_of, starts_of}
+use Rattle.dw_unit.specs.UnitFaults.{holes_fail}
 use Rattle.dw_unit.specs.UnitValue.{UnitValue}
-use Rattle.dw_unit.specs.Valid.{IsWritable}
-use Rattle.dw_unit.specs.Whole.{settled, written}
+use Rattle.dw_unit.specs.Valid.{AreWritable, ReferencesLead}
+use Rattle.dw_unit.specs.Whole.{settled}
 use Rattle.dw_dwarf.specs.declared.dwarf.Dwarf.{Dwarf}
 
--- it wasn't written before
+-- it wasn't written before, and not skipped
 abbrev pub IsUnwritten : UnitValue → Type 0
 IsUnwritten u = u.is_written ≡ false
 
 abbrev pub AreUnwritten : Dwarf → Type 0
 AreUnwritten d = All IsUnwritten d.units
 
--- Every unit can be written into a writer that is plain or not: a version and an address size, values, places and a length
--- that have a spelling.
-abbrev pub IsValid : Bool → Dwarf → Type 0
-IsValid is_plain d = All (IsWritable is_plain) d.units
-
--- why it is refused
-abbrev pub DwarfRefused : {W : Type 0} → (W → Meaning) → Sections W → Sections W → Dwarf → Error → Type 0
-DwarfRefused meaning old new d err = UnitsRefused meaning old new d.units err
-
 -- with the root's base types first in each unit
 abbrev pub settled_dwarf : Dwarf → Dwarf
 settled_dwarf d = record d { units = map settled d.units }
 
--- as it is once it was written
-abbrev pub written_dwarf : Dwarf → Dwarf
-written_dwarf d = record d { units = map written d.units }
+-- A Dwarf can be written into writers that are plain or not, where its sections begin: every unit has a version and an address
+-- size, values, places and a length that have a spelling, and every reference across units leads to an entry of one of them,
+-- whose place has room.
+pub record IsValidAt (is_plain : Bool) (at : Starts) (d : Dwarf) : Type 0 where
+  pub units : AreWritable is_plain at.abbrevs d.units
+  pub references : ReferencesLead is_plain at (numbered (settled_dwarf d).units)
+
+-- the same where the sections are its own
+abbrev pub IsValid : Bool → Dwarf → Type 0
+IsValid is_plain d = IsValidAt is_plain at_begin d
+
+-- A reference across units leads to no entry, or its place has no room.
+pub record SomeReferenceFails (is_plain : Bool) (at : Starts) (us : List Numbered) (err : Error) : Type 0 where
+  pub kept : List Kept
+  pub in_row : AreInRow at us kept
+  pub fails : IsTrue (holes_fail (info_of us kept) is_plain (units_draft us kept).holes err)
+
+-- why it is refused
+abbrev pub DwarfRefused : {W : Type 0} → (W → Meaning) → Sections W → Sections W → Dwarf → Error → Type 0
+DwarfRefused meaning old new d err =
+    Because (SomeHasRisen meaning old new)
+    (λ e. UnitsFail (meaning old.debug_info.0).is_plain (meaning old.debug_abbrev.0).size d.units e
+    ⊎ SomeReferenceFails (meaning old.debug_info.0).is_plain (starts_of meaning old) (numbered (settled_dwarf d).units) e) err

@@ -7,7 +7,7 @@ use Rattle.dw_writer.specs.Resolved.{resolved}
 use Rattle.dw_writer.specs.New.{IsEmptyPlainWriter, IsEmptyWriter}
 use Rattle.dw_writer.specs.Sections.{EachWriter, NoFixups}
 use Rattle.dw_writer.specs.declared.sections.Sections.{Sections}
-use Rattle.dw_unit.specs.Built.{Built, whole_file}
+use Rattle.dw_unit.specs.Built.{Built, numbered, whole_file}
 use Rattle.dw_dwarf.specs.declared.dwarf.Dwarf.{Dwarf}
 
 -- nothing was written yet: every writer is empty, and plain, in an order of its own
@@ -19,6 +19,7 @@ pub record AreNewPlain {W : Type 0} (meaning : W → Meaning) (s : Sections W) :
 pub record AreNew {W : Type 0} (meaning : W → Meaning) (s : Sections W) : Type 0 where
   pub info : IsEmptyWriter (meaning s.debug_info.0) (meaning s.debug_info.0).is_big
   pub abbrevs : IsEmptyWriter (meaning s.debug_abbrev.0) (meaning s.debug_abbrev.0).is_big
+  pub fixups : NoFixups s
 
 -- the bytes of the eleven sections
 pub record SectionTexts : Type 0 where
@@ -73,7 +74,7 @@ pub record HoldsDwarf {W : Type 0} (meaning : W → Meaning) (s : Sections W) (d
 pub record ResolvesTo {W : Type 0} (meaning : W → Meaning) (s : Sections W) (d : Dwarf) : Type 0 where
   pub built : (l : Layout) (info abbrevs : List ℕ) → start_of l DebugInfo ≡ 0 → start_of l DebugAbbrev ≡ 0 →
       resolved l (meaning s.debug_info.0) ≡ Some info → resolved l (meaning s.debug_abbrev.0) ≡ Some abbrevs →
-      Built (record { units = d.units; layout = l } ∷ []) (meaning s.debug_info.0).is_big info abbrevs
+      Built (record { units = numbered d.units; layout = l } ∷ []) (meaning s.debug_info.0).is_big info abbrevs
 
 -- all but the two sections of units and the lists of fixups is as before
 abbrev pub KeepsOthers : {W : Type 0} → Sections W → Sections W → Type 0

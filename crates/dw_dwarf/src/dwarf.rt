@@ -1,10 +1,14 @@
 //! The DWARF of one file.
 
-ghost use Rattle.std.specs.Prelude.{◌≡◌, ◌⊎◌, ◌≤◌, [], length, OnOk, OnErr, IfErr};
+ghost use Rattle.std.specs.Prelude.{◌≡◌, ◌≤◌, [], true, All, IsTrue, OnOk, OnErr, IfErr};
 ghost use Rattle.dw_base.specs.declared.error.Error.TheVariants.{NoMemory};
+ghost use Rattle.dw_writer.specs.Causes.{IsNotMemory};
 ghost use Rattle.dw_writer.specs.Sections.{SomeHasRisen, fault_sum, NoFixups};
-ghost use Rattle.dw_unit.specs.Written.{AppendsUnits, to_write};
-ghost use Rattle.dw_dwarf.specs.Valid.{AreUnwritten, IsValid, DwarfRefused, settled_dwarf, written_dwarf};
+ghost use Rattle.dw_unit.specs.Causes.{RefusesAny};
+ghost use Rattle.dw_unit.specs.Pending.{starts_of};
+ghost use Rattle.dw_unit.specs.Whole.{AreWritten, AreStopped};
+ghost use Rattle.dw_unit.specs.Written.{CompletesAny};
+ghost use Rattle.dw_dwarf.specs.Valid.{AreUnwritten, IsValid, IsValidAt, DwarfRefused, settled_dwarf};
 ghost use Rattle.dw_dwarf.specs.Written.{AreNewPlain, AreNew, HoldsDwarf, ResolvesTo, KeepsOthers};
 
 use dw_base::Result;
@@ -37,15 +41,16 @@ impl Dwarf {
     /// these units, to their last byte (DWARF 5, 7.5), and the other sections are empty. In each
     /// unit the root's base types stand before its other children.
     ///
-    /// The table has one unit at most so far. Refused as `UnsupportedVersion` or
-    /// `UnsupportedWordSize` where a unit's version isn't 2 to 5 or its address size isn't 1, 2, 4
-    /// or 8, as `InvalidAttributeValue` where a string has a zero byte, as `InvalidReference` where
-    /// a reference names an entry outside its unit's tree, as `InvalidAddress` where an address is
-    /// a symbol's and the sections record no relocations, as `InitialLengthOverflow` where a 32-bit
+    /// Refused as `UnsupportedVersion` or `UnsupportedWordSize` where a unit's version isn't 2 to 5
+    /// or its address size isn't 1, 2, 4 or 8, as `InvalidAttributeValue` where a string has a zero
+    /// byte, as `InvalidReference` where a reference names an entry outside its unit's tree, a unit
+    /// that is absent or was skipped, or a symbol, as `InvalidAddress` where an address is a
+    /// symbol's and the sections record no relocations, as `InitialLengthOverflow` where a 32-bit
     /// unit has 0xffff_fff0 bytes or more after its length (DWARF 5, 7.4), as `ValueTooLarge` where
-    /// an address, an offset, the place of a table or the size of a unit has no room, and as
-    /// `WriteFault` or `NoMemory`. A refused unit stays as it was, or has its base types moved, and
-    /// the two sections may have got some of its bytes.
+    /// an address, an offset, the place of a table or of an entry, or the size of a unit has no
+    /// room, and as `WriteFault` or `NoMemory`. The units before the one that was refused are
+    /// written, it stays as it was or has its base types moved, and those behind it stay as they
+    /// were; the two sections may have got some bytes.
     ///
     /// ```
     /// let mut dwarf = Dwarf::new(alloc);
@@ -54,7 +59,6 @@ impl Dwarf {
     /// dwarf.write(&mut sections)?;
     /// ```
     pub fn write<W: Writer>(&mut self, sections: &mut Sections<W>) -> Result<()>
-        requires { length self.old.units ≤ 1 }
         // Over new plain sections, each in its own byte order: they are read back as the units.
         ensures built { OnOk result
             (AreNewPlain W.meaning sections.old → AreUnwritten self.old →
@@ -63,23 +67,32 @@ impl Dwarf {
         ensures resolves { OnOk result
             (AreNew W.meaning sections.old → AreUnwritten self.old →
             ResolvesTo W.meaning sections.new (settled_dwarf self.old)) }
-        // Over sections of any kind: units that weren't written before are added, others aren't.
-        ensures adds { OnOk result
-            (AppendsUnits W.meaning sections.old sections.new (to_write self.old.units)) }
+        // Over sections of any kind, behind whatever units are pending there: units that weren't
+        // written before are added, and every reference that is open is filled in.
+        ensures completes { OnOk result
+            (CompletesAny W.meaning sections.old sections.new self.old.units self.new.units) }
         ensures emptied { OnOk result (NoFixups sections.new) }
-        ensures marked { OnOk result (self.new ≡ written_dwarf self.old) }
+        ensures marked { OnOk result (AreWritten self.old.units self.new.units) }
         ensures valid { OnOk result
-            (AreUnwritten self.old →
-            IsValid (W.meaning sections.old.debug_info.0).is_plain self.old) }
+            (sections.old.debug_info_fixups ≡ [] → AreUnwritten self.old →
+            IsValidAt (W.meaning sections.old.debug_info.0).is_plain
+            (starts_of W.meaning sections.old) self.old) }
 
-        ensures err { IfErr result (DwarfRefused W.meaning sections.old sections.new self.old) }
-        ensures kept { OnErr result ((self.new ≡ self.old) ⊎ (self.new ≡ settled_dwarf self.old)) }
+        ensures err { IfErr result
+            (λ e. sections.old.debug_info_fixups ≡ [] → AreUnwritten self.old →
+            DwarfRefused W.meaning sections.old sections.new self.old e) }
+        ensures refused { IfErr result
+            (RefusesAny W.meaning sections.old sections.new self.old.units self.new.units) }
+        ensures stopped { OnErr result (AreStopped self.old.units self.new.units) }
         // A valid Dwarf is refused over new sections only for want of memory, or by a fault that
         // was counted. What is valid hangs on whether symbols can be written.
-        ensures complete { AreNew W.meaning sections.old →
+        ensures complete { AreNew W.meaning sections.old → AreUnwritten self.old →
             IsValid (W.meaning sections.old.debug_info.0).is_plain self.old →
             (SomeHasRisen W.meaning sections.old sections.new → ⊥) →
             IfErr result (λ e. e ≡ NoMemory) }
+        // Where every unit is written already, references are patched, and no memory is taken.
+        ensures memory { IsTrue W.patches_in_place →
+            All (λ u. u.is_written ≡ true) self.old.units → IfErr result IsNotMemory }
 
         ensures others { KeepsOthers sections.old sections.new }
         ensures faults { fault_sum W.meaning sections.old ≤ fault_sum W.meaning sections.new }

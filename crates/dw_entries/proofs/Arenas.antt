@@ -1,5 +1,5 @@
 -- What a changed entry makes of all entries.
-use Rattle.std.proofs.Common.{◌≡◌, ◌≢◌, ◌∙◌, sym, ap, subst, ℕ, ◌+◌, ◌<◌, ◌≤◌, zero, suc, List, [], ◌∷◌, Some, None, refl, arith, length, Result, Ok, Err}
+use Rattle.std.proofs.Common.{◌≡◌, ◌≢◌, ◌∙◌, sym, ap, subst, ℕ, ◌+◌, ◌<◌, ◌≤◌, zero, suc, List, [], ◌∷◌, Bool, true, false, Option, Some, None, refl, arith, length, Result, Ok, Err}
 use Rattle.std.specs.Prelude.{slice_set, OnOk, OnErr, IsTrue, ◌==◌, ◌&&◌, nat_lt}
 use Rattle.std.specs.List.{list_any, IsDistinct}
 use Rattle.std.proofs.lemmas.Bool.{and_parts, false≢true, eqb-true}
@@ -144,3 +144,13 @@ arena_new e es is id parent tag children = subst (λ xs. IsArena xs 1) (sym is) 
     once : (p : ℕ) → IsDistinct ◌==◌ (entry_at (e ∷ []) p).children
     once zero = subst (IsDistinct ◌==◌) (sym children) tt
     once (suc p) = tt
+
+-- no entries
+pub nothing-sound : (n : ℕ) → IsArena [] n
+unfolding IsDistinct
+nothing-sound n = record {
+  linked = record { own = λ p c h. absurd (let x : false ≡ true = h in cc); once = λ p. tt; root = refl; unadded = λ i h. refl };
+  numbered = λ i e h. absurd (let x : ◌≡◌ {A = Option EntryValue} None (Some e) = h in cc);
+  within = omega arith;
+  tagged = λ h. absurd (omega (arith, h));
+}

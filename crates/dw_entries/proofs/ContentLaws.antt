@@ -6,14 +6,14 @@ use Rattle.std.proofs.lemmas.List.Elements.{All-nil, All-cons}
 use Rattle.std.proofs.lemmas.Option.{same_Some}
 use Rattle.dw_base.specs.Numbers.{◌>>=◌, when, is_width, fits, word_of}
 use Rattle.dw_base.specs.Leb128.{uleb}
-use Rattle.dw_base.specs.Forms.{Operand, Absent, Number, Signed, Bytes, Text, Kind, Empty, Fixed, Uleb, Sleb, UlebBlock, Zeroed, kind_of}
+use Rattle.dw_base.specs.Forms.{Operand, Absent, Number, Signed, Bytes, Text, Kind, Empty, Fixed, Uleb, Sleb, UlebBlock, Zeroed, kind_of, info_place_of}
 use Rattle.dw_base.specs.Spelling.{kind_bytes}
 use Rattle.dw_base.specs.Spellable.{IsText, KindFits}
 use Rattle.dw_base.specs.declared.common.Encoding.{Encoding}
 use Rattle.dw_base.specs.declared.common.Format.{Format}
 use Rattle.dw_base.specs.declared.common.Format.TheVariants.{Dwarf32, Dwarf64}
 use Rattle.dw_base.proofs.NumberLaws.{bind_parts, when_same, length-num}
-use Rattle.dw_entries.specs.Content.{Content, Nothing, Plain, Wide, Leb, SignedLeb, Block, Closed, Target, Offset, EntryPlace, number_in, has_zero, address_in, content_operand, content_kind, content_size, IsContentRanged}
+use Rattle.dw_entries.specs.Content.{Content, Nothing, Plain, Wide, Leb, SignedLeb, Block, Closed, Target, Offset, EntryPlace, InfoPlace, info_in, number_in, has_zero, address_in, content_operand, content_kind, content_size, IsContentRanged}
 use Rattle.dw_entries.specs.Targets.{Targets}
 use Rattle.dw_entries.specs.Values.{reference_form, supplementary_form, word_form, form_of, content_of}
 use Rattle.dw_entries.specs.declared.value.AttributeValue.{AttributeValue}
@@ -67,6 +67,7 @@ kind_of-form e (values.ImplicitConst z) = kind_of-constant e z (e.version == 5)
 kind_of-form e (values.Flag b) = refl
 kind_of-form e values.FlagPresent = kind_of-present e (nat_le 4 e.version)
 kind_of-form e (values.UnitRef i) = kind_of-reference e e.format
+kind_of-form e (values.DebugInfoRef r) = refl
 kind_of-form e (values.DebugInfoRefSup n) = kind_of-supplementary e e.format
 kind_of-form e (values.DebugMacinfoRef n) = kind_of-offset e (nat_le 4 e.version)
 kind_of-form e (values.DebugMacroRef n) = kind_of-offset e (nat_le 4 e.version)
@@ -128,6 +129,7 @@ content_fits e t (Closed s) o r h = text-fits s (not (has_zero s)) o h (no_zero 
 content_fits e t (Target a) o r h = bound-fits e.address_size (address_in t a) o h
 content_fits e t (Offset section n) o r h = number_in-fits (word_of e.format) _ o h
 content_fits e t (EntryPlace i) o r h = bound-fits (word_of e.format) (t.place i) o h
+content_fits e t (InfoPlace x) o r h = bound-fits (info_place_of e) (info_in t.info x) o h
 
 -- What bytes they have
 
@@ -158,6 +160,7 @@ content_long big e t (Closed s) o h = text-long big s (not (has_zero s)) o h
 content_long big e t (Target a) o h = bound-long big e.address_size (address_in t a) o h
 content_long big e t (Offset section n) o h = number_in-long big (word_of e.format) _ o h
 content_long big e t (EntryPlace i) o h = bound-long big (word_of e.format) (t.place i) o h
+content_long big e t (InfoPlace x) o h = bound-long big (info_place_of e) (info_in t.info x) o h
 
 -- A number has a width
 
@@ -165,7 +168,7 @@ abbrev pub HasWidth : Content → Type 0
 HasWidth (Plain w n) = IsTrue (is_width w)
 HasWidth c = ⊤
 
-word_width : (format : Format) → IsTrue (is_width (word_of format))
+pub word_width : (format : Format) → IsTrue (is_width (word_of format))
 word_width Dwarf32 = refl
 word_width Dwarf64 = refl
 

@@ -1,17 +1,21 @@
 -- What is written for values, whatever their forms are called.
-use Rattle.std.specs.Prelude.{ℕ, ◌+◌, ◌<◌, ◌^◌, ◌+ℤ◌, Bool, false, not, ◌==◌, List, length, Option, Some, None, is_none, ℤ, pos, negsuc, slice_get, IsTrue, ⊤}
+use Rattle.std.specs.Prelude.{ℕ, ◌+◌, ◌<◌, ◌^◌, ◌+ℤ◌, Bool, true, false, not, ◌==◌, List, [], ◌∷◌, length, Option, Some, None, is_none, ℤ, pos, negsuc, slice_get, IsTrue, ⊤}
 use Rattle.std.specs.List.{list_any}
 use Rattle.dw_base.specs.Numbers.{◌>>=◌, when, word_of, fits}
 use Rattle.dw_base.specs.Leb128.{uleb, sleb, fits_i64}
-use Rattle.dw_base.specs.Forms.{Operand, Absent, Number, Signed, Bytes, Text, Kind, Empty, Fixed, Uleb, Sleb, UlebBlock, Zeroed}
+use Rattle.dw_base.specs.Forms.{Operand, Absent, Number, Signed, Bytes, Text, Kind, Empty, Fixed, Uleb, Sleb, UlebBlock, Zeroed, info_place_of}
 use Rattle.dw_base.specs.declared.address.Address.{Address as TargetAddress}
 use Rattle.dw_base.specs.declared.address.Address.TheVariants as addresses
+use Rattle.dw_base.specs.declared.address.DebugInfoRef.{DebugInfoRef as InfoRef}
+use Rattle.dw_base.specs.declared.address.DebugInfoRef.TheVariants as refs
 use Rattle.dw_base.specs.declared.common.Encoding.{Encoding}
 use Rattle.dw_base.specs.declared.error.Error.{Error}
 use Rattle.dw_base.specs.declared.error.Error.TheVariants as errors
 use Rattle.dw_base.specs.declared.section_id.SectionId.{SectionId}
 use Rattle.dw_writer.specs.Causes.{offset_fits}
+use Rattle.dw_writer.specs.Drafts.{Info}
 use Rattle.dw_writer.specs.Layout.{start_of}
+use Rattle.dw_writer.specs.declared.fixup.DebugInfoFixup.{DebugInfoFixup}
 use Rattle.dw_entries.specs.Targets.{Targets}
 
 -- What stands for a value in an entry, by how it is laid out (DWARF 5, 7.5.5).
@@ -34,6 +38,8 @@ pub data Content : Type 0 where
   Offset : SectionId → ℕ → Content
   -- the place in the unit of an entry
   EntryPlace : ℕ → Content
+  -- the place in .debug_info of an entry of any unit
+  InfoPlace : InfoRef → Content
 
 -- a number, where it fits so many bytes
 abbrev pub number_in : ℕ → ℕ → Option Operand
@@ -53,6 +59,11 @@ abbrev pub address_in : Targets → TargetAddress → Option ℕ
 address_in t (addresses.Constant n) = Some n
 address_in t (addresses.Symbol s a) = slice_get t.layout.symbols s >>= λ v. natural (a +ℤ pos v)
 
+-- an entry's place in .debug_info; one of another object has none
+abbrev pub info_in : Info → InfoRef → Option ℕ
+info_in info (refs.Symbol s) = None
+info_in info (refs.Entry u i) = info u.0 i.0
+
 -- the operand, if each number in it fits and what it leads to is there
 abbrev pub content_operand : Encoding → Targets → Content → Option Operand
 content_operand e t Nothing = Some Absent
@@ -65,6 +76,7 @@ content_operand e t (Closed s) = when (not (has_zero s)) (Some (Text s))
 content_operand e t (Target a) = address_in t a >>= number_in e.address_size
 content_operand e t (Offset section n) = number_in (word_of e.format) (n + start_of t.layout section)
 content_operand e t (EntryPlace i) = t.place i >>= number_in (word_of e.format)
+content_operand e t (InfoPlace r) = info_in t.info r >>= number_in (info_place_of e)
 
 -- the kind of its form
 abbrev pub content_kind : Encoding → Content → Kind
@@ -78,6 +90,7 @@ content_kind e (Closed s) = Zeroed
 content_kind e (Target a) = Fixed e.address_size
 content_kind e (Offset section n) = Fixed (word_of e.format)
 content_kind e (EntryPlace i) = Fixed (word_of e.format)
+content_kind e (InfoPlace r) = Fixed (info_place_of e)
 
 -- the bytes of it
 abbrev pub content_size : Encoding → Content → ℕ
@@ -91,6 +104,17 @@ content_size e (Closed s) = length s + 1
 content_size e (Target a) = e.address_size
 content_size e (Offset section n) = word_of e.format
 content_size e (EntryPlace i) = word_of e.format
+content_size e (InfoPlace r) = info_place_of e
+
+-- a place in .debug_info is filled in once every unit stands
+abbrev pub info_holes : ℕ → InfoRef → List DebugInfoFixup
+info_holes w (refs.Symbol s) = []
+info_holes w (refs.Entry u i) = record { offset = 0; size = w; unit = u; entry = i } ∷ []
+
+-- the places in it that are left open
+abbrev pub content_holes : Encoding → Content → List DebugInfoFixup
+content_holes e (InfoPlace r) = info_holes (info_place_of e) r
+content_holes e c = []
 
 -- the numbers of it are those of their types
 abbrev pub IsContentRanged : Content → Type 0
@@ -128,6 +152,11 @@ abbrev pub reference_fails : Option ℕ → Error → Bool
 reference_fails place errors.InvalidReference = is_none place
 reference_fails place err = false
 
+-- an entry of another object is named
+abbrev pub info_fails : InfoRef → Error → Bool
+info_fails (refs.Symbol s) errors.InvalidReference = true
+info_fails r err = false
+
 -- why what is written is refused, where entries have these places
 abbrev pub content_fails : Encoding → (ℕ → Option ℕ) → Bool → Content → Error → Bool
 content_fails e place is_plain (Plain w n) err = number_fails w n err
@@ -135,4 +164,5 @@ content_fails e place is_plain (Closed s) err = text_fails s err
 content_fails e place is_plain (Target a) err = address_fails e.address_size is_plain a err
 content_fails e place is_plain (Offset section n) err = offset_fails (word_of e.format) is_plain n err
 content_fails e place is_plain (EntryPlace i) err = reference_fails (place i) err
+content_fails e place is_plain (InfoPlace r) err = info_fails r err
 content_fails e place is_plain c err = false

@@ -14,3 +14,4 @@ content_in (held.Closed s) = of.Closed s.now
 content_in (held.Target a) = of.Target a
 content_in (held.Offset n section) = of.Offset section n
 content_in (held.EntryPlace i) = of.EntryPlace i.0
+content_in (held.InfoPlace r) = of.InfoPlace r

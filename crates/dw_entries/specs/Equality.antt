@@ -5,14 +5,14 @@ use Rattle.std.specs.Bool.{Decides}
 use Rattle.std.specs.Cmp.{IsEquivalence, decided, unsigned_Decides, signed_Decides}
 use Rattle.std.specs.Cmp.Lexicographic.{pointwise_decides}
 use Rattle.std.specs.Ordering.{int_eq}
-use Rattle.dw_entries.specs.Keys.{Key, key_by, key_eq, value_key, value_by, value_by-key}
+use Rattle.dw_entries.specs.Keys.{Key, key_eq, value_key, value_by, value_by-key}
 use Rattle.dw_entries.specs.declared.key.Key.{Key as Fields}
 use Rattle.dw_entries.specs.declared.value.AttributeValue.{AttributeValue}
 use Rattle.dw_entries.specs.declared.attribute.Attribute.{Attribute}
 
 -- the key that fields are
 abbrev pub key_in : Fields → Key
-key_in k = key_by k.kind k.number k.signed k.bytes.now
+key_in k = record { kind = k.kind; number = k.number; unit = k.unit; signed = k.signed; bytes = k.bytes.now }
 
 abbrev pub value_eq : AttributeValue → AttributeValue → Bool
 value_eq v w = key_eq (value_key v) (value_key w)
@@ -29,18 +29,22 @@ both false b p q = (λ e. absurd (let k : false ≡ true = e in cc), λ h. p.1 h
 same_test : {A B : Type 0} (a : Bool) → (A → B) → (B → A) → Decides a A → Decides a B
 same_test a f g d = (λ e. f (d.0 e), λ h. d.1 (g h))
 
-key_is : (j k : Key) → (j.kind ≡ k.kind) × ((j.number ≡ k.number) × ((j.signed ≡ k.signed) × (j.bytes ≡ k.bytes))) → j ≡ k
-key_is j k h = λ i. key_by (h.0 i) (h.1.0 i) (h.1.1.0 i) (h.1.1.1 i)
+abbrev AreParts : Key → Key → Type 0
+AreParts j k = (j.kind ≡ k.kind) × ((j.number ≡ k.number) × ((j.unit ≡ k.unit) × ((j.signed ≡ k.signed) × (j.bytes ≡ k.bytes))))
 
-key_parts : (j k : Key) → j ≡ k → (j.kind ≡ k.kind) × ((j.number ≡ k.number) × ((j.signed ≡ k.signed) × (j.bytes ≡ k.bytes)))
-key_parts j k h = (ap (λ x. x.kind) h, (ap (λ x. x.number) h, (ap (λ x. x.signed) h, ap (λ x. x.bytes) h)))
+key_is : (j k : Key) → AreParts j k → j ≡ k
+key_is j k h = λ i. record { kind = h.0 i; number = h.1.0 i; unit = h.1.1.0 i; signed = h.1.1.1.0 i; bytes = h.1.1.1.1 i }
+
+key_parts : (j k : Key) → j ≡ k → AreParts j k
+key_parts j k h = (ap (λ x. x.kind) h, (ap (λ x. x.number) h, (ap (λ x. x.unit) h, (ap (λ x. x.signed) h, ap (λ x. x.bytes) h))))
 
 pub key_decides : (j k : Key) → Decides (key_eq j k) (j ≡ k)
 key_decides j k =
     same_test (key_eq j k) (key_is j k) (key_parts j k)
     (both (j.kind == k.kind) _ (unsigned_Decides j.kind k.kind)
     (both (j.number == k.number) _ (unsigned_Decides j.number k.number)
-    (both (int_eq j.signed k.signed) _ (signed_Decides j.signed k.signed) (pointwise_decides unsigned_Decides j.bytes k.bytes))))
+    (both (j.unit == k.unit) _ (unsigned_Decides j.unit k.unit)
+    (both (int_eq j.signed k.signed) _ (signed_Decides j.signed k.signed) (pointwise_decides unsigned_Decides j.bytes k.bytes)))))
 
 pub value_decides : (v w : AttributeValue) → Decides (value_eq v w) (v ≡ w)
 value_decides v w =

@@ -1,9 +1,11 @@
--- Keys: a value as four fields, by which values are told apart.
+-- Keys: a value as five fields, by which values are told apart.
 use Rattle.std.specs.Prelude.{◌≡◌, ℕ, zero, suc, ◌==◌, Bool, true, false, ◌&&◌, List, [], nat_eq, ℤ, pos, refl, if◌then◌else◌}
 use Rattle.std.specs.Ordering.{int_eq}
 use Rattle.std.specs.Cmp.Lexicographic.{pointwise}
 use Rattle.dw_base.specs.declared.address.Address.{Address}
 use Rattle.dw_base.specs.declared.address.Address.TheVariants as addresses
+use Rattle.dw_base.specs.declared.address.DebugInfoRef.{DebugInfoRef as InfoRef}
+use Rattle.dw_base.specs.declared.address.DebugInfoRef.TheVariants as refs
 use Rattle.dw_entries.specs.Values.{flag_byte}
 use Rattle.dw_entries.specs.declared.value.AttributeValue.{AttributeValue}
 use Rattle.dw_entries.specs.declared.value.AttributeValue.TheVariants as values
@@ -11,16 +13,21 @@ use Rattle.dw_entries.specs.declared.value.AttributeValue.TheVariants as values
 pub record Key : Type 0 where
   pub kind : ℕ
   pub number : ℕ
+  pub unit : ℕ
   pub signed : ℤ
   pub bytes : List ℕ
 
 abbrev pub key_by : ℕ → ℕ → ℤ → List ℕ → Key
 key_by kind number signed bytes =
-    record { kind = kind; number = number; signed = signed; bytes = bytes }
+    record { kind = kind; number = number; unit = 0; signed = signed; bytes = bytes }
 
 abbrev pub address_key : Address → Key
 address_key (addresses.Constant n) = key_by 0 n (pos 0) []
 address_key (addresses.Symbol s addend) = key_by 1 s addend []
+
+abbrev pub entry_key : InfoRef → Key
+entry_key (refs.Symbol s) = key_by 32 s (pos 0) []
+entry_key (refs.Entry u i) = record { kind = 33; number = i.0; unit = u.0; signed = pos 0; bytes = [] }
 
 abbrev pub value_key : AttributeValue → Key
 value_key (values.Address a) = address_key a
@@ -36,6 +43,7 @@ value_key (values.ImplicitConst z) = key_by 10 0 z []
 value_key (values.Flag b) = key_by 11 (flag_byte b) (pos 0) []
 value_key values.FlagPresent = key_by 12 0 (pos 0) []
 value_key (values.UnitRef i) = key_by 13 i.0 (pos 0) []
+value_key (values.DebugInfoRef r) = entry_key r
 value_key (values.DebugInfoRefSup n) = key_by 14 n.0 (pos 0) []
 value_key (values.DebugMacinfoRef n) = key_by 15 n.0 (pos 0) []
 value_key (values.DebugMacroRef n) = key_by 16 n.0 (pos 0) []
@@ -93,7 +101,9 @@ value_by k =
     if k.kind == 28 then values.IdentifierCase (record { 0 = k.number }) else
     if k.kind == 29 then values.CallingConvention (record { 0 = k.number }) else
     if k.kind == 30 then values.Inline (record { 0 = k.number }) else
-    values.Ordering (record { 0 = k.number })
+    if k.kind == 31 then values.Ordering (record { 0 = k.number }) else
+    if k.kind == 32 then values.DebugInfoRef (refs.Symbol k.number) else
+    values.DebugInfoRef (refs.Entry (record { 0 = k.unit }) (record { 0 = k.number }))
 
 pub value_by-key : (v : AttributeValue) → value_by (value_key v) ≡ v
 value_by-key (values.Address (addresses.Constant n)) = refl
@@ -111,6 +121,8 @@ value_by-key (values.Flag false) = refl
 value_by-key (values.Flag true) = refl
 value_by-key values.FlagPresent = refl
 value_by-key (values.UnitRef i) = refl
+value_by-key (values.DebugInfoRef (refs.Symbol s)) = refl
+value_by-key (values.DebugInfoRef (refs.Entry u i)) = refl
 value_by-key (values.DebugInfoRefSup n) = refl
 value_by-key (values.DebugMacinfoRef n) = refl
 value_by-key (values.DebugMacroRef n) = refl
@@ -133,4 +145,4 @@ value_by-key (values.Ordering n) = refl
 -- whether keys are equal, field by field
 abbrev pub key_eq : Key → Key → Bool
 key_eq j k =
-    (j.kind == k.kind) && ((j.number == k.number) && (int_eq j.signed k.signed && pointwise nat_eq j.bytes k.bytes))
+    (j.kind == k.kind) && ((j.number == k.number) && ((j.unit == k.unit) && (int_eq j.signed k.signed && pointwise nat_eq j.bytes k.bytes)))

@@ -1,7 +1,9 @@
 -- What the operands of a unit's values lead to.
-use Rattle.std.specs.Prelude.{ℕ, Option}
+use Rattle.std.specs.Prelude.{◌≡◌, ℕ, List, [], ◌∷◌, Option, Some, IsTrue}
+use Rattle.dw_base.specs.Numbers.{fits}
 use Rattle.dw_writer.specs.Drafts.{Info}
 use Rattle.dw_writer.specs.Layout.{Layout}
+use Rattle.dw_writer.specs.declared.fixup.DebugInfoFixup.{DebugInfoFixup}
 
 -- Where the entries of a unit's tree stand, counted from the unit's first byte, and the place past each.
 pub record UnitTargets : Type 0 where
@@ -18,3 +20,14 @@ pub record Targets : Type 0 where
 -- what the operands of a unit that is written lead to in a layout
 abbrev pub targets_in : UnitTargets → Layout → Info → Targets
 targets_in u l info = record { place = u.place; past = u.past; info = info; layout = l }
+
+-- an entry has a place in .debug_info that fits so many bytes
+pub record HasInfoPlace (info : Info) (h : DebugInfoFixup) : Type 0 where
+  pub place : ℕ
+  pub is : info h.unit.0 h.entry.0 ≡ Some place
+  pub fits : IsTrue (fits h.size place)
+
+-- so has each entry that a reference is left open for
+abbrev pub HaveInfoPlaces : Info → List DebugInfoFixup → Type 0
+HaveInfoPlaces info [] = Unit {0}
+HaveInfoPlaces info (h ∷ hs) = HasInfoPlace info h × HaveInfoPlaces info hs

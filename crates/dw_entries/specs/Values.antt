@@ -3,7 +3,7 @@ use Rattle.std.specs.Prelude.{ℕ, Bool, true, false, ◌==◌, nat_le, List, []
 use Rattle.dw_base.specs.Numbers.{◌>>=◌, word_of}
 use Rattle.dw_base.specs.Forms.{Operand, kind_of}
 use Rattle.dw_base.specs.Spelling.{operand_bytes}
-use Rattle.dw_base.specs.declared.constants.TheConstants.{DW_FORM_addr, DW_FORM_block, DW_FORM_data1, DW_FORM_data2, DW_FORM_data4, DW_FORM_data8, DW_FORM_data16, DW_FORM_sdata, DW_FORM_udata, DW_FORM_implicit_const, DW_FORM_flag, DW_FORM_flag_present, DW_FORM_ref4, DW_FORM_ref8, DW_FORM_ref_sup4, DW_FORM_ref_sup8, DW_FORM_ref_sig8, DW_FORM_sec_offset, DW_FORM_string, DW_FORM_strp_sup}
+use Rattle.dw_base.specs.declared.constants.TheConstants.{DW_FORM_addr, DW_FORM_block, DW_FORM_data1, DW_FORM_data2, DW_FORM_data4, DW_FORM_data8, DW_FORM_data16, DW_FORM_sdata, DW_FORM_udata, DW_FORM_implicit_const, DW_FORM_flag, DW_FORM_flag_present, DW_FORM_ref4, DW_FORM_ref8, DW_FORM_ref_addr, DW_FORM_ref_sup4, DW_FORM_ref_sup8, DW_FORM_ref_sig8, DW_FORM_sec_offset, DW_FORM_string, DW_FORM_strp_sup}
 use Rattle.dw_base.specs.declared.common.Encoding.{Encoding}
 use Rattle.dw_base.specs.declared.common.Format.{Format}
 use Rattle.dw_base.specs.declared.common.Format.TheVariants.{Dwarf32, Dwarf64}
@@ -12,7 +12,7 @@ use Rattle.dw_base.specs.declared.section_id.SectionId.TheVariants.{DebugMacinfo
 use Rattle.dw_writer.specs.Texts.{Text}
 use Rattle.dw_writer.specs.Drafts.{Draft}
 use Rattle.dw_writer.specs.declared.fixup.DebugInfoFixup.{DebugInfoFixup}
-use Rattle.dw_entries.specs.Content.{Content, Nothing, Plain, Wide, Leb, SignedLeb, Block, Closed, Target, Offset, EntryPlace, content_operand, content_size, content_fails, IsContentRanged}
+use Rattle.dw_entries.specs.Content.{Content, Nothing, Plain, Wide, Leb, SignedLeb, Block, Closed, Target, Offset, EntryPlace, InfoPlace, content_operand, content_size, content_holes, content_fails, IsContentRanged}
 use Rattle.dw_entries.specs.Targets.{Targets, UnitTargets, targets_in}
 use Rattle.dw_entries.specs.declared.value.AttributeValue.{AttributeValue}
 use Rattle.dw_entries.specs.declared.value.AttributeValue.TheVariants as values
@@ -68,6 +68,7 @@ form_of e (values.ImplicitConst z) = constant_form e
 form_of e (values.Flag b) = DW_FORM_flag.0
 form_of e values.FlagPresent = present_form e
 form_of e (values.UnitRef i) = reference_form e.format
+form_of e (values.DebugInfoRef r) = DW_FORM_ref_addr.0
 form_of e (values.DebugInfoRefSup n) = supplementary_form e.format
 form_of e (values.DebugMacinfoRef n) = offset_form e
 form_of e (values.DebugMacroRef n) = offset_form e
@@ -112,6 +113,7 @@ content_of e (values.ImplicitConst z) = constant_content e z
 content_of e (values.Flag b) = Plain 1 (flag_byte b)
 content_of e values.FlagPresent = present_content e
 content_of e (values.UnitRef i) = EntryPlace i.0
+content_of e (values.DebugInfoRef r) = InfoPlace r
 content_of e (values.DebugInfoRefSup n) = Plain (word_of e.format) n.0
 content_of e (values.DebugMacinfoRef n) = Offset DebugMacinfo n.0
 content_of e (values.DebugMacroRef n) = Offset DebugMacro n.0
@@ -141,7 +143,7 @@ operand_size e place v = content_size e (content_of e v)
 
 -- the references in it to entries by their place in .debug_info
 abbrev pub operand_holes : Encoding → (ℕ → Option ℕ) → AttributeValue → List DebugInfoFixup
-operand_holes e place v = []
+operand_holes e place v = content_holes e (content_of e v)
 
 abbrev pub value_text : Bool → Encoding → Targets → AttributeValue → Text
 value_text big e t v = operand_of big e t v >>= λ o. Some (operand_bytes big (kind_of e (form_of e v)) o)

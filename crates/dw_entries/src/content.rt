@@ -7,7 +7,7 @@ ghost use Rattle.dw_entries.specs.ContentView.{content_in};
 ghost use Rattle.dw_entries.specs.Values.{content_of, constant_content as content_of_constant, present_content as content_of_flag};
 
 use crate::value::AttributeValue;
-use dw_base::{Address, Encoding, SectionId, UnitEntryId};
+use dw_base::{Address, DebugInfoRef, Encoding, SectionId, UnitEntryId};
 
 /// What stands for a value in an entry, by how it is laid out (DWARF 5, 7.5.5).
 #[derive(Clone, Copy, Debug, PartialEq, Eq)]
@@ -32,6 +32,9 @@ pub enum Content<'a> {
     Offset { value: usize, section: SectionId },
     /// The place in the unit of an entry, in a word of the unit's format.
     EntryPlace(UnitEntryId),
+    /// The place in `.debug_info` of an entry of any unit, in a word of the unit's format, or in
+    /// version 2 in as many bytes as an address has.
+    InfoPlace(DebugInfoRef),
 }
 
 impl AttributeValue {
@@ -53,6 +56,7 @@ impl AttributeValue {
             AttributeValue::Flag(is_set) => plain(*is_set as u64, 1),
             AttributeValue::FlagPresent => present_content(encoding),
             AttributeValue::UnitRef(entry) => Content::EntryPlace(*entry),
+            AttributeValue::DebugInfoRef(entry) => Content::InfoPlace(*entry),
             AttributeValue::DebugInfoRefSup(offset) => word(encoding, offset.0),
             AttributeValue::DebugMacinfoRef(offset) => {
                 offset_into(SectionId::DebugMacinfo, offset.0)

@@ -56,6 +56,13 @@ impl Entries {
         *self.entries.allocator()
     }
 
+    /// Gives the entries up, and the memory that they take. The ids that were handed out stay so.
+    pub fn free(&mut self)
+        ensures { self.new ≡ record self.old { entries = [] } }
+    {
+        self.entries = Vec::new(self.allocator());
+    }
+
     /// The entries, each at the index that its id names.
     pub fn as_slice(&self) -> &[DebuggingInformationEntry]
         ensures value { result.now ≡ self.now.entries }

@@ -2,17 +2,18 @@
 
 ghost use Rattle.std.specs.Prelude.{◌≡◌, ◌↔◌, IsTrue, pos, []};
 ghost use Rattle.std.specs.Cmp.{partial_equiv_from_equiv};
-ghost use Rattle.dw_entries.specs.Keys.{key_by, key_eq, address_key, value_key};
+ghost use Rattle.dw_entries.specs.Keys.{key_by, key_eq, address_key, entry_key, value_key};
 ghost use Rattle.dw_entries.specs.Equality.{key_in, value_eq, value_equiv};
 
 use crate::value::AttributeValue;
-use dw_base::Address;
+use dw_base::{Address, DebugInfoRef};
 
 /// What tells a value apart from others.
 #[derive(Clone, Copy)]
 struct Key<'a> {
     kind: u8,
     number: u128,
+    unit: usize,
     signed: i64,
     bytes: &'a [u8],
 }
@@ -25,6 +26,7 @@ impl<'a> Key<'a> {
         Key {
             kind,
             number,
+            unit: 0,
             signed: 0,
             bytes: &[],
         }
@@ -37,6 +39,7 @@ impl<'a> Key<'a> {
         Key {
             kind,
             number: 0,
+            unit: 0,
             signed,
             bytes: &[],
         }
@@ -49,6 +52,7 @@ impl<'a> Key<'a> {
         Key {
             kind,
             number: 0,
+            unit: 0,
             signed: 0,
             bytes,
         }
@@ -63,7 +67,24 @@ impl<'a> Key<'a> {
             Address::Symbol { symbol, addend } => Key {
                 kind: 1,
                 number: symbol as u128,
+                unit: 0,
                 signed: addend,
+                bytes: &[],
+            },
+        }
+    }
+
+    /// The key of an entry of any unit, whose two variants have a kind each.
+    fn entry(entry: DebugInfoRef) -> Key<'a>
+        ensures { key_in result ≡ entry_key entry }
+    {
+        match entry {
+            DebugInfoRef::Symbol(symbol) => Key::number(32, symbol as u128),
+            DebugInfoRef::Entry(unit, entry) => Key {
+                kind: 33,
+                number: entry.0 as u128,
+                unit: unit.0,
+                signed: 0,
                 bytes: &[],
             },
         }
@@ -75,6 +96,7 @@ impl<'a> Key<'a> {
     {
         self.kind == other.kind
             && self.number == other.number
+            && self.unit == other.unit
             && self.signed == other.signed
             && self.bytes == other.bytes
     }
@@ -99,6 +121,7 @@ impl AttributeValue {
             AttributeValue::Flag(is_set) => Key::number(11, *is_set as u128),
             AttributeValue::FlagPresent => Key::number(12, 0),
             AttributeValue::UnitRef(entry) => Key::number(13, entry.0 as u128),
+            AttributeValue::DebugInfoRef(entry) => Key::entry(*entry),
             AttributeValue::DebugInfoRefSup(offset) => Key::number(14, offset.0 as u128),
             AttributeValue::DebugMacinfoRef(offset) => Key::number(15, offset.0 as u128),
             AttributeValue::DebugMacroRef(offset) => Key::number(16, offset.0 as u128),

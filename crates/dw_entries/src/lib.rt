@@ -24,4 +24,4 @@ pub use entries::Entries;
 pub use entry::DebuggingInformationEntry;
 pub use size::sum;
 pub use tree::{Item, flatten};
-pub use value::{AttributeValue, reference_form};
+pub use value::{AttributeValue, info_place_size, reference_form};

@@ -4,17 +4,18 @@ ghost use Rattle.std.specs.Prelude.{◌≡◌, ◌↔◌, ◌+◌, ◌≤◌, �
 ghost use Rattle.dw_base.specs.declared.error.Error.TheVariants.{NoMemory, ValueTooLarge};
 ghost use Rattle.dw_entries.specs.Values.{form_of, constant_of, operand_size, constant_form, declared_constant, reference_form as form_of_reference, present_form as form_of_present, offset_form as form_of_offset, supplementary_form as form_of_supplementary};
 ghost use Rattle.dw_base.specs.Leb128.{uleb};
+ghost use Rattle.dw_base.specs.Forms.{info_place_of};
 
 use crate::content::Content;
 use crate::size::sum;
 use dw_base::constants::{
     DW_FORM_addr, DW_FORM_block, DW_FORM_data1, DW_FORM_data2, DW_FORM_data4, DW_FORM_data8,
-    DW_FORM_data16, DW_FORM_flag, DW_FORM_flag_present, DW_FORM_implicit_const, DW_FORM_ref_sig8,
-    DW_FORM_ref_sup4, DW_FORM_ref_sup8, DW_FORM_ref4, DW_FORM_ref8, DW_FORM_sdata,
+    DW_FORM_data16, DW_FORM_flag, DW_FORM_flag_present, DW_FORM_implicit_const, DW_FORM_ref_addr,
+    DW_FORM_ref_sig8, DW_FORM_ref_sup4, DW_FORM_ref_sup8, DW_FORM_ref4, DW_FORM_ref8, DW_FORM_sdata,
     DW_FORM_sec_offset, DW_FORM_string, DW_FORM_strp_sup, DW_FORM_udata,
 };
 use dw_base::{
-    Address, DebugInfoOffset, DebugMacinfoOffset, DebugMacroOffset, DebugStrOffset,
+    Address, DebugInfoOffset, DebugInfoRef, DebugMacinfoOffset, DebugMacroOffset, DebugStrOffset,
     DebugTypeSignature, DwAccess, DwAddr, DwAte, DwCc, DwDs, DwEnd, DwForm, DwId, DwInl, DwLang,
     DwOrd, DwVirtuality, DwVis, Encoding, Format, Result, UnitEntryId, sleb128_size, uleb128_size,
 };
@@ -51,6 +52,10 @@ pub enum AttributeValue {
     FlagPresent,
     /// An entry of the same unit, by its place in the unit.
     UnitRef(UnitEntryId),
+    /// An entry of any unit, by its place in `.debug_info`: in a word of the unit's format, or in
+    /// version 2 in as many bytes as an address has (DWARF 5, 7.5.5). It is filled in once every
+    /// unit stands.
+    DebugInfoRef(DebugInfoRef),
     /// An entry of the supplementary object file, by its place in that file's `.debug_info`
     /// (DWARF 5, 7.3.6).
     DebugInfoRefSup(DebugInfoOffset),
@@ -125,6 +130,7 @@ impl AttributeValue {
             AttributeValue::Flag(_) => DW_FORM_flag,
             AttributeValue::FlagPresent => present_form(encoding),
             AttributeValue::UnitRef(_) => reference_form(encoding.format),
+            AttributeValue::DebugInfoRef(_) => DW_FORM_ref_addr,
             AttributeValue::DebugInfoRefSup(_) => supplementary_form(encoding.format),
             AttributeValue::DebugMacinfoRef(_) => offset_form(encoding),
             AttributeValue::DebugMacroRef(_) => offset_form(encoding),
@@ -168,7 +174,19 @@ impl AttributeValue {
             Content::Target(_) => Ok(encoding.address_size as u64),
             Content::Offset { .. } => Ok(encoding.format.word_size() as u64),
             Content::EntryPlace(_) => Ok(encoding.format.word_size() as u64),
+            Content::InfoPlace(_) => Ok(info_place_size(encoding) as u64),
         }
+    }
+}
+
+/// The bytes of a place in `.debug_info` (DWARF 5, 7.5.5; as an address in version 2).
+pub fn info_place_size(encoding: Encoding) -> u8
+    ensures { result ≡ info_place_of encoding }
+{
+    if encoding.version == 2 {
+        encoding.address_size
+    } else {
+        encoding.format.word_size()
     }
 }
 

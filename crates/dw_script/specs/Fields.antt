@@ -1,6 +1,7 @@
 -- The typed fields of a line, each read from the front of those that are left.
 use Rattle.std.specs.Prelude.{ℕ, ℤ, ◌^◌, Bool, true, false, List, [], ◌∷◌, Result, Ok, Err, ok_or, ◌==◌, if◌then◌else◌, bytes_eq, codes}
 use Rattle.dw_base.specs.declared.address.Address.{Address}
+use Rattle.dw_base.specs.declared.address.DebugInfoRef.{DebugInfoRef as InfoRef}
 use Rattle.dw_base.specs.declared.common.Format.{Format}
 use Rattle.dw_base.specs.declared.common.Format.TheVariants.{Dwarf32, Dwarf64}
 use Rattle.dw_base.specs.declared.endianity.RunTimeEndian.{RunTimeEndian}
@@ -8,7 +9,7 @@ use Rattle.dw_base.specs.declared.endianity.RunTimeEndian.TheVariants.{Little, B
 use Rattle.dw_script.specs.declared.reason.Reason.{Reason}
 use Rattle.dw_script.specs.declared.reason.Reason.TheVariants.{UnknownWord, BadNumber, WrongFields}
 use Rattle.dw_script.specs.declared.word.Word.{Word}
-use Rattle.dw_script.specs.Addresses.{address_of}
+use Rattle.dw_script.specs.Addresses.{address_of, reference_of}
 use Rattle.dw_script.specs.Numbers.{number_below, signed_number}
 use Rattle.dw_script.specs.Words.{word_of}
 
@@ -68,6 +69,13 @@ address_field fields = do
   (field, fields) ← next_field fields
   address ← ok_or (address_of field) BadNumber
   Ok (address, fields)
+
+-- a reference to an entry of any unit, and the fields after it
+abbrev pub reference_field : Fields → Outcome (InfoRef × Fields)
+reference_field fields = do
+  (field, fields) ← next_field fields
+  reference ← ok_or (reference_of field) BadNumber
+  Ok (reference, fields)
 
 -- the width of offsets in bits, and the fields after it
 abbrev pub format_field : Fields → Outcome (Format × Fields)

@@ -28,7 +28,7 @@ kinds =
     ∷ (codes "types_ref", kind.DebugTypesRef)
     ∷ (codes "str_ref_sup", kind.DebugStrRefSup)
     ∷ (codes "exprloc", kind.Unbuilt)
-    ∷ (codes "info_ref", kind.Unbuilt)
+    ∷ (codes "info_ref", kind.DebugInfoRef)
     ∷ (codes "line_program_ref", kind.Unbuilt)
     ∷ (codes "loc_ref", kind.Unbuilt)
     ∷ (codes "range_ref", kind.Unbuilt)

@@ -11,7 +11,7 @@ use Rattle.dw_script.specs.declared.value.Value.{Value}
 use Rattle.dw_script.specs.declared.value.Value.TheVariants as value
 use Rattle.dw_script.specs.Bytes.{hex_bytes}
 use Rattle.dw_script.specs.Codes.{tag_of, attribute_of}
-use Rattle.dw_script.specs.Fields.{Fields, Outcome, ◌>>=◌, next_field, number_field, signed_field, flag_field, address_field}
+use Rattle.dw_script.specs.Fields.{Fields, Outcome, ◌>>=◌, next_field, number_field, signed_field, flag_field, address_field, reference_field}
 use Rattle.dw_script.specs.Kinds.{kind_of}
 
 -- a tag, and the fields after it
@@ -78,6 +78,7 @@ value_of_kind kind.ImplicitConst fields = made value.ImplicitConst (signed_field
 value_of_kind kind.Flag fields = made value.Flag (flag_field fields)
 value_of_kind kind.FlagPresent fields = Ok (value.FlagPresent, fields)
 value_of_kind kind.UnitRef fields = made value.UnitRef (number_field (2 ^ 64) fields)
+value_of_kind kind.DebugInfoRef fields = made value.DebugInfoRef (reference_field fields)
 value_of_kind kind.DebugInfoRefSup fields = made (λ n. value.DebugInfoRefSup (record { 0 = n })) (number_field (2 ^ 64) fields)
 value_of_kind kind.DebugMacinfoRef fields = made (λ n. value.DebugMacinfoRef (record { 0 = n })) (number_field (2 ^ 64) fields)
 value_of_kind kind.DebugMacroRef fields = made (λ n. value.DebugMacroRef (record { 0 = n })) (number_field (2 ^ 64) fields)

@@ -1,12 +1,12 @@
-//! Addresses: numbers, or symbols with an addend.
+//! Addresses: numbers, or symbols with an addend. References: entries of any unit, or symbols.
 
 ghost use Rattle.std.specs.Prelude.{◌≡◌};
-ghost use Rattle.dw_script.specs.Addresses.{address_of, symbol_address};
+ghost use Rattle.dw_script.specs.Addresses.{address_of, symbol_address, reference_of, entry_reference};
 ghost use Rattle.dw_script.specs.Pieces.{pieces_left};
 
 use crate::number::{parse_i64, parse_u64, parse_usize};
 use crate::pieces::Pieces;
-use dw_base::Address;
+use dw_base::{Address, DebugInfoRef, UnitEntryId, UnitId};
 
 /// The address that a field spells.
 pub(crate) fn parse_address(field: &[u8]) -> Option<Address>
@@ -26,6 +26,28 @@ fn parse_symbol(mut parts: Pieces<'_>) -> Option<Address>
     let addend = parse_i64(parts.next()?)?;
     match parts.next() {
         None => Some(Address::Symbol { symbol, addend }),
+        Some(_) => None,
+    }
+}
+
+/// The reference to an entry of any unit that a field spells.
+pub(crate) fn parse_reference(field: &[u8]) -> Option<DebugInfoRef>
+    ensures { result ≡ reference_of field.now }
+{
+    match field {
+        [b's', b'y', b'm', b':', symbol @ ..] => Some(DebugInfoRef::Symbol(parse_usize(symbol)?)),
+        _ => parse_entry(Pieces::new(field, b':')),
+    }
+}
+
+// The entry that a unit's number and its own are.
+fn parse_entry(mut parts: Pieces<'_>) -> Option<DebugInfoRef>
+    ensures { result ≡ entry_reference (pieces_left parts.entry) }
+{
+    let unit = UnitId::new(parse_usize(parts.next()?)?);
+    let entry = UnitEntryId::new(parse_usize(parts.next()?)?);
+    match parts.next() {
+        None => Some(DebugInfoRef::Entry(unit, entry)),
         Some(_) => None,
     }
 }

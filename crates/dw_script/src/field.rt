@@ -3,10 +3,10 @@
 
 ghost use Rattle.std.specs.Prelude.{◌≡◌, ◌^◌, Ok, Err, MatchResult};
 ghost use Rattle.dw_script.specs.Pieces.{pieces_left};
-ghost use Rattle.dw_script.specs.Fields.{address_field, byte_order_field, end_of_fields, flag_field, format_field, next_field, number_field, signed_field, with_rest, word_field};
+ghost use Rattle.dw_script.specs.Fields.{address_field, reference_field, byte_order_field, end_of_fields, flag_field, format_field, next_field, number_field, signed_field, with_rest, word_field};
 ghost use Rattle.dw_script.specs.Values.{attribute_field, hex_field, kind_field, tag_field};
 
-use crate::address::parse_address;
+use crate::address::{parse_address, parse_reference};
 use crate::code::{parse_attribute, parse_tag};
 use crate::hex_bytes::HexBytes;
 use crate::kind::Kind;
@@ -16,7 +16,7 @@ use crate::number::{
 use crate::pieces::Pieces;
 use crate::reason::Reason;
 use crate::word::Word;
-use dw_base::{Address, DwAt, DwTag, Format, RunTimeEndian};
+use dw_base::{Address, DebugInfoRef, DwAt, DwTag, Format, RunTimeEndian};
 
 /// Any field, as it stands.
 pub(crate) fn next_field<'a>(fields: &mut Pieces<'a>) -> Result<&'a [u8], Reason>
@@ -97,6 +97,14 @@ pub(crate) fn next_address(fields: &mut Pieces<'_>) -> Result<Address, Reason>
         address_field (pieces_left fields.old) }
 {
     parse_address(next_field(fields)?).ok_or(Reason::BadNumber)
+}
+
+/// A reference to an entry of any unit, by the numbers of both, or by a symbol.
+pub(crate) fn next_reference(fields: &mut Pieces<'_>) -> Result<DebugInfoRef, Reason>
+    ensures { with_rest result (pieces_left fields.new) ≡
+        reference_field (pieces_left fields.old) }
+{
+    parse_reference(next_field(fields)?).ok_or(Reason::BadNumber)
 }
 
 /// A format, by the bits of its offsets.

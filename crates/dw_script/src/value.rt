@@ -6,15 +6,15 @@ ghost use Rattle.dw_script.specs.Pieces.{pieces_left};
 ghost use Rattle.dw_script.specs.Values.{constant_of_kind, value_field};
 
 use crate::field::{
-    next_address, next_flag, next_hex_bytes, next_i64, next_kind, next_u8, next_u16, next_u32,
-    next_u64, next_u128, next_usize,
+    next_address, next_flag, next_hex_bytes, next_i64, next_kind, next_reference, next_u8,
+    next_u16, next_u32, next_u64, next_u128, next_usize,
 };
 use crate::hex_bytes::HexBytes;
 use crate::kind::{ConstantKind, Kind};
 use crate::pieces::Pieces;
 use crate::reason::Reason;
 use dw_base::{
-    Address, DebugInfoOffset, DebugMacinfoOffset, DebugMacroOffset, DebugStrOffset,
+    Address, DebugInfoOffset, DebugInfoRef, DebugMacinfoOffset, DebugMacroOffset, DebugStrOffset,
     DebugTypeSignature, DwAccess, DwAddr, DwAte, DwCc, DwDs, DwEnd, DwId, DwInl, DwLang, DwOrd,
     DwVirtuality, DwVis,
 };
@@ -50,6 +50,9 @@ pub enum Value<'a> {
     FlagPresent,
     /// An entry of the same unit, by its index; a word of the format (7.5.5).
     UnitRef(u64),
+    /// An entry of any unit, by the numbers of both, or a symbol; a word of the format, in version 2
+    /// as many bytes as an address has (7.5.5).
+    DebugInfoRef(DebugInfoRef),
     /// A place in the supplementary file's `.debug_info`; a word of the format (7.3.6).
     DebugInfoRefSup(DebugInfoOffset),
     /// A place in `.debug_macinfo`; a word of the format (DWARF 4, 7.22).
@@ -107,6 +110,7 @@ pub(crate) fn next_value<'a>(fields: &mut Pieces<'a>) -> Result<Value<'a>, Reaso
         Kind::Flag => Value::Flag(next_flag(fields)?),
         Kind::FlagPresent => Value::FlagPresent,
         Kind::UnitRef => Value::UnitRef(next_u64(fields)?),
+        Kind::DebugInfoRef => Value::DebugInfoRef(next_reference(fields)?),
         Kind::DebugInfoRefSup => Value::DebugInfoRefSup(DebugInfoOffset(next_usize(fields)?)),
         Kind::DebugMacinfoRef => Value::DebugMacinfoRef(DebugMacinfoOffset(next_usize(fields)?)),
         Kind::DebugMacroRef => Value::DebugMacroRef(DebugMacroOffset(next_usize(fields)?)),

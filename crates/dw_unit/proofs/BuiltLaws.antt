@@ -25,7 +25,7 @@ use Rattle.dw_entries.specs.Tree.{preorder, has_entry, are_entries_distinct}
 use Rattle.dw_entries.specs.Content.{number_in}
 use Rattle.dw_entries.specs.Values.{form_of, constant_of, operand_of, reference_form}
 use Rattle.dw_entries.proofs.Distinct.{preorder_distinct}
-use Rattle.dw_unit.specs.Built.{place_read, past_read, places_read, targets_read, Starts, past_unit, IsBuilt, AreBuilt}
+use Rattle.dw_unit.specs.Built.{Numbered, place_read, past_read, places_read, targets_read, Starts, past_unit, IsBuilt, AreBuilt}
 use Rattle.dw_unit.specs.Coded.{code_of_entry}
 use Rattle.dw_unit.specs.DistinctShapes.{entry_shapes, distinct_shapes}
 use Rattle.dw_unit.specs.Places.{found}
@@ -167,7 +167,7 @@ sibling_first e past x xs ys names h =
     let made : Operand → ReadAttribute = λ n. record { name = sibling_name; form = reference_form e.format; constant = None; operand = n } in
     ap (λ l. slice_get l 0) (sym (same_Some (s.0 ∷ xs) ys s.2)) ∙ ap Some (sym (same_Some (made o.0) s.0 o.2)) ∙ ap (λ n. Some (made n)) (number_is (word_of e.format) past o.0 o.1)
 
-module _ (big : Bool) (l : Layout) (us : List UnitValue) (rs : List ReadUnit) (u : UnitValue) (r : ReadUnit) (built : IsBuilt big l us rs u r) where
+module _ (big : Bool) (l : Layout) (us : List Numbered) (rs : List ReadUnit) (u : UnitValue) (r : ReadUnit) (built : IsBuilt big l us rs u r) where
   -- what the unit's operands lead to
   abbrev targets : Targets
   targets = targets_read us rs l u r
@@ -306,9 +306,9 @@ module _ (big : Bool) (l : Layout) (us : List UnitValue) (rs : List ReadUnit) (u
       }
 
 -- Of units that are built, each is read under its own number, among those of its file.
-pub unit_read : (big : Bool) (l : Layout) (all : List UnitValue) (read : List ReadUnit) (at : Starts) (us : List UnitValue) (rs : List ReadUnit) (i : ℕ) (u : UnitValue) → AreBuilt big l all read at us rs → slice_get us i ≡ Some u →
-    (r : ReadUnit) × (slice_get rs i ≡ Some r) × IsBuilt big l all read u r
+pub unit_read : (big : Bool) (l : Layout) (all : List Numbered) (read : List ReadUnit) (at : Starts) (us : List Numbered) (rs : List ReadUnit) (i : ℕ) (u : Numbered) → AreBuilt big l all read at us rs → slice_get us i ≡ Some u →
+    (r : ReadUnit) × (slice_get rs i ≡ Some r) × IsBuilt big l all read u.unit r
 unit_read big l all read at [] rs i u built is = absurd (none-some u is)
 unit_read big l all read at (v ∷ us) [] i u built is = absurd built
-unit_read big l all read at (v ∷ us) (r ∷ rs) zero u built is = (r, refl, subst (λ x. IsBuilt big l all read x r) (same_Some v u is) built.0)
-unit_read big l all read at (v ∷ us) (r ∷ rs) (suc i) u built is = unit_read big l all read (past_unit at v r) us rs i u built.2 is
+unit_read big l all read at (v ∷ us) (r ∷ rs) zero u built is = (r, refl, subst (λ (x : Numbered). IsBuilt big l all read x.unit r) (same_Some v u is) built.0)
+unit_read big l all read at (v ∷ us) (r ∷ rs) (suc i) u built is = unit_read big l all read (past_unit at v.unit r) us rs i u built.2 is

@@ -3,10 +3,12 @@ use Rattle.std.specs.Prelude.{◌≡◌, ℕ, ◌+◌, ◌<◌, Bool, true, fals
 use Rattle.std.proofs.Common.{sym, ◌∙◌, ap, subst, length-append}
 use Rattle.dw_base.specs.Numbers.{◌>>=◌, when, num, is_width, fits, word_of}
 use Rattle.dw_base.specs.Leb128.{uleb, sleb}
-use Rattle.dw_base.specs.Forms.{Number, Text, Kind, Fixed, Zeroed}
+use Rattle.dw_base.specs.Forms.{Number, Text, Kind, Fixed, Zeroed, info_place_of}
 use Rattle.dw_base.specs.Spelling.{kind_bytes, operand_bytes}
 use Rattle.dw_base.specs.declared.address.Address.{Address as TargetAddress}
 use Rattle.dw_base.specs.declared.address.Address.TheVariants as addresses
+use Rattle.dw_base.specs.declared.address.DebugInfoRef.{DebugInfoRef as InfoRef}
+use Rattle.dw_base.specs.declared.address.DebugInfoRef.TheVariants as refs
 use Rattle.dw_base.specs.declared.section_id.SectionId.{SectionId}
 use Rattle.dw_base.specs.declared.common.Encoding.{Encoding}
 use Rattle.dw_base.specs.declared.common.Format.{Format}
@@ -15,18 +17,19 @@ use Rattle.dw_writer.specs.Texts as texts
 use Rattle.dw_writer.specs.Texts.{num_text, int_text}
 use Rattle.dw_writer.specs.Meaning.{Meaning, Layout, Model, Adds, start_of}
 use Rattle.dw_writer.specs.SectionTexts.{number_text, bytes_text, offset_text, address_text}
-use Rattle.dw_writer.specs.Drafts.{Info, no_draft, whole, Drafts}
+use Rattle.dw_writer.specs.Drafts.{Info, Draft, no_draft, whole, Drafts}
 use Rattle.dw_writer.specs.declared.fixup.DebugInfoFixup.{DebugInfoFixup}
 use Rattle.dw_writer.proofs.DraftLaws.{draft_is}
 use Rattle.dw_writer.proofs.Plain.{Adds-number, num-byte}
 use Rattle.dw_writer.proofs.Steps.{Adds-appends}
 use Rattle.dw_writer.proofs.WriteLaws.{Drafts-is, Drafts-whole}
-use Rattle.dw_entries.specs.Content.{Content, Nothing, Plain, Wide, Leb, SignedLeb, Block, Closed, Target, Offset, EntryPlace, number_in, has_zero, natural, content_operand, content_kind, content_size}
+use Rattle.dw_entries.specs.Content.{Content, Nothing, Plain, Wide, Leb, SignedLeb, Block, Closed, Target, Offset, EntryPlace, number_in, has_zero, natural, content_operand, content_kind, content_size, content_holes, InfoPlace}
 use Rattle.dw_entries.specs.Targets.{UnitTargets, targets_in}
-use Rattle.dw_entries.specs.Values.{content_of, operand_size, value_text, value_draft}
+use Rattle.dw_entries.specs.Values.{content_of, operand_size, operand_holes, value_text, value_draft}
 use Rattle.dw_entries.specs.declared.value.AttributeValue.{AttributeValue}
 use Rattle.dw_entries.proofs.ContentLaws.{kind_of-form}
-use Rattle.dw_unit.specs.UnitText.{fitting_text}
+use Rattle.dw_entries.proofs.ValueTexts.{info_width}
+use Rattle.dw_unit.specs.UnitText.{fitting_text, info_draft}
 
 pub width-word : (format : Format) → IsTrue (is_width (word_of format))
 width-word Dwarf32 = refl
@@ -70,42 +73,48 @@ Drafts-fitting k w n wide fit p = Drafts-is (Drafts-number k w n p) (fitting_is 
 
 module _ (e : Encoding) (u : UnitTargets) (v : AttributeValue) where
   -- a text without references that is the operand's
-  value_is : (c : Content) (n : ℕ) (t : Model) → content_of e v ≡ c → n ≡ content_size e c →
-      ((info : Info) (big : Bool) (l : Layout) → t big l ≡ (content_operand e (targets_in u l info) c >>= λ o. Some (kind_bytes big (content_kind e c) o))) → whole n t ≡ value_draft e u v
-  value_is c n t is size text =
-      whole_is n (operand_size e u.place v) t (λ info big l. value_text big e (targets_in u l info) v) (size ∙ ap (content_size e) (sym is))
+  content_is : (c : Content) (n : ℕ) (t : Info → Model) (hs : List DebugInfoFixup) → content_of e v ≡ c → n ≡ content_size e c → hs ≡ content_holes e c →
+      ((info : Info) (big : Bool) (l : Layout) → t info big l ≡ (content_operand e (targets_in u l info) c >>= λ o. Some (kind_bytes big (content_kind e c) o))) →
+      ◌≡◌ {A = Draft} (record { size = n; text = t; holes = hs }) (value_draft e u v)
+  content_is c n t hs is size holes text =
+      draft_is n (operand_size e u.place v) t (λ info big l. value_text big e (targets_in u l info) v) hs (operand_holes e u.place v) (size ∙ ap (content_size e) (sym is))
       (λ info big l.
       let spell : Option Kind → Content → texts.Text = λ k x. content_operand e (targets_in u l info) x >>= λ o. Some (operand_bytes big k o) in
       text info big l
       ∙ ap (λ x. spell (Some (content_kind e x)) x) (sym is)
       ∙ ap (λ k. spell k (content_of e v)) (sym (kind_of-form e v)))
+      (holes ∙ ap (content_holes e) (sym is))
+
+  value_is : (c : Content) (n : ℕ) (t : Model) → content_of e v ≡ c → n ≡ content_size e c → [] ≡ content_holes e c →
+      ((info : Info) (big : Bool) (l : Layout) → t big l ≡ (content_operand e (targets_in u l info) c >>= λ o. Some (kind_bytes big (content_kind e c) o))) → whole n t ≡ value_draft e u v
+  value_is c n t is size none text = content_is c n (λ info. t) [] is size none text
 
   fitting : (big : Bool) (w n : ℕ) (b : Bool) → IsTrue b → ◌≡◌ {A = texts.Text} (Some (num big w n)) (when b (Some (Number n)) >>= λ o. Some (kind_bytes big (Fixed w) o))
   fitting big w n true h = refl
   fitting big w n false h = absurd (let x : IsTrue false = h in cc)
 
   pub nothing_is : content_of e v ≡ Nothing → no_draft ≡ value_draft e u v
-  nothing_is is = value_is Nothing 0 (λ big l. Some []) is refl (λ info big l. refl)
+  nothing_is is = value_is Nothing 0 (λ big l. Some []) is refl refl (λ info big l. refl)
 
   pub plain_is : (w n : ℕ) → content_of e v ≡ Plain w n → IsTrue (fits w n) → whole w (number_text w n) ≡ value_draft e u v
   unfolding number_text
-  plain_is w n is fit = value_is (Plain w n) w (number_text w n) is refl (λ info big l. fitting big w n (fits w n) fit)
+  plain_is w n is fit = value_is (Plain w n) w (number_text w n) is refl refl (λ info big l. fitting big w n (fits w n) fit)
 
   pub wide_is : (n : ℕ) → content_of e v ≡ Wide n → whole 16 (number_text 16 n) ≡ value_draft e u v
   unfolding number_text
-  wide_is n is = value_is (Wide n) 16 (number_text 16 n) is refl (λ info big l. refl)
+  wide_is n is = value_is (Wide n) 16 (number_text 16 n) is refl refl (λ info big l. refl)
 
   pub leb_is : (n : ℕ) → content_of e v ≡ Leb n → whole (length (uleb n)) (bytes_text (uleb n)) ≡ value_draft e u v
   unfolding bytes_text
-  leb_is n is = value_is (Leb n) (length (uleb n)) (bytes_text (uleb n)) is refl (λ info big l. refl)
+  leb_is n is = value_is (Leb n) (length (uleb n)) (bytes_text (uleb n)) is refl refl (λ info big l. refl)
 
   pub signed_leb_is : (z : ℤ) → content_of e v ≡ SignedLeb z → whole (length (sleb z)) (bytes_text (sleb z)) ≡ value_draft e u v
   unfolding bytes_text
-  signed_leb_is z is = value_is (SignedLeb z) (length (sleb z)) (bytes_text (sleb z)) is refl (λ info big l. refl)
+  signed_leb_is z is = value_is (SignedLeb z) (length (sleb z)) (bytes_text (sleb z)) is refl refl (λ info big l. refl)
 
   pub block_is : (xs : List ℕ) → content_of e v ≡ Block xs → whole (length (uleb (length xs) ++ xs)) (bytes_text (uleb (length xs) ++ xs)) ≡ value_draft e u v
   unfolding bytes_text
-  block_is xs is = value_is (Block xs) _ (bytes_text (uleb (length xs) ++ xs)) is (length-append (uleb (length xs)) xs) (λ info big l. refl)
+  block_is xs is = value_is (Block xs) _ (bytes_text (uleb (length xs) ++ xs)) is (length-append (uleb (length xs)) xs) refl (λ info big l. refl)
 
   closing : (big : Bool) (s : List ℕ) (b : Bool) → IsFalse b → ◌≡◌ {A = texts.Text} (Some (s ++ 0 ∷ [])) (when (not b) (Some (Text s)) >>= λ o. Some (kind_bytes big Zeroed o))
   closing big s true k = absurd (let x : true ≡ false = k in cc)
@@ -113,7 +122,7 @@ module _ (e : Encoding) (u : UnitTargets) (v : AttributeValue) where
 
   pub closed_is : (s : List ℕ) → content_of e v ≡ Closed s → IsFalse (has_zero s) → whole (length (s ++ 0 ∷ [])) (bytes_text (s ++ 0 ∷ [])) ≡ value_draft e u v
   unfolding bytes_text
-  closed_is s is h = value_is (Closed s) _ (bytes_text (s ++ 0 ∷ [])) is (length-append s (0 ∷ [])) (λ info big l. closing big s (has_zero s) h)
+  closed_is s is h = value_is (Closed s) _ (bytes_text (s ++ 0 ∷ [])) is (length-append s (0 ∷ [])) refl (λ info big l. closing big s (has_zero s) h)
 
   fixed_by : (big : Bool) (w n : ℕ) (a b : Bool) → IsTrue a → ◌≡◌ {A = texts.Text} (if a && b then Some (num big w n) else None) (when b (Some (Number n)) >>= λ o. Some (kind_bytes big (Fixed w) o))
   fixed_by big w n true true h = refl
@@ -137,19 +146,24 @@ module _ (e : Encoding) (u : UnitTargets) (v : AttributeValue) where
   pub target_is : (a : TargetAddress) → content_of e v ≡ Target a → IsTrue (is_width e.address_size) → whole e.address_size (address_text e.address_size a) ≡ value_draft e u v
   unfolding address_text
   target_is (addresses.Constant n) is wide =
-      value_is (Target (addresses.Constant n)) e.address_size _ is refl (λ info big l. fixed_value big e.address_size (Some n) wide)
+      value_is (Target (addresses.Constant n)) e.address_size _ is refl refl (λ info big l. fixed_value big e.address_size (Some n) wide)
   target_is (addresses.Symbol s a) is wide =
-      value_is (Target (addresses.Symbol s a)) e.address_size _ is refl
+      value_is (Target (addresses.Symbol s a)) e.address_size _ is refl refl
       (λ info big l. symbol big e.address_size a (slice_get l.symbols s) ∙ fixed_value big e.address_size (slice_get l.symbols s >>= λ n. natural (a +ℤ pos n)) wide)
 
   pub offset_is : (section : SectionId) (n : ℕ) → content_of e v ≡ Offset section n → whole (word_of e.format) (offset_text (word_of e.format) section n) ≡ value_draft e u v
   unfolding offset_text
   offset_is section n is =
-      value_is (Offset section n) (word_of e.format) _ is refl (λ info big l. fixed_value big (word_of e.format) (Some (n + start_of l section)) (width-word e.format))
+      value_is (Offset section n) (word_of e.format) _ is refl refl (λ info big l. fixed_value big (word_of e.format) (Some (n + start_of l section)) (width-word e.format))
 
   pub entry_place_is : (i n : ℕ) → content_of e v ≡ EntryPlace i → u.place i ≡ Some n → IsTrue (fits (word_of e.format) n) → whole (word_of e.format) (number_text (word_of e.format) n) ≡ value_draft e u v
   unfolding number_text
   entry_place_is i n is h fit =
       let w = word_of e.format in
-      value_is (EntryPlace i) w (number_text w n) is refl
+      value_is (EntryPlace i) w (number_text w n) is refl refl
       (λ info big l. fitting big w n (fits w n) fit ∙ ap (λ o. let t : texts.Text = (o >>= number_in w) >>= λ x. Some (kind_bytes big (Fixed w) x) in t) (sym h))
+
+  pub info_is : (r : InfoRef) → content_of e v ≡ InfoPlace r → IsTrue (is_width e.address_size) → info_draft (info_place_of e) r ≡ value_draft e u v
+  info_is (refs.Symbol s) is wide = value_is (InfoPlace (refs.Symbol s)) (info_place_of e) (λ big l. None) is refl refl (λ info big l. refl)
+  info_is (refs.Entry unit entry) is wide =
+      content_is (InfoPlace (refs.Entry unit entry)) (info_place_of e) _ _ is refl refl (λ info big l. fixed_value big (info_place_of e) (info unit.0 entry.0) (info_width e wide))

@@ -1,6 +1,5 @@
 -- Files, written and joined, are read as their units.
 use Rattle.std.specs.Prelude.{◌≡◌, ℕ, suc, zero, ◌+◌, ◌-◌, ◌≤◌, Bool, true, false, not, ◌&&◌, List, [], ◌∷◌, ◌++◌, map, length, take, drop, Some, None, IfSome, refl, if◌then◌else◌}
-use Rattle.std.specs.List.{flat_map}
 use Rattle.std.proofs.Common.{sym, ◌∙◌, ap, subst, arith, append-nil, length-append, zero-add}
 use Rattle.std.proofs.lemmas.Option.{none-some, same_Some}
 use Rattle.dw_base.specs.Numbers.{◌>>=◌}
@@ -14,23 +13,21 @@ use Rattle.dw_writer.specs.New.{IsEmptyWriter, IsEmptyPlainWriter}
 use Rattle.dw_writer.specs.Drafts.{Info, then_draft, started, filled_text}
 use Rattle.dw_writer.proofs.Laws.{followed-somes}
 use Rattle.dw_writer.proofs.Steps.{followed_texts-wide}
-use Rattle.dw_unit.specs.Built.{File, Starts, AreBuilt, AreFilesBuilt, Built, past_units, at_begin, at_end, at_zero, whole_file}
-use Rattle.dw_unit.specs.Pending.{Kept, draft_of, units_draft, past_kept, info_of, AreInRow, AddsUnits}
-use Rattle.dw_unit.specs.UnitValue.{UnitValue}
-use Rattle.dw_unit.specs.Whole.{tree_table}
-use Rattle.dw_unit.proofs.ReadUnits.{parted, tables_of, AreReadAs, units-again}
+use Rattle.dw_unit.specs.Built.{Numbered, File, Starts, AreBuilt, AreFilesBuilt, Built, past_units, at_begin, at_end, at_zero}
+use Rattle.dw_unit.specs.Pending.{Kept, draft_of, units_draft, tables_of, past_kept, info_of, AreInRow, AddsUnits}
+use Rattle.dw_unit.proofs.ReadUnits.{parted, AreReadAs, units-again}
 use Rattle.dw_unit.proofs.UnitsBuilt.{past_is, units_built}
 
 -- A file that was written, with the places that its units keep, and where it stands among the joined ones.
 pub record WrittenFile : Type 0 where
-  pub units : List UnitValue
+  pub units : List Numbered
   pub kept : List Kept
   pub layout : Layout
 
 -- its units stand in a row from its beginning, and their text is there
 pub record IsWritten (big : Bool) (f : WrittenFile) (xs : List ℕ) : Type 0 where
   pub in_row : AreInRow at_begin f.units f.kept
-  pub text : filled_text (info_of f.kept) (units_draft f.units f.kept) big f.layout ≡ Some xs
+  pub text : filled_text (info_of f.units f.kept) (units_draft f.units f.kept) big f.layout ≡ Some xs
 
 -- behind a file and its tables
 abbrev pub past_file : Starts → WrittenFile → List ℕ → Starts
@@ -64,7 +61,7 @@ starts_are : (a b : Starts) → a.info ≡ b.info → a.abbrevs ≡ b.abbrevs �
 starts_are a b p q =
     ap (λ n. let s : Starts = record { info = n; abbrevs = a.abbrevs } in s) p ∙ ap (λ n. let s : Starts = record { info = b.info; abbrevs = n } in s) q
 
-length-reads : (big : Bool) (l : Layout) (info : Info) (us : List UnitValue) (ks : List Kept) (rs : List ReadUnit) → AreReadAs big l info us ks rs → length rs ≡ length us
+length-reads : (big : Bool) (l : Layout) (info : Info) (us : List Numbered) (ks : List Kept) (rs : List ReadUnit) → AreReadAs big l info us ks rs → length rs ≡ length us
 length-reads big l info [] [] [] h = refl
 length-reads big l info [] [] (r ∷ rs) h = absurd h
 length-reads big l info [] (k ∷ ks) rs h = absurd h
@@ -85,23 +82,23 @@ drop_first (r ∷ rs) qs zero e = absurd (omega arith)
 drop_first (r ∷ rs) qs (suc n) e = drop_first rs qs n (omega arith)
 
 -- no unit is empty
-units_long : (at : Starts) (us : List UnitValue) (ks : List Kept) → AreInRow at us ks → length us ≤ (units_draft us ks).size
+units_long : (at : Starts) (us : List Numbered) (ks : List Kept) → AreInRow at us ks → length us ≤ (units_draft us ks).size
 unfolding then_draft
 units_long at [] [] h = omega arith
 units_long at [] (k ∷ ks) h = absurd h
 units_long at (u ∷ us) [] h = absurd h
-units_long at (u ∷ us) (k ∷ ks) h = omega (arith, units_long (past_kept at u k) us ks h.1, header_size_pos u.encoding)
+units_long at (u ∷ us) (k ∷ ks) h = omega (arith, units_long (past_kept at u.unit k) us ks h.1, header_size_pos u.unit.encoding)
 
 -- the text of units has as many bytes as their drafts say
-units_wide : (big : Bool) (l : Layout) (info : Info) (at : Starts) (us : List UnitValue) (ks : List Kept) (xs : List ℕ) → AreInRow at us ks → (units_draft us ks).text info big l ≡ Some xs → length xs ≡ (units_draft us ks).size
+units_wide : (big : Bool) (l : Layout) (info : Info) (at : Starts) (us : List Numbered) (ks : List Kept) (xs : List ℕ) → AreInRow at us ks → (units_draft us ks).text info big l ≡ Some xs → length xs ≡ (units_draft us ks).size
 unfolding then_draft
 units_wide big l info at [] [] xs h e = sym (ap length (same_Some [] xs e))
 units_wide big l info at [] (k ∷ ks) xs h e = absurd h
 units_wide big l info at (u ∷ us) [] xs h e = absurd h
 units_wide big l info at (u ∷ us) (k ∷ ks) xs h e =
-    let d = draft_of u.encoding u.entries k in
+    let d = draft_of u.unit.encoding u.unit.entries k in
     let ds = units_draft us ks in
-    followed_texts-wide d.size ds.size (d.text info big l) (ds.text info big l) (h.0.draft.wide info big l) (λ ys. units_wide big l info (past_kept at u k) us ks ys h.1) xs e
+    followed_texts-wide d.size ds.size (d.text info big l) (ds.text info big l) (h.0.draft.wide info big l) (λ ys. units_wide big l info (past_kept at u.unit k) us ks ys h.1) xs e
 
 count_long : (big : Bool) (at : Starts) (fs : List WrittenFile) (xss : List (List ℕ)) → AreWritten big at fs xss → count fs ≤ length (joined xss)
 count_long big at [] [] h = omega arith
@@ -109,7 +106,7 @@ count_long big at [] (xs ∷ xss) h = absurd h
 count_long big at (f ∷ fs) [] h = absurd h
 count_long big at (f ∷ fs) (xs ∷ xss) h =
     let w = h.0 in
-    omega (arith, count_long big (past_file at f xs) fs xss h.3, units_long at_begin f.units f.kept w.in_row, units_wide big f.layout (started (start_of f.layout DebugInfo) (info_of f.kept)) at_begin f.units f.kept xs w.in_row w.text, length-append xs (joined xss))
+    omega (arith, count_long big (past_file at f xs) fs xss h.3, units_long at_begin f.units f.kept w.in_row, units_wide big f.layout (started (start_of f.layout DebugInfo) (info_of f.units f.kept)) at_begin f.units f.kept xs w.in_row w.text, length-append xs (joined xss))
 
 record AreFilesRead (big : Bool) (at end : Starts) (fs : List WrittenFile) (xss : List (List ℕ)) (n : ℕ) : Type 0 where
   reads : List ReadUnit
@@ -127,7 +124,7 @@ files-again big at end (f ∷ fs) (xs ∷ xss) n fuel e h here tables_here =
     let w = h.0 in
     let us = f.units in
     let ks = f.kept in
-    let info = started (start_of f.layout DebugInfo) (info_of ks) in
+    let info = started (start_of f.layout DebugInfo) (info_of us ks) in
     let own = units-again big f.layout info us ks at_begin n (count fs + fuel) at.info at.abbrevs xs (joined xss) (joined_tables fs) w.in_row (omega arith) (omega (arith, h.1)) (omega (arith, h.2)) w.text in
     let next = past_file at f xs in
     let next_end : end.info ≡ next.info + length (joined xss) = omega (arith, here, length-append xs (joined xss)) in
@@ -180,25 +177,25 @@ empty_tidy big m empty =
     }
 
 -- Units that were added to an empty writer are a file that was written, in each layout in which the writer tells its bytes.
-pub file_written : (big : Bool) (old new : Meaning) (tables : ℕ) (us : List UnitValue) (l : Layout) (xs : List ℕ) → IsEmptyWriter old big → (p : AddsUnits old new tables us) → tables ≡ 0 → resolved l new ≡ Some xs →
-    IsWritten old.is_big (record { units = us; kept = p.kept; layout = l }) xs
-file_written big old new tables us l xs empty p first h =
-    let text = filled_text (info_of p.kept) (units_draft us p.kept) old.is_big l in
+pub file_written : (big : Bool) (old new : Meaning) (tables : ℕ) (us : List Numbered) (ks : List Kept) (l : Layout) (xs : List ℕ) → IsEmptyWriter old big → (p : AddsUnits old new tables (info_of us ks) us ks) → tables ≡ 0 → resolved l new ≡ Some xs →
+    IsWritten old.is_big (record { units = us; kept = ks; layout = l }) xs
+file_written big old new tables us ks l xs empty p first h =
+    let text = filled_text (info_of us ks) (units_draft us ks) old.is_big l in
     let parts = parted (resolved l old) text xs (sym (p.resolves (empty_tidy big old empty) l) ∙ h) in
     let none = resolved-empty big l old parts.first empty parts.first_is in
     record {
-      in_row = subst (λ n. AreInRow (record { info = n; abbrevs = 0 }) us p.kept) empty.size (subst (λ n. AreInRow (record { info = old.size; abbrevs = n }) us p.kept) first p.in_row);
+      in_row = subst (λ n. AreInRow (record { info = n; abbrevs = 0 }) us ks) empty.size (subst (λ n. AreInRow (record { info = old.size; abbrevs = n }) us ks) first p.in_row);
       text = parts.rest_is ∙ ap Some (ap (λ ys. ys ++ parts.rest) (sym none) ∙ parts.all);
     }
 
 -- Over any writer that was empty, units are read as one file from its resolved bytes, in a layout where the two sections
 -- start at 0.
-pub units_resolved : (big : Bool) (old new : Meaning) (tables : ℕ) (us : List UnitValue) (l : Layout) → IsEmptyWriter old big → tables ≡ 0 → AddsUnits old new tables us →
+pub units_resolved : (big : Bool) (old new : Meaning) (tables : ℕ) (us : List Numbered) (ks : List Kept) (l : Layout) → IsEmptyWriter old big → tables ≡ 0 → AddsUnits old new tables (info_of us ks) us ks →
     start_of l DebugInfo ≡ 0 → start_of l DebugAbbrev ≡ 0 → (xs : List ℕ) → resolved l new ≡ Some xs →
-    Built (record { units = us; layout = l } ∷ []) old.is_big xs (flat_map (λ u. tree_table u.encoding u.entries) us)
-units_resolved big old new tables us l empty first p info abbrevs xs h =
-    let f : WrittenFile = record { units = us; kept = p.kept; layout = l } in
-    let built = files_built old.is_big (f ∷ []) (xs ∷ []) (file_written big old new tables us l xs empty p first h, info, abbrevs, tt) in
+    Built (record { units = us; layout = l } ∷ []) old.is_big xs (tables_of us)
+units_resolved big old new tables us ks l empty first p info abbrevs xs h =
+    let f : WrittenFile = record { units = us; kept = ks; layout = l } in
+    let built = files_built old.is_big (f ∷ []) (xs ∷ []) (file_written big old new tables us ks l xs empty p first h, info, abbrevs, tt) in
     subst (λ ys. Built (file_of f ∷ []) old.is_big xs ys) (append-nil (tables_of us))
     (subst (λ ys. Built (file_of f ∷ []) old.is_big ys (tables_of us ++ [])) (append-nil xs) built)
 
@@ -219,19 +216,19 @@ plain_empty big m empty = record {
 }
 
 -- An empty plain writer tells the text of units that were added to it.
-told_there : (big : Bool) (old new : Meaning) (tables : ℕ) (us : List UnitValue) → IsEmptyPlainWriter old big → new.records ≡ [] → (p : AddsUnits old new tables us) →
-    new.bytes ≡ followed (Some []) (filled_text (info_of p.kept) (units_draft us p.kept) old.is_big at_zero)
-told_there big old new tables us empty none p =
+told_there : (big : Bool) (old new : Meaning) (tables : ℕ) (us : List Numbered) (ks : List Kept) → IsEmptyPlainWriter old big → new.records ≡ [] → (p : AddsUnits old new tables (info_of us ks) us ks) →
+    new.bytes ≡ followed (Some []) (filled_text (info_of us ks) (units_draft us ks) old.is_big at_zero)
+told_there big old new tables us ks empty none p =
     sym (resolved-plain new (p.same.kind ∙ empty.plain) none)
     ∙ p.resolves (empty_tidy big old (plain_empty big old empty)) at_zero
-    ∙ ap (λ t. followed t (filled_text (info_of p.kept) (units_draft us p.kept) old.is_big at_zero)) (resolved-plain old empty.plain empty.records ∙ empty.bytes)
+    ∙ ap (λ t. followed t (filled_text (info_of us ks) (units_draft us ks) old.is_big at_zero)) (resolved-plain old empty.plain empty.records ∙ empty.bytes)
 
 -- What units leave in an empty plain writer is told, and is read as exactly these units.
-pub units_held : (big : Bool) (old new : Meaning) (tables : ℕ) (us : List UnitValue) → IsEmptyPlainWriter old big → new.records ≡ [] → tables ≡ 0 → AddsUnits old new tables us →
-    (xs : List ℕ) × ((new.bytes ≡ Some xs) × Built (whole_file us ∷ []) big xs (flat_map (λ u. tree_table u.encoding u.entries) us))
-units_held big old new tables us empty none first p =
+pub units_held : (big : Bool) (old new : Meaning) (tables : ℕ) (us : List Numbered) (ks : List Kept) → IsEmptyPlainWriter old big → new.records ≡ [] → tables ≡ 0 → AddsUnits old new tables (info_of us ks) us ks →
+    (xs : List ℕ) × ((new.bytes ≡ Some xs) × Built (record { units = us; layout = at_zero } ∷ []) big xs (tables_of us))
+units_held big old new tables us ks empty none first p =
     let there = p.there empty.plain old.is_big in
-    let told : new.bytes ≡ Some there.0 = told_there big old new tables us empty none p ∙ ap (followed (Some [])) there.1 ∙ followed-somes [] there.0 in
+    let told : new.bytes ≡ Some there.0 = told_there big old new tables us ks empty none p ∙ ap (followed (Some [])) there.1 ∙ followed-somes [] there.0 in
     let resolves = resolved-plain new (p.same.kind ∙ empty.plain) none ∙ told in
-    let built = units_resolved big old new tables us at_zero (plain_empty big old empty) first p refl refl there.0 resolves in
-    (there.0, (told, subst (λ b. Built (whole_file us ∷ []) b there.0 (flat_map (λ u. tree_table u.encoding u.entries) us)) empty.order built))
+    let built = units_resolved big old new tables us ks at_zero (plain_empty big old empty) first p refl refl there.0 resolves in
+    (there.0, (told, subst (λ b. Built (record { units = us; layout = at_zero } ∷ []) b there.0 (tables_of us)) empty.order built))

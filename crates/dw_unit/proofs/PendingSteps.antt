@@ -1,113 +1,180 @@
--- From one unit that is added to the list of it.
-use Rattle.std.specs.Prelude.{◌≡◌, ℕ, ◌+◌, Bool, true, false, if◌then◌else◌, List, [], ◌∷◌, ◌++◌, map, refl}
-use Rattle.std.proofs.Common.{sym, ◌∙◌, ap, subst, arith, append-nil, add-zero}
-use Rattle.dw_base.specs.Numbers.{word_of}
-use Rattle.dw_base.specs.Abbreviations.{Shape}
-use Rattle.dw_base.specs.Entries.{Mark, Open, Null}
-use Rattle.dw_base.specs.Spelling.{header_size}
-use Rattle.dw_base.specs.declared.common.Encoding.{Encoding}
+-- Units that are pending, one behind another, and what filling their references in makes of them.
+use Rattle.std.specs.Prelude.{◌≡◌, ◌≢◌, ℕ, suc, zero, ◌+◌, Bool, true, false, List, [], ◌∷◌, ◌++◌, length, Option, Some, None, ◌==◌, refl, IsFalse, if◌then◌else◌}
+use Rattle.std.proofs.Common.{sym, ◌∙◌, ap, subst, arith, append-nil, append_assoc, add-zero, length-append}
+use Rattle.std.proofs.lemmas.Bool.{ne_eqb, eq-eqb}
+use Rattle.dw_base.specs.declared.error.Error.{Error}
 use Rattle.dw_base.specs.declared.section_id.SectionId.TheVariants.{DebugInfo}
 use Rattle.dw_writer.specs.Texts.{followed}
-use Rattle.dw_writer.specs.Meaning.{Meaning, Layout, Adds, resolved, start_of}
+use Rattle.dw_writer.specs.Meaning.{Meaning, Layout, IsTidy, Adds, resolved, start_of}
 use Rattle.dw_writer.specs.declared.sections.Sections.{Sections}
-use Rattle.dw_writer.specs.Drafts.{Draft, Info, no_draft, whole, then_draft, all_drafts, shifted, started, open_text, filled, IsDraft}
-use Rattle.dw_writer.proofs.DraftLaws.{then-nothing}
-use Rattle.dw_writer.proofs.Parts.{Adds-none, followed-nothing}
-use Rattle.dw_entries.specs.Entries.{EntryValue, entry_at, has_sibling}
-use Rattle.dw_entries.specs.Targets.{UnitTargets}
-use Rattle.dw_entries.specs.Tree.{preorder}
-use Rattle.dw_unit.specs.Built.{at_zero}
-use Rattle.dw_unit.specs.Pending.{draft_of, info_of, IsThere, PendsTree, AddsUnits}
-use Rattle.dw_unit.specs.Places.{targets_of}
-use Rattle.dw_unit.specs.UnitText.{header_text, fitting_text, attribute_draft, attributes_draft, sibling_draft, coded_draft, tree_draft, unit_draft}
+use Rattle.dw_writer.specs.declared.fixup.DebugInfoFixup.{DebugInfoFixup}
+use Rattle.dw_writer.specs.Drafts.{Draft, Info, no_draft, then_draft, shifted, started, open_text, filled, AreBetween, HaveWidths, AreClear, Drafts}
+use Rattle.dw_writer.proofs.DraftLaws.{nothing-then, then-nothing, then-assoc, filled-behind, between-from, widths-shifted}
+use Rattle.dw_writer.proofs.Laws.{resolved-wide}
+use Rattle.dw_writer.proofs.Parts.{Adds-none}
+use Rattle.dw_writer.proofs.Steps.{IsSameWriter-trans, Adds-then}
+use Rattle.dw_writer.proofs.WriteLaws.{Drafts-nothing, Drafts-then, Drafts-is, between-place}
+use Rattle.dw_unit.specs.Built.{Numbered, Starts, table_size, at_zero}
+use Rattle.dw_unit.specs.Filled.{Fills}
+use Rattle.dw_unit.specs.Pending.{Kept, draft_of, past_kept, units_draft, tables_of, kept_offsets, kept_at, Stands, AreInRow, starts_of, IsThereFilled, PendsTree, PendsUnit, Pending, ExtendsPending, AddsUnits}
+use Rattle.dw_unit.specs.Places.{Offsets, OffsetsValue}
+use Rattle.dw_unit.specs.UnitFaults.{holes_fail}
 use Rattle.dw_unit.specs.UnitValue.{UnitValue}
-use Rattle.dw_unit.specs.Whole.{tree_shapes, tree_table}
-use Rattle.dw_unit.specs.Written.{AppendsUnits}
+use Rattle.dw_unit.specs.Whole.{tree_table}
+use Rattle.dw_unit.proofs.TextsThere.{then_filled, nothing_filled}
+use Rattle.dw_unit.proofs.Filling.{holes-shifted, holes_lead}
 
--- drafts without references, one after another
-then_holes : (d f : Draft) → d.holes ≡ [] → f.holes ≡ [] → (then_draft d f).holes ≡ []
-unfolding then_draft
-then_holes d f p q = ap (λ hs. hs ++ shifted d.size f.holes) p ∙ ap (shifted d.size) q
+-- Rows
 
-all_holes : {A : Type 0} (f : A → Draft) (xs : List A) → ((x : A) → (f x).holes ≡ []) → (all_drafts (map f xs)).holes ≡ []
-all_holes f [] h = refl
-all_holes f (x ∷ xs) h = then_holes (f x) (all_drafts (map f xs)) (h x) (all_holes f xs h)
+starts_are : (a b : Starts) → a.info ≡ b.info → a.abbrevs ≡ b.abbrevs → a ≡ b
+starts_are a b p q =
+    ap (λ n. let s : Starts = record { info = n; abbrevs = a.abbrevs } in s) p ∙ ap (λ n. let s : Starts = record { info = b.info; abbrevs = n } in s) q
 
-module _ (e : Encoding) (t : UnitTargets) where
-  sibling_holes : (past : ℕ) (x : EntryValue) → (sibling_draft e past x).holes ≡ []
-  sibling_holes past x = either (has_sibling x)
+-- as many units as places
+pub row_length : (at : Starts) (us : List Numbered) (ks : List Kept) → AreInRow at us ks → length us ≡ length ks
+row_length at [] [] h = refl
+row_length at [] (k ∷ ks) h = absurd h
+row_length at (u ∷ us) [] h = absurd h
+row_length at (u ∷ us) (k ∷ ks) h = ap suc (row_length (past_kept at u.unit k) us ks h.1)
+
+module _ (vs : List Numbered) (js : List Kept) where
+  drafts_append : (at : Starts) (us : List Numbered) (ks : List Kept) → AreInRow at us ks → units_draft (us ++ vs) (ks ++ js) ≡ then_draft (units_draft us ks) (units_draft vs js)
+  drafts_append at [] [] h = sym (nothing-then (units_draft vs js))
+  drafts_append at [] (k ∷ ks) h = absurd h
+  drafts_append at (u ∷ us) [] h = absurd h
+  drafts_append at (u ∷ us) (k ∷ ks) h =
+      let d = draft_of u.unit.encoding u.unit.entries k in
+      ap (then_draft d) (drafts_append (past_kept at u.unit k) us ks h.1) ∙ sym (then-assoc d (units_draft us ks) (units_draft vs js))
+
+  row_append : (at next : Starts) (us : List Numbered) (ks : List Kept) → AreInRow at us ks → AreInRow next vs js →
+      next.info ≡ at.info + (units_draft us ks).size → next.abbrevs ≡ at.abbrevs + length (tables_of us) → AreInRow at (us ++ vs) (ks ++ js)
+  unfolding then_draft
+  row_append at next [] [] h k info tables = subst (λ s. AreInRow s vs js) (starts_are next at (omega (arith, info)) (omega (arith, tables))) k
+  row_append at next [] (j ∷ ks) h k info tables = absurd h
+  row_append at next (u ∷ us) [] h k info tables = absurd h
+  row_append at next (u ∷ us) (j ∷ ks) h k info tables =
+      let table = tree_table u.unit.encoding u.unit.entries in
+      (h.0, row_append (past_kept at u.unit j) next us ks h.1 k (omega (arith, info)) (omega (arith, tables, length-append table (tables_of us))))
+
+tables_append : (us vs : List Numbered) → tables_of (us ++ vs) ≡ tables_of us ++ tables_of vs
+tables_append [] vs = refl
+tables_append (u ∷ us) vs =
+    let table = tree_table u.unit.encoding u.unit.entries in
+    ap (λ ts. table ++ ts) (tables_append us vs) ∙ sym (append_assoc table (tables_of us) (tables_of vs))
+
+-- What is pending
+
+module _ {W : Type 0} (meaning : W → Meaning) where
+  -- nothing
+  pub pending_none : (s : Sections W) → Pending meaning s s [] []
+  pending_none s = record {
+    in_row = tt;
+    units = Drafts-nothing (meaning s.debug_info.0) s.debug_info_fixups;
+    tables = Adds-none (meaning s.debug_abbrev.0);
+    there = λ plain. nothing_filled;
+  }
+
+  -- one unit
+  pub pending_one : (id : ℕ) (u : UnitValue) (old new : Sections W) (k : Kept) → PendsTree meaning old new u.encoding u.entries k → Pending meaning old new (record { id = id; unit = u } ∷ []) (k ∷ [])
+  pending_one id u old new k p = record {
+    in_row = (p.stands, tt);
+    units = Drafts-is p.unit (sym (then-nothing (draft_of u.encoding u.entries k)));
+    tables = subst (Adds (meaning old.debug_abbrev.0) (meaning new.debug_abbrev.0)) (sym (append-nil (tree_table u.encoding u.entries))) p.table;
+    there = λ plain. subst IsThereFilled (sym (then-nothing (draft_of u.encoding u.entries k))) (p.there plain);
+  }
+
+  -- units behind units
+  pub pending_then : (a b c : Sections W) (us vs : List Numbered) (ks js : List Kept) → Pending meaning a b us ks → Pending meaning b c vs js → Pending meaning a c (us ++ vs) (ks ++ js)
+  pending_then a b c us vs ks js p q =
+      let both = drafts_append vs js (starts_of meaning a) us ks p.in_row in
+      record {
+        in_row = row_append vs js (starts_of meaning a) (starts_of meaning b) us ks p.in_row q.in_row p.units.text.size p.tables.size;
+        units = Drafts-is (Drafts-then p.units q.units) (sym both);
+        tables = subst (Adds (meaning a.debug_abbrev.0) (meaning c.debug_abbrev.0)) (sym (tables_append us vs)) (Adds-then p.tables q.tables);
+        there = λ plain. subst IsThereFilled (sym both) (then_filled (units_draft us ks) (units_draft vs js) (p.there plain) (q.there (p.units.text.same.kind ∙ plain)));
+      }
+
+  -- one unit more, whatever is pending
+  pub pending_more : (u : UnitValue) (old new : Sections W) (offsets : Option OffsetsValue) → PendsUnit meaning old new u offsets → ExtendsPending meaning old new u offsets
+  pending_more u old new offsets p before us ks id pending =
+      (p.kept, p.offsets_are, pending_then before old new us (record { id = id; unit = u } ∷ []) ks (p.kept ∷ []) pending (pending_one id u old new p.kept p.tree))
+
+  -- the same where only lists of fixups that aren't of .debug_info are other ones
+  -- The references of what is pending lie in the section, one behind another, and no record meets them.
+
+  pub pending_between : (a b : Sections W) (us : List Numbered) (ks : List Kept) → a.debug_info_fixups ≡ [] → Pending meaning a b us ks → AreBetween 0 (meaning b.debug_info.0).size b.debug_info_fixups
+  pending_between a b us ks none p =
+      let d = units_draft us ks in
+      let from = (meaning a.debug_info.0).size in
+      let to = (meaning b.debug_info.0).size in
+      let there : AreBetween (from + 0) (from + d.size) (shifted from d.holes) = between-place from 0 0 d.size d.holes p.units.is.between in
+      let moved : AreBetween (from + 0) to (shifted from d.holes) = subst (λ n. AreBetween (from + 0) n (shifted from d.holes)) (sym p.units.text.size) there in
+      subst (AreBetween 0 to) (sym (pending_fixups a b us ks none p)) (between-from 0 (from + 0) to (shifted from d.holes) (omega arith) moved)
     where
-      either : (b : Bool) → (if b then whole (word_of e.format) (fitting_text (word_of e.format) past) else no_draft).holes ≡ []
-      either true = refl
-      either false = refl
+      pending_fixups : (a b : Sections W) (us : List Numbered) (ks : List Kept) → a.debug_info_fixups ≡ [] → Pending meaning a b us ks → b.debug_info_fixups ≡ shifted (meaning a.debug_info.0).size (units_draft us ks).holes
+      pending_fixups a b us ks none p = p.units.fixups ∙ ap (λ hs. hs ++ shifted (meaning a.debug_info.0).size (units_draft us ks).holes) none
 
-  mark_holes : (es : List EntryValue) (shapes : List Shape) (m : Mark ℕ) → (coded_draft e es t shapes m).holes ≡ []
-  mark_holes es shapes (Open i) =
-      let x = entry_at es i in
-      then_holes _ _ refl (then_holes (sibling_draft e (t.past i) x) (attributes_draft e t x.attributes) (sibling_holes (t.past i) x) (all_holes (attribute_draft e t) x.attributes (λ a. refl)))
-  mark_holes es shapes Null = refl
+  pub pending_fixups : (a b : Sections W) (us : List Numbered) (ks : List Kept) → a.debug_info_fixups ≡ [] → Pending meaning a b us ks → b.debug_info_fixups ≡ shifted (meaning a.debug_info.0).size (units_draft us ks).holes
+  pending_fixups a b us ks none p = p.units.fixups ∙ ap (λ hs. hs ++ shifted (meaning a.debug_info.0).size (units_draft us ks).holes) none
 
-  -- No value of today refers to an entry of another unit.
-  pub no_holes : (es : List EntryValue) → (tree_draft e es t).holes ≡ []
-  no_holes es = all_holes (coded_draft e es t (tree_shapes e es)) (preorder es) (mark_holes es (tree_shapes e es))
+  pub pending_widths : (a b : Sections W) (us : List Numbered) (ks : List Kept) → a.debug_info_fixups ≡ [] → Pending meaning a b us ks → HaveWidths b.debug_info_fixups
+  pending_widths a b us ks none p =
+      subst HaveWidths (sym (pending_fixups a b us ks none p)) (widths-shifted (meaning a.debug_info.0).size (units_draft us ks).holes p.units.is.widths)
 
-  -- nor does a unit that is written
-  unit_holes : (table : ℕ) (es : List EntryValue) → (unit_draft e table (tree_draft e es t)).holes ≡ []
-  unit_holes table es = then_holes (whole (header_size e) (header_text e table (tree_draft e es t).size)) (tree_draft e es t) refl (no_holes es)
+  pending_clear : (a b : Sections W) (us : List Numbered) (ks : List Kept) → a.debug_info_fixups ≡ [] → IsTidy (meaning a.debug_info.0) → Pending meaning a b us ks → AreClear (meaning b.debug_info.0) b.debug_info_fixups
+  pending_clear a b us ks none tidy p = subst (AreClear (meaning b.debug_info.0)) (sym (pending_fixups a b us ks none p)) (p.units.clear tidy)
 
--- where nothing is left open, the open text is the filled one
-open_is : (d : Draft) → IsDraft d → d.holes ≡ [] → (info : Info) (big : Bool) (l : Layout) → open_text d big l ≡ d.text info big l
-open_is d is none info big l = ap (λ hs. filled big info hs (open_text d big l)) (sym none) ∙ is.fills info big l
+  -- what no fixup of them stands in the way of
+  pub pending_lead : (info : Info) (plain : Bool) (a b : Sections W) (us : List Numbered) (ks : List Kept) → a.debug_info_fixups ≡ [] → Pending meaning a b us ks →
+      (err : Error) → holes_fail info plain b.debug_info_fixups err ≡ holes_fail info plain (units_draft us ks).holes err
+  pending_lead info plain a b us ks none p err =
+      ap (λ hs. holes_fail info plain hs err) (pending_fixups a b us ks none p) ∙ holes-shifted info plain (meaning a.debug_info.0).size (units_draft us ks).holes err
 
--- what is added alone is added as a list of one
-alone : (d : Draft) → d ≡ then_draft d no_draft
-alone d = sym (then-nothing d)
-
-module _ {W : Type 0} (meaning : W → Meaning) (old new : Sections W) where
-  unit_added : (u : UnitValue) → PendsTree meaning old new u.encoding u.entries → AppendsUnits meaning old new (u ∷ [])
-  unit_added u p =
-      let e = u.encoding in
-      let k = p.kept in
-      let d = draft_of e u.entries k in
-      let none = unit_holes e (targets_of k.places) k.starts.abbrevs u.entries in
-      let before = meaning old.debug_info.0 in
+  -- Units whose references are filled in are added.
+  pub units_added : (info : Info) (a b : Sections W) (new : Meaning) (us : List Numbered) (ks : List Kept) → a.debug_info_fixups ≡ [] → Pending meaning a b us ks → Fills (meaning b.debug_info.0) new info b.debug_info_fixups →
+      ((err : Error) → IsFalse (holes_fail info (meaning a.debug_info.0).is_plain (units_draft us ks).holes err)) → AddsUnits (meaning a.debug_info.0) new (meaning a.debug_abbrev.0).size info us ks
+  units_added info a b new us ks none p f lead =
+      let old = meaning a.debug_info.0 in
+      let mid = meaning b.debug_info.0 in
+      let d = units_draft us ks in
+      let hs = b.debug_info_fixups in
       record {
-        info = record {
-          kept = k ∷ [];
-          in_row = (p.stands, tt);
-          same = p.unit.text.same;
-          size = p.unit.text.size ∙ ap (λ f. before.size + f.size) (alone d);
-          tidy = p.unit.text.tidy;
-          resolves = λ tidy l.
-              let at = started (start_of l DebugInfo) (info_of (k ∷ [])) in
-              p.unit.text.resolves tidy l
-              ∙ ap (followed (resolved l before)) (open_is d p.unit.is none at before.is_big l)
-              ∙ ap (λ f. followed (resolved l before) (f.text at before.is_big l)) (alone d);
-          there = λ plain big.
-              let at = started (start_of at_zero DebugInfo) (info_of (k ∷ [])) in
-              subst (λ f. IsThere (f.text at big at_zero)) (alone d) (p.there plain at big);
-        };
-        tables = subst (Adds (meaning old.debug_abbrev.0) (meaning new.debug_abbrev.0)) (sym (append-nil (tree_table e u.entries))) p.table;
+        in_row = p.in_row;
+        same = IsSameWriter-trans p.units.text.same f.same;
+        size = f.size ∙ p.units.text.size;
+        tidy = λ tidy. (f.resolves (p.units.text.tidy tidy) (pending_clear a b us ks none tidy p) (pending_between a b us ks none p)).0;
+        resolves = λ tidy l.
+            let at_l = started (start_of l DebugInfo) info in
+            (f.resolves (p.units.text.tidy tidy) (pending_clear a b us ks none tidy p) (pending_between a b us ks none p)).1 l
+            ∙ ap (λ big. filled big at_l hs (resolved l mid)) p.units.text.same.order
+            ∙ ap (λ xs. filled old.is_big at_l xs (resolved l mid)) (pending_fixups a b us ks none p)
+            ∙ ap (filled old.is_big at_l (shifted old.size d.holes)) (p.units.text.resolves tidy l)
+            ∙ filled-behind old.is_big at_l d.holes old.size (resolved l old) (open_text d old.is_big l) (resolved-wide l old tidy)
+            ∙ ap (followed (resolved l old)) (p.units.is.fills at_l old.is_big l);
+        there = λ plain big.
+            let sound : (err : Error) → IsFalse (holes_fail info true d.holes err) = subst (λ b. (err : Error) → IsFalse (holes_fail info b d.holes err)) plain lead in
+            p.there plain (started (start_of at_zero DebugInfo) info) (holes_lead info d.holes sound) big;
       }
 
-  -- A unit of an encoding and entries is added as a list of one unit: none of its references is left open.
-  pub one_added : (e : Encoding) (es : List EntryValue) (u : UnitValue) → PendsTree meaning old new e es → u.encoding ≡ e → u.entries ≡ es → AppendsUnits meaning old new (u ∷ [])
-  one_added e es u p encoding entries =
-      unit_added u (subst (λ x. PendsTree meaning old new x u.entries) (sym encoding) (subst (PendsTree meaning old new e) (sym entries) p))
+-- Places that units keep
 
-  -- where the two sections stay, no unit is added
-  pub none_added : meaning new.debug_info.0 ≡ meaning old.debug_info.0 → meaning new.debug_abbrev.0 ≡ meaning old.debug_abbrev.0 → AppendsUnits meaning old new []
-  none_added info abbrevs =
-      let before = meaning old.debug_info.0 in
-      record {
-        info = subst (λ m. AddsUnits before m (meaning old.debug_abbrev.0).size []) (sym info) (record {
-          kept = [];
-          in_row = tt;
-          same = record { order = refl; kind = refl; faults = omega arith };
-          size = sym (add-zero before.size);
-          tidy = λ tidy. tidy;
-          resolves = λ tidy l. sym (followed-nothing (resolved l before));
-          there = λ plain big. ([], refl);
-        });
-        tables = subst (λ m. Adds (meaning old.debug_abbrev.0) m []) (sym abbrevs) (Adds-none (meaning old.debug_abbrev.0));
-      }
+-- a unit more, which has another number
+pub kept_other : (us : List Numbered) (ks : List Kept) (u : Numbered) (k : Kept) (n : ℕ) → length us ≡ length ks → (u.id == n) ≡ false → kept_at (us ++ u ∷ []) (ks ++ k ∷ []) n ≡ kept_at us ks n
+kept_other [] [] u k n e ne = ap (λ (b : Bool). if b then Some (kept_offsets k) else None) ne
+kept_other [] (j ∷ ks) u k n e ne = absurd (omega (arith, e))
+kept_other (v ∷ us) [] u k n e ne = absurd (omega (arith, e))
+kept_other (v ∷ us) (j ∷ ks) u k n e ne =
+    ap (λ (x : Option Offsets). if v.id == n then Some (kept_offsets j) else x) (kept_other us ks u k n (omega (arith, e)) ne)
+
+none_by : (b : Bool) (x : Offsets) (y : Option Offsets) → (if b then Some x else y) ≡ None → (b ≡ false) × (y ≡ None)
+none_by true x y h = absurd (let k : ◌≡◌ {A = Option Offsets} (Some x) None = h in cc)
+none_by false x y h = (refl, h)
+
+-- a unit more that has this number, which none had
+pub kept_last : (us : List Numbered) (ks : List Kept) (u : Numbered) (k : Kept) (n : ℕ) → length us ≡ length ks → kept_at us ks n ≡ None → (u.id == n) ≡ true → kept_at (us ++ u ∷ []) (ks ++ k ∷ []) n ≡ Some (kept_offsets k)
+kept_last [] [] u k n e none is = ap (λ (b : Bool). if b then Some (kept_offsets k) else None) is
+kept_last [] (j ∷ ks) u k n e none is = absurd (omega (arith, e))
+kept_last (v ∷ us) [] u k n e none is = absurd (omega (arith, e))
+kept_last (v ∷ us) (j ∷ ks) u k n e none is =
+    let parts = none_by (v.id == n) (kept_offsets j) (kept_at us ks n) none in
+    ap (λ (b : Bool). if b then Some (kept_offsets j) else kept_at (us ++ u ∷ []) (ks ++ k ∷ []) n) parts.0 ∙ kept_last us ks u k n (omega (arith, e)) parts.1 is

@@ -1,6 +1,5 @@
 -- Units are read back, one after another, wherever their sections start.
 use Rattle.std.specs.Prelude.{◌≡◌, ℕ, suc, zero, ◌+◌, ◌<◌, ◌≤◌, Bool, true, false, ◌&&◌, List, [], ◌∷◌, ◌++◌, length, Option, Some, None, refl, IsTrue, if◌then◌else◌, nat_le}
-use Rattle.std.specs.List.{flat_map}
 use Rattle.std.proofs.Common.{sym, ◌∙◌, ap, subst, arith, append_assoc, length-append, inl, inr}
 use Rattle.std.proofs.lemmas.Bool.{cases_eq, eq-eqb, ne_eqb, and_parts, leb-true}
 use Rattle.std.proofs.lemmas.Option.{none-some, same_Some}
@@ -23,8 +22,8 @@ use Rattle.dw_writer.proofs.Laws.{length-num}
 use Rattle.dw_writer.proofs.Plain.{num-byte}
 use Rattle.dw_entries.specs.Entries.{EntryValue}
 use Rattle.dw_entries.specs.Targets.{targets_in}
-use Rattle.dw_unit.specs.Built.{Starts}
-use Rattle.dw_unit.specs.Pending.{Kept, draft_of, units_draft, past_kept, Stands, AreInRow}
+use Rattle.dw_unit.specs.Built.{Numbered, Starts}
+use Rattle.dw_unit.specs.Pending.{Kept, draft_of, units_draft, tables_of, past_kept, Stands, AreInRow}
 use Rattle.dw_unit.specs.Places.{targets_of}
 use Rattle.dw_unit.specs.Read.{read_tree}
 use Rattle.dw_unit.specs.UnitFaults.{is_version, is_encodable}
@@ -189,23 +188,19 @@ there big l info at e es k xs s h =
       };
     }
 
--- the tables of units, one behind another
-abbrev pub tables_of : List UnitValue → List ℕ
-tables_of us = flat_map (λ u. tree_table u.encoding u.entries) us
-
 -- A unit is read where its sections start, with the places that were kept.
 pub record IsReadAs (big : Bool) (l : Layout) (info : Info) (u : UnitValue) (k : Kept) (r : ReadUnit) : Type 0 where
   pub marks : List (Mark ReadEntry)
   pub read : read_tree big u.encoding (targets_in (targets_of k.places) l info) u.entries ≡ Some marks
   pub is : r ≡ read_unit big u.encoding (k.starts.info + start_of l DebugInfo) (k.starts.abbrevs + start_of l DebugAbbrev) (tree_declared u.encoding u.entries) marks
 
-abbrev pub AreReadAs : Bool → Layout → Info → List UnitValue → List Kept → List ReadUnit → Type 0
+abbrev pub AreReadAs : Bool → Layout → Info → List Numbered → List Kept → List ReadUnit → Type 0
 AreReadAs big l info [] [] [] = Unit {0}
-AreReadAs big l info (u ∷ us) (k ∷ ks) (r ∷ rs) = IsReadAs big l info u k r × AreReadAs big l info us ks rs
+AreReadAs big l info (u ∷ us) (k ∷ ks) (r ∷ rs) = IsReadAs big l info u.unit k r × AreReadAs big l info us ks rs
 AreReadAs big l info us ks rs = ⊥
 
 -- Units in a row are read from the bytes of their text and of their tables, and then what stands behind these.
-pub record AreRead (big : Bool) (l : Layout) (info : Info) (us : List UnitValue) (ks : List Kept) (n fuel from table_from : ℕ) (xs rest others : List ℕ) : Type 0 where
+pub record AreRead (big : Bool) (l : Layout) (info : Info) (us : List Numbered) (ks : List Kept) (n fuel from table_from : ℕ) (xs rest others : List ℕ) : Type 0 where
   pub reads : List ReadUnit
   pub as_kept : AreReadAs big l info us ks reads
   pub again : units_at n big from table_from (xs ++ rest) (tables_of us ++ others) ≡ (units_at fuel big (from + length xs) (table_from + length (tables_of us)) rest others >>= λ more. Some (reads ++ more))
@@ -240,7 +235,7 @@ one_before big n fuel from table_from place first tail xs bytes table tables res
     ∙ ap (λ m. units_at fuel big (from + length xs) m rest others >>= λ more. Some (own ∷ (reads ++ more))) tables_to
 
 module _ (big : Bool) (l : Layout) (info : Info) where
-  pub units-again : (us : List UnitValue) (ks : List Kept) (at : Starts) (n fuel from table_from : ℕ) (xs rest others : List ℕ) → AreInRow at us ks →
+  pub units-again : (us : List Numbered) (ks : List Kept) (at : Starts) (n fuel from table_from : ℕ) (xs rest others : List ℕ) → AreInRow at us ks →
       n ≡ length us + fuel → from ≡ at.info + start_of l DebugInfo → table_from ≡ at.abbrevs + start_of l DebugAbbrev → (units_draft us ks).text info big l ≡ Some xs → AreRead big l info us ks n fuel from table_from xs rest others
   unfolding then_draft
   units-again [] [] at n fuel from table_from xs rest others row count here tables_here h =
@@ -259,20 +254,20 @@ module _ (big : Bool) (l : Layout) (info : Info) where
   units-again (u ∷ us) [] at n fuel from table_from xs rest others row count here tables_here h = absurd row
   units-again (u ∷ us) (k ∷ ks) at zero fuel from table_from xs rest others row count here tables_here h = absurd (omega arith)
   units-again (u ∷ us) (k ∷ ks) at (suc n) fuel from table_from xs rest others row count here tables_here h =
-      let e = u.encoding in
+      let e = u.unit.encoding in
       let s = row.0 in
-      let a = parted ((draft_of e u.entries k).text info big l) ((units_draft us ks).text info big l) xs h in
-      let t = there big l info at e u.entries k a.first s a.first_is in
+      let a = parted ((draft_of e u.unit.entries k).text info big l) ((units_draft us ks).text info big l) xs h in
+      let t = there big l info at e u.unit.entries k a.first s a.first_is in
       let place = k.starts.abbrevs + start_of l DebugAbbrev in
-      let table = tree_table e u.entries in
+      let table = tree_table e u.unit.entries in
       let tables = tables_of us in
       let tabled_at : table_from ≡ place = omega (arith, tables_here, ap (λ p. p.abbrevs) s.starts) in
-      let size : length a.first ≡ (draft_of e u.entries k).size = t.size in
+      let size : length a.first ≡ (draft_of e u.unit.entries k).size = t.size in
       let from_is : from ≡ k.starts.info + start_of l DebugInfo = omega (arith, here, ap (λ p. p.info) s.starts) in
-      let next_from : from + length a.first ≡ (past_kept at u k).info + start_of l DebugInfo = omega (arith, here, size) in
-      let next_table : table_from + length table ≡ (past_kept at u k).abbrevs + start_of l DebugAbbrev = omega (arith, tables_here) in
-      let more = units-again us ks (past_kept at u k) n fuel (from + length a.first) (table_from + length table) a.rest rest others row.1 (omega arith) next_from next_table a.rest_is in
-      let declared = tree_declared e u.entries in
+      let next_from : from + length a.first ≡ (past_kept at u.unit k).info + start_of l DebugInfo = omega (arith, here, size) in
+      let next_table : table_from + length table ≡ (past_kept at u.unit k).abbrevs + start_of l DebugAbbrev = omega (arith, tables_here) in
+      let more = units-again us ks (past_kept at u.unit k) n fuel (from + length a.first) (table_from + length table) a.rest rest others row.1 (omega arith) next_from next_table a.rest_is in
+      let declared = tree_declared e u.unit.entries in
       let own : ReadUnit = read_unit big e from place declared t.marks in
       let step = unit-again n big e from place declared t.marks (a.rest ++ rest) (tables ++ others) t.is_unit in
       record {

@@ -1,24 +1,202 @@
--- Which units of a table are written.
-use Rattle.std.specs.Prelude.{◌≡◌, ◌≤◌, ◌<◌, Bool, true, false, not, List, [], ◌∷◌, length, map, slice_index_or, refl, if◌then◌else◌}
-use Rattle.std.proofs.Common.{sym, ◌∙◌, ap, arith}
-use Rattle.dw_unit.specs.UnitValue.{UnitValue}
-use Rattle.dw_unit.specs.Whole.{settled}
-use Rattle.dw_unit.specs.Written.{to_write}
+-- The units of a table, written one after another.
+use Rattle.std.specs.Prelude.{◌≡◌, ◌⊎◌, ℕ, suc, zero, ◌+◌, ◌≤◌, ◌<◌, Bool, true, false, List, [], ◌∷◌, ◌++◌, length, Option, Some, None, ◌==◌, refl, slice_get, slice_set, slice_index_or, All, if◌then◌else◌}
+use Rattle.std.proofs.Common.{sym, ◌∙◌, ap, subst, arith, append-nil, append_assoc, length-append, inl, inr}
+use Rattle.std.proofs.lemmas.Bool.{cases_eq, eq-eqb, ne_eqb}
+use Rattle.std.proofs.lemmas.List.Elements.{All-head, All-tail}
+use Rattle.dw_base.specs.Numbers.{◌>>=◌}
+use Rattle.dw_base.specs.declared.error.Error.{Error}
+use Rattle.dw_unit.specs.Built.{Numbered, table_size}
+use Rattle.dw_unit.specs.Causes.{UnitFails, UnitsFail}
+use Rattle.dw_unit.specs.Pending.{Kept, kept_offsets, kept_at, tables_of, offsets_at, KeepPlaces}
+use Rattle.std.specs.Option.{option_map}
+use Rattle.dw_unit.specs.Places.{Offsets, offsets_in}
+use Rattle.dw_unit.specs.UnitValue.{UnitValue, offsets_of}
+use Rattle.dw_unit.specs.Valid.{IsWritableAt, AreWritable}
+use Rattle.dw_unit.specs.Whole.{settled, marked_written, written, AreWritten, AreStopped, IsRefused, tree_table}
+use Rattle.dw_unit.specs.Written.{to_write_from, to_write, past_table}
+use Rattle.dw_unit.proofs.PendingSteps.{kept_other, kept_last}
 
--- a unit that isn't written yet
-written_alone : (b : Bool) (u : UnitValue) → u.is_written ≡ b → to_write (u ∷ []) ≡ (if b then [] else settled u ∷ [])
-written_alone b u h = ap (λ (t : Bool). map settled (if not t then u ∷ [] else [])) h ∙ either b
+-- A table of which some units were gone through: what they were, what they are, and the others.
+pub record IsAt (us vs : List UnitValue) (i : ℕ) (before after rest : List UnitValue) : Type 0 where
+  pub old_is : us ≡ before ++ rest
+  pub new_is : vs ≡ after ++ rest
+  pub count_before : length before ≡ i
+  pub count_after : length after ≡ i
+
+-- the unit that is next
+pub next_is : (xs : List UnitValue) (rest : List UnitValue) (i : ℕ) (d : UnitValue) → length xs ≡ i → i < length (xs ++ rest) → (more : List UnitValue) × (rest ≡ slice_index_or (xs ++ rest) i d ∷ more)
+next_is [] [] i d e h = absurd (omega (arith, e, h))
+next_is [] (u ∷ rest) zero d e h = (rest, refl)
+next_is [] (u ∷ rest) (suc i) d e h = absurd (omega (arith, e))
+next_is (x ∷ xs) rest zero d e h = absurd (omega (arith, e))
+next_is (x ∷ xs) rest (suc i) d e h = next_is xs rest i d (omega (arith, e)) (omega (arith, h))
+
+pub set_next : (xs : List UnitValue) (u v : UnitValue) (rest : List UnitValue) (i : ℕ) → length xs ≡ i → slice_set (xs ++ u ∷ rest) i v ≡ xs ++ v ∷ rest
+set_next [] u v rest zero e = refl
+set_next [] u v rest (suc i) e = absurd (omega (arith, e))
+set_next (x ∷ xs) u v rest zero e = absurd (omega (arith, e))
+set_next (x ∷ xs) u v rest (suc i) e = ap (λ ys. x ∷ ys) (set_next xs u v rest i (omega (arith, e)))
+
+one_more : (xs : List UnitValue) (u : UnitValue) (rest : List UnitValue) → xs ++ u ∷ rest ≡ (xs ++ u ∷ []) ++ rest
+one_more xs u rest = sym (append_assoc xs (u ∷ []) rest)
+
+length_more : (xs : List UnitValue) (u : UnitValue) (i : ℕ) → length xs ≡ i → length (xs ++ u ∷ []) ≡ i + 1
+length_more xs u i e = omega (arith, length-append xs (u ∷ []), e)
+
+pub none_gone : (us : List UnitValue) → IsAt us us 0 [] [] us
+none_gone us = record { old_is = refl; new_is = refl; count_before = refl; count_after = refl }
+
+pub one_gone : (us vs : List UnitValue) (i : ℕ) (before after : List UnitValue) (u v : UnitValue) (rest : List UnitValue) → IsAt us vs i before after (u ∷ rest) →
+    IsAt us (slice_set vs i v) (i + 1) (before ++ u ∷ []) (after ++ v ∷ []) rest
+one_gone us vs i before after u v rest h = record {
+  old_is = h.old_is ∙ one_more before u rest;
+  new_is = ap (λ ys. slice_set ys i v) h.new_is ∙ set_next after u v rest i h.count_after ∙ one_more after v rest;
+  count_before = length_more before u i h.count_before;
+  count_after = length_more after v i h.count_after;
+}
+
+no_rest : (xs rest : List UnitValue) → length (xs ++ rest) ≤ length xs → rest ≡ []
+no_rest [] [] h = refl
+no_rest [] (u ∷ rest) h = absurd (omega (arith, h))
+no_rest (x ∷ xs) rest h = no_rest xs rest (omega (arith, h))
+
+-- where all are gone through
+pub all_gone : (us vs : List UnitValue) (i : ℕ) (before after rest : List UnitValue) → IsAt us vs i before after rest → length vs ≤ i → (before ≡ us) × (after ≡ vs)
+all_gone us vs i before after rest h le =
+    let none : rest ≡ [] = no_rest after rest (omega (arith, le, h.count_after, ap length h.new_is)) in
+    (sym (h.old_is ∙ ap (λ r. before ++ r) none ∙ append-nil before), sym (h.new_is ∙ ap (λ r. after ++ r) none ∙ append-nil after))
+
+-- What they are
+
+pub written_more : (xs ys : List UnitValue) (u v : UnitValue) → AreWritten xs ys → v ≡ written v.offsets u → AreWritten (xs ++ u ∷ []) (ys ++ v ∷ [])
+written_more [] [] u v h k = (k, tt)
+written_more [] (y ∷ ys) u v h k = absurd h
+written_more (x ∷ xs) [] u v h k = absurd h
+written_more (x ∷ xs) (y ∷ ys) u v h k = (h.0, written_more xs ys u v h.1 k)
+
+pub stopped_at : (xs ys : List UnitValue) (u v : UnitValue) (rest : List UnitValue) → AreWritten xs ys → IsRefused u v → AreStopped (xs ++ u ∷ rest) (ys ++ v ∷ rest)
+stopped_at [] [] u v rest h k = inr (k, refl)
+stopped_at [] (y ∷ ys) u v rest h k = absurd h
+stopped_at (x ∷ xs) [] u v rest h k = absurd h
+stopped_at (x ∷ xs) (y ∷ ys) u v rest h k = inl (h.0, stopped_at xs ys u v rest h.1 k)
+
+-- where none was refused
+pub stopped_after : (us vs : List UnitValue) → AreWritten us vs → AreStopped us vs
+stopped_after [] [] h = tt
+stopped_after [] (v ∷ vs) h = absurd h
+stopped_after (u ∷ us) [] h = absurd h
+stopped_after (u ∷ us) (v ∷ vs) h = inl (h.0, stopped_after us vs h.1)
+
+pub written_old : (u v : UnitValue) → u.is_written ≡ true → v ≡ u → v ≡ written v.offsets u
+written_old u v old same = same ∙ sym (ap (λ (b : Bool). if b then u else marked_written v.offsets (settled u)) old)
+
+pub written_new : (u v : UnitValue) → u.is_written ≡ false → v ≡ marked_written v.offsets (settled u) → v ≡ written v.offsets u
+written_new u v new is = is ∙ sym (ap (λ (b : Bool). if b then u else marked_written v.offsets (settled u)) new)
+
+-- Where their tables stand
+
+-- behind the tables of units that are written
+abbrev pub past_tables : ℕ → List UnitValue → ℕ
+past_tables at [] = at
+past_tables at (u ∷ us) = past_tables (past_table at u) us
+
+pub writable_more : (plain : Bool) (at : ℕ) (xs : List UnitValue) (u : UnitValue) → AreWritable plain at xs → (u.is_written ≡ true) ⊎ IsWritableAt plain (past_tables at xs) u → AreWritable plain at (xs ++ u ∷ [])
+writable_more plain at [] u h k = (k, tt)
+writable_more plain at (x ∷ xs) u h k = (h.0, writable_more plain (past_table at x) xs u h.1 k)
+
+pub fails_at : (plain : Bool) (at : ℕ) (xs : List UnitValue) (u : UnitValue) (rest : List UnitValue) (err : Error) → u.is_written ≡ false → UnitFails u (past_tables at xs) plain err → UnitsFail plain at (xs ++ u ∷ rest) err
+fails_at plain at [] u rest err new h = inl (new, h)
+fails_at plain at (x ∷ xs) u rest err new h = inr (fails_at plain (past_table at x) xs u rest err new h)
+
+pub past_more : (at : ℕ) (xs : List UnitValue) (u : UnitValue) → past_tables at (xs ++ u ∷ []) ≡ past_table (past_tables at xs) u
+past_more at [] u = refl
+past_more at (x ∷ xs) u = past_more (past_table at x) xs u
+
+pub past_old : (at : ℕ) (u : UnitValue) → u.is_written ≡ true → past_table at u ≡ at
+past_old at u h = ap (λ (b : Bool). if b then at else at + table_size (settled u)) h
+
+pub past_new : (at : ℕ) (u : UnitValue) → u.is_written ≡ false → past_table at u ≡ at + table_size (settled u)
+past_new at u h = ap (λ (b : Bool). if b then at else at + table_size (settled u)) h
+
+-- What is to be written
+
+by_mark : (n : ℕ) (u : UnitValue) (us : List UnitValue) (b : Bool) → u.is_written ≡ b →
+    to_write_from n (u ∷ us) ≡ (if b then to_write_from (suc n) us else record { id = n; unit = settled u } ∷ to_write_from (suc n) us)
+by_mark n u us b h = ap (λ (t : Bool). if t then to_write_from (suc n) us else record { id = n; unit = settled u } ∷ to_write_from (suc n) us) h
+
+pub to_write-old : (n : ℕ) (xs : List UnitValue) (u : UnitValue) → u.is_written ≡ true → to_write_from n (xs ++ u ∷ []) ≡ to_write_from n xs
+to_write-old n [] u h = by_mark n u [] true h
+to_write-old n (x ∷ xs) u h = step x.is_written refl (to_write-old (suc n) xs u h)
   where
-    either : (b : Bool) → map settled (if not b then u ∷ [] else []) ≡ (if b then [] else settled u ∷ [])
-    either true = refl
-    either false = refl
+    step : (b : Bool) → x.is_written ≡ b → to_write_from (suc n) (xs ++ u ∷ []) ≡ to_write_from (suc n) xs →
+        (if b then to_write_from (suc n) (xs ++ u ∷ []) else record { id = n; unit = settled x } ∷ to_write_from (suc n) (xs ++ u ∷ [])) ≡ (if b then to_write_from (suc n) xs else record { id = n; unit = settled x } ∷ to_write_from (suc n) xs)
+    step true is more = more
+    step false is more = ap (λ ys. record { id = n; unit = settled x } ∷ ys) more
 
--- of the only unit of a table
-pub to_write-one : (us : List UnitValue) (u : UnitValue) (b : Bool) → length us ≤ 1 → 0 < length us → u ≡ slice_index_or us 0 u → u.is_written ≡ b → to_write us ≡ (if b then [] else settled u ∷ [])
-to_write-one [] u b few some at h = absurd (omega arith)
-to_write-one (x ∷ []) u b few some at h = ap (λ v. to_write (v ∷ [])) (sym at) ∙ written_alone b u h
-to_write-one (x ∷ y ∷ us) u b few some at h = absurd (omega arith)
+pub to_write-new : (n m : ℕ) (xs : List UnitValue) (u : UnitValue) → m ≡ n + length xs → u.is_written ≡ false → to_write_from n (xs ++ u ∷ []) ≡ to_write_from n xs ++ record { id = m; unit = settled u } ∷ []
+to_write-new n m [] u e h = by_mark n u [] false h ∙ ap (λ k. let x : Numbered = record { id = k; unit = settled u } in x ∷ []) (let k : n ≡ m = omega (arith, e) in k)
+to_write-new n m (x ∷ xs) u e h = step x.is_written refl (to_write-new (suc n) m xs u (omega (arith, e)) h)
+  where
+    step : (b : Bool) → x.is_written ≡ b → to_write_from (suc n) (xs ++ u ∷ []) ≡ to_write_from (suc n) xs ++ record { id = m; unit = settled u } ∷ [] →
+        (if b then to_write_from (suc n) (xs ++ u ∷ []) else record { id = n; unit = settled x } ∷ to_write_from (suc n) (xs ++ u ∷ [])) ≡ (if b then to_write_from (suc n) xs else record { id = n; unit = settled x } ∷ to_write_from (suc n) xs) ++ record { id = m; unit = settled u } ∷ []
+    step true is more = more
+    step false is more = ap (λ ys. record { id = n; unit = settled x } ∷ ys) more
 
-pub to_write-none : (us : List UnitValue) → length us ≡ 0 → to_write us ≡ []
-to_write-none [] h = refl
-to_write-none (x ∷ us) h = absurd (omega arith)
+-- where all are written, there is nothing to write
+pub to_write-none : (n : ℕ) (us : List UnitValue) → All (λ u. u.is_written ≡ true) us → to_write_from n us ≡ []
+to_write-none n [] h = refl
+to_write-none n (u ∷ us) h = by_mark n u us true (All-head (λ v. v.is_written ≡ true) u us h) ∙ to_write-none (suc n) us (All-tail (λ v. v.is_written ≡ true) u us h)
+
+-- Places that are kept
+
+get_next : (xs : List UnitValue) (v : UnitValue) (rest : List UnitValue) (n : ℕ) → n ≡ length xs → slice_get (xs ++ v ∷ rest) n ≡ Some v
+get_next [] v rest zero e = refl
+get_next [] v rest (suc n) e = absurd (omega (arith, e))
+get_next (x ∷ xs) v rest zero e = absurd (omega (arith, e))
+get_next (x ∷ xs) v rest (suc n) e = get_next xs v rest n (omega (arith, e))
+
+get_other : (xs : List UnitValue) (u v : UnitValue) (rest : List UnitValue) (n : ℕ) → (n ≡ length xs → ⊥) → slice_get (xs ++ v ∷ rest) n ≡ slice_get (xs ++ u ∷ rest) n
+get_other [] u v rest zero ne = absurd (ne refl)
+get_other [] u v rest (suc n) ne = refl
+get_other (x ∷ xs) u v rest zero ne = refl
+get_other (x ∷ xs) u v rest (suc n) ne = get_other xs u v rest n (λ e. ne (ap suc e))
+
+bound : (o : Option UnitValue) (u : UnitValue) → o ≡ Some u → (o >>= offsets_of) ≡ offsets_of u
+bound o u h = ap (λ x. x >>= offsets_of) h
+
+-- a unit that is written keeps its places, and the others theirs
+pub keeps_more : (xs : List UnitValue) (u v : UnitValue) (rest : List UnitValue) (id : ℕ) (w : UnitValue) (us : List Numbered) (ks : List Kept) (k : Kept) →
+    id ≡ length xs → offsets_of u ≡ None → offsets_of v ≡ Some (kept_offsets k) → length us ≡ length ks → KeepPlaces (xs ++ u ∷ rest) us ks →
+    KeepPlaces (xs ++ v ∷ rest) (us ++ record { id = id; unit = w } ∷ []) (ks ++ k ∷ [])
+keeps_more xs u v rest id w us ks k at none some same h n = by_number (cases_eq id n)
+  where
+    by_number : (id ≡ n) ⊎ (id ≡ n → ⊥) → offsets_at (xs ++ v ∷ rest) n ≡ kept_at (us ++ record { id = id; unit = w } ∷ []) (ks ++ k ∷ []) n
+    by_number (inl is) =
+        let here : n ≡ length xs = sym is ∙ at in
+        let empty : kept_at us ks n ≡ None = sym (h n) ∙ bound (slice_get (xs ++ u ∷ rest) n) u (get_next xs u rest n here) ∙ none in
+        bound (slice_get (xs ++ v ∷ rest) n) v (get_next xs v rest n here) ∙ some ∙ sym (kept_last us ks (record { id = id; unit = w }) k n same empty (eq-eqb id n is))
+    by_number (inr ne) =
+        ap (λ x. x >>= offsets_of) (get_other xs u v rest n (λ e. ne (at ∙ sym e))) ∙ h n ∙ sym (kept_other us ks (record { id = id; unit = w }) k n same (ne_eqb id n ne))
+
+pub offsets_new : (u : UnitValue) → u.is_written ≡ false → offsets_of u ≡ None
+offsets_new u h = ap (λ (b : Bool). if b then option_map offsets_in u.offsets else None) h
+
+pub offsets_marked : (u v : UnitValue) (x : Option Offsets) → v ≡ marked_written v.offsets u → option_map offsets_in v.offsets ≡ x → offsets_of v ≡ x
+offsets_marked u v x is h = ap (λ w. if w.is_written then option_map offsets_in v.offsets else None) is ∙ h
+
+-- as many units as before
+pub same_count : (us vs : List UnitValue) (i : ℕ) (before after rest : List UnitValue) → IsAt us vs i before after rest → length vs ≡ length us
+same_count us vs i before after rest h =
+    omega (arith, ap length h.old_is, ap length h.new_is, length-append before rest, length-append after rest, h.count_before, h.count_after)
+
+-- where all units of a table were written, the next one is
+pub written_at : (us vs : List UnitValue) (i : ℕ) (before after rest : List UnitValue) (u : UnitValue) → IsAt us vs i before after rest → i < length vs → u ≡ slice_index_or vs i u → All (λ x. x.is_written ≡ true) us → u.is_written ≡ true
+written_at us vs i before after rest u h below is all =
+    let next = next_is after rest i u h.count_after (omega (arith, below, ap length h.new_is)) in
+    let same : u ≡ slice_index_or (after ++ rest) i u = is ∙ ap (λ ys. slice_index_or ys i u) h.new_is in
+    let there : us ≡ before ++ u ∷ next.0 = h.old_is ∙ ap (λ r. before ++ r) (next.1 ∙ ap (λ x. x ∷ next.0) (sym same)) in
+    marked u next.0 before (subst (All (λ x. x.is_written ≡ true)) there all)
+  where
+    marked : (u : UnitValue) (more xs : List UnitValue) → All (λ x. x.is_written ≡ true) (xs ++ u ∷ more) → u.is_written ≡ true
+    marked u more [] a = All-head (λ x. x.is_written ≡ true) u more a
+    marked u more (x ∷ xs) a = marked u more xs (All-tail (λ y. y.is_written ≡ true) x (xs ++ u ∷ more) a)

@@ -3,23 +3,26 @@ use Rattle.std.specs.Prelude.{◌≡◌, ◌≢◌, ℕ, ◌+◌, ◌<◌, ◌^�
 use Rattle.std.proofs.Common.{sym, ◌∙◌, ap, subst, arith, inl, inr}
 use Rattle.dw_base.specs.Abbreviations.{Shape}
 use Rattle.dw_base.specs.Entries.{Mark, is_one_tree}
-use Rattle.dw_base.specs.Numbers.{length_fits}
+use Rattle.dw_base.specs.Numbers.{length_fits, word_of}
 use Rattle.dw_base.specs.Spellable.{AreDeclarations}
 use Rattle.dw_base.specs.Spelling.{header_size, table_bytes}
 use Rattle.dw_base.specs.declared.common.Encoding.{Encoding}
 use Rattle.dw_base.specs.declared.error.Error.{Error}
 use Rattle.dw_base.specs.declared.error.Error.TheVariants as errors
+use Rattle.dw_writer.specs.Causes.{offset_fits}
+use Rattle.dw_writer.specs.Drafts.{then_draft}
 use Rattle.dw_writer.specs.Meaning.{Meaning, Adds}
 use Rattle.dw_abbrev.specs.Codes.{declarations}
 use Rattle.dw_entries.specs.Entries.{EntryValue, entry_at}
+use Rattle.dw_entries.specs.Targets.{UnitTargets}
 use Rattle.dw_entries.specs.Tree.{preorder, children_in}
 use Rattle.dw_entries.proofs.Tagged.{root_within}
 use Rattle.dw_entries.proofs.TreeLaws.{preorder_one_tree}
 use Rattle.dw_unit.specs.Causes.{Because, TreeFails, RoomRefused}
 use Rattle.dw_unit.specs.Coded.{shapes_of}
 use Rattle.dw_unit.specs.Places.{Placement, targets_of}
-use Rattle.dw_unit.specs.UnitFaults.{is_encodable, unit_fails}
-use Rattle.dw_unit.specs.UnitText.{tree_draft, unit_length}
+use Rattle.dw_unit.specs.UnitFaults.{is_encodable, header_fails, marks_fail, unit_fails}
+use Rattle.dw_unit.specs.UnitText.{tree_draft, unit_draft, unit_length}
 use Rattle.dw_unit.specs.Valid.{IsWritableTree}
 use Rattle.dw_unit.specs.Whole.{tree_declared, tree_size, tree_table, IsTreePlacement, TreeHasNoRoom}
 use Rattle.dw_unit.proofs.DistinctShapes.{tree_shapes-found}
@@ -41,6 +44,14 @@ tree_is_one es tag = preorder_one_tree es (root_within es tag)
 
 pub tree_few : (es : List EntryValue) (ms : List (Mark ℕ)) (n : ℕ) → ms ≡ preorder es → n ≡ length ms → n < 2 ^ 64 → length (preorder es) < 2 ^ 64
 tree_few es ms n tree count few = omega (arith, count, ap length tree)
+
+first : (a b : Bool) → IsFalse (a || b) → IsFalse a
+first true b h = absurd (let x : true ≡ false = h in cc)
+first false b h = refl
+
+not_false : (b : Bool) → IsFalse (not b) → IsTrue b
+not_false true h = refl
+not_false false h = absurd (let x : true ≡ false = h in cc)
 
 second : (a b : Bool) → IsFalse (a || b) → IsFalse b
 second true b h = absurd (let x : true ≡ false = h in cc)
@@ -78,6 +89,13 @@ room_refused rise e es table plain full f errors.NoMemory h = tt
 room_refused rise e es table plain full f errors.ValueTooLarge h = inl (refl, f h)
 room_refused rise e es table plain full f err h = absurd h
 
-pub OnOk-four : {T E A B C D G : Type 0} (r : Result T E) → (A → B → C → D → G) → OnOk r A → OnOk r B → OnOk r C → OnOk r D → OnOk r G
-OnOk-four (Ok x) f a b c d = f a b c d
-OnOk-four (Err e) f a b c d = tt
+-- the place of the table of a unit without a fault has room
+pub place_fits : (e : Encoding) (es : List EntryValue) (table : ℕ) (u : UnitTargets) (plain : Bool) → ((err : Error) → IsFalse (unit_fails e es table u plain err)) → IsTrue (offset_fits plain (word_of e.format) table)
+place_fits e es table u plain sound =
+    let h = first (header_fails e table plain (unit_length e (tree_draft e es u).size) errors.ValueTooLarge) (marks_fail e es u.place plain (preorder es) errors.ValueTooLarge) (sound errors.ValueTooLarge) in
+    not_false (offset_fits plain (word_of e.format) table) h
+
+-- a unit's draft has the bytes of its header and of its tree
+pub unit_long : (e : Encoding) (es : List EntryValue) (p : Placement) (table : ℕ) → (unit_draft e table (tree_draft e es (targets_of p))).size ≡ header_size e + tree_size e es p.place
+unfolding then_draft
+unit_long e es p table = ap (λ n. header_size e + n) (tree_draft-size e es p)

@@ -1,15 +1,13 @@
 -- The units that are read are those that were built.
-use Rattle.std.specs.Prelude.{◌≡◌, ℕ, ◌+◌, Bool, List, [], ◌∷◌, length, map, take, drop, Some, slice_get, ◌==◌, if◌then◌else◌}
-use Rattle.std.specs.Option.{option_map}
-use Rattle.dw_base.specs.Numbers.{◌>>=◌}
+use Rattle.std.specs.Prelude.{◌≡◌, ℕ, suc, ◌+◌, Bool, List, [], ◌∷◌, length, map, take, drop, Option, Some, None, ◌==◌, if◌then◌else◌}
 use Rattle.dw_base.specs.Entries.{Mark, Open, Null, Row, past_row}
-use Rattle.dw_base.specs.Info.{ReadUnit, read_info, place_in_section}
+use Rattle.dw_base.specs.Info.{ReadUnit, read_info}
 use Rattle.dw_base.specs.Spelling.{header_size, unit_type_of}
 use Rattle.dw_writer.specs.Layout.{Layout}
 use Rattle.dw_writer.specs.Drafts.{Info}
 use Rattle.dw_entries.specs.Targets.{Targets, targets_in}
 use Rattle.dw_entries.specs.Tree.{preorder}
-use Rattle.dw_unit.specs.Places.{Placement, found, targets_of}
+use Rattle.dw_unit.specs.Places.{Placement, Offsets, found, targets_of, info_from}
 use Rattle.dw_unit.specs.Read.{read_tree}
 use Rattle.dw_unit.specs.UnitValue.{UnitValue}
 use Rattle.dw_unit.specs.Whole.{tree_declared, tree_size, tree_table}
@@ -35,13 +33,35 @@ placement_read ms rows = record { place = place_read ms rows; past = past_read m
 abbrev pub places_read : UnitValue → ReadUnit → Placement
 places_read u r = placement_read (preorder u.entries) r.rows
 
+-- a unit, and the number by which references name it
+pub record Numbered : Type 0 where
+  pub id : ℕ
+  pub unit : UnitValue
+
+-- units in the order of their numbers, the first of which has this one
+abbrev pub numbered_from : ℕ → List UnitValue → List Numbered
+numbered_from n [] = []
+numbered_from n (u ∷ us) = record { id = n; unit = u } ∷ numbered_from (suc n) us
+
+abbrev pub numbered : List UnitValue → List Numbered
+numbered us = numbered_from 0 us
+
+-- where the entries of a unit are read
+abbrev pub unit_offsets_read : UnitValue → ReadUnit → Offsets
+unit_offsets_read u r = record { start = r.from; place = found (places_read u r).place }
+
+-- the same of the one of these units that has a number
+abbrev pub offsets_read : List Numbered → List ReadUnit → ℕ → Option Offsets
+offsets_read [] rs n = None
+offsets_read (u ∷ us) [] n = None
+offsets_read (u ∷ us) (r ∷ rs) n = if u.id == n then Some (unit_offsets_read u.unit r) else offsets_read us rs n
+
 -- where an entry of one of these units is read in .debug_info
-abbrev pub info_read : List UnitValue → List ReadUnit → Info
-info_read us rs k i =
-    slice_get us k >>= λ u. slice_get rs k >>= λ r. option_map (place_in_section r) (found (places_read u r).place i)
+abbrev pub info_read : List Numbered → List ReadUnit → Info
+info_read us rs = info_from (offsets_read us rs)
 
 -- what the operands of a unit lead to that is read among those of its file
-abbrev pub targets_read : List UnitValue → List ReadUnit → Layout → UnitValue → ReadUnit → Targets
+abbrev pub targets_read : List Numbered → List ReadUnit → Layout → UnitValue → ReadUnit → Targets
 targets_read us rs l u r = targets_in (targets_of (places_read u r)) l (info_read us rs)
 
 -- A unit that is read has the encoding that was built, and in version 5 the type of a compile unit. Its entries are the
@@ -49,7 +69,7 @@ targets_read us rs l u r = targets_in (targets_of (places_read u r)) l (info_rea
 -- those of the entries, and each code stands for the entry's shape. A reference holds the place where its entry is read, and
 -- a sibling attribute, which stands first, the place past its own entry. Its table declares the shapes, each once, in the
 -- order in which each first comes, with the codes 1, 2, 3 and so on.
-pub record IsBuilt (big : Bool) (l : Layout) (us : List UnitValue) (rs : List ReadUnit) (u : UnitValue) (r : ReadUnit) : Type 0 where
+pub record IsBuilt (big : Bool) (l : Layout) (us : List Numbered) (rs : List ReadUnit) (u : UnitValue) (r : ReadUnit) : Type 0 where
   pub encoding : r.header.encoding ≡ u.encoding
   pub unit_type : r.header.unit_type ≡ unit_type_of u.encoding.version
   pub entries : read_tree big u.encoding (targets_read us rs l u r) u.entries ≡ Some (map (λ row. row.mark) r.rows)
@@ -78,22 +98,22 @@ pub record BeginsAt (at : Starts) (r : ReadUnit) : Type 0 where
 
 -- As many units, each as it was built, and each where the one before it ends. The units are among those of one file, of
 -- which each reference across units names one.
-module _ (big : Bool) (l : Layout) (us : List UnitValue) (rs : List ReadUnit) where
-  abbrev pub AreBuilt : Starts → List UnitValue → List ReadUnit → Type 0
+module _ (big : Bool) (l : Layout) (us : List Numbered) (rs : List ReadUnit) where
+  abbrev pub AreBuilt : Starts → List Numbered → List ReadUnit → Type 0
   AreBuilt at [] [] = Unit {0}
   AreBuilt at [] (r ∷ more) = ⊥
   AreBuilt at (u ∷ others) [] = ⊥
-  AreBuilt at (u ∷ others) (r ∷ more) = IsBuilt big l us rs u r × BeginsAt at r × AreBuilt (past_unit at u r) others more
+  AreBuilt at (u ∷ others) (r ∷ more) = IsBuilt big l us rs u.unit r × BeginsAt at r × AreBuilt (past_unit at u.unit r) others more
 
 -- where as many units and their tables end
-abbrev pub past_units : Starts → List UnitValue → List ReadUnit → Starts
+abbrev pub past_units : Starts → List Numbered → List ReadUnit → Starts
 past_units at [] rs = at
 past_units at (u ∷ us) [] = at
-past_units at (u ∷ us) (r ∷ rs) = past_units (past_unit at u r) us rs
+past_units at (u ∷ us) (r ∷ rs) = past_units (past_unit at u.unit r) us rs
 
--- the units of a file, and where its sections stand among the joined ones
+-- the units of a file in the order in which they stand, and where its sections stand among the joined ones
 pub record File : Type 0 where
-  pub units : List UnitValue
+  pub units : List Numbered
   pub layout : Layout
 
 -- Files one behind another, to the last byte of the sections. Each reference leads to an entry of its own file.
@@ -122,4 +142,4 @@ at_zero = record { starts = []; own_start = 0; symbols = [] }
 
 -- one file whose sections are whole, as a plain writer holds them
 abbrev pub whole_file : List UnitValue → File
-whole_file us = record { units = us; layout = at_zero }
+whole_file us = record { units = numbered us; layout = at_zero }

@@ -1,5 +1,5 @@
 -- Why units are refused.
-use Rattle.std.specs.Prelude.{◌≡◌, ◌⊎◌, ℕ, Bool, false, List, Any, IsTrue}
+use Rattle.std.specs.Prelude.{◌≡◌, ◌⊎◌, ℕ, Bool, false, List, [], ◌∷◌, ◌++◌, IsTrue}
 use Rattle.dw_base.specs.declared.common.Encoding.{Encoding}
 use Rattle.dw_base.specs.declared.error.Error.{Error}
 use Rattle.dw_base.specs.declared.error.Error.TheVariants as errors
@@ -9,9 +9,12 @@ use Rattle.dw_writer.specs.Sections.{SomeHasRisen}
 use Rattle.dw_writer.specs.declared.sections.Sections.{Sections}
 use Rattle.dw_entries.specs.Entries.{EntryValue}
 use Rattle.dw_unit.specs.Places.{Placement, targets_of}
-use Rattle.dw_unit.specs.UnitFaults.{encoding_fails, unit_fails}
+use Rattle.dw_unit.specs.Built.{Numbered}
+use Rattle.dw_unit.specs.Pending.{Kept, starts_of, AreInRow, units_draft, info_at, KeepPlaces, Pending}
+use Rattle.dw_unit.specs.UnitFaults.{encoding_fails, unit_fails, holes_fail}
 use Rattle.dw_unit.specs.UnitValue.{UnitValue}
 use Rattle.dw_unit.specs.Whole.{settled, IsTreePlacement, TreeHasNoRoom}
+use Rattle.dw_unit.specs.Written.{to_write, past_table}
 
 -- for want of memory, by a counted fault, or for a cause of its own
 abbrev pub Because : Type 0 → (Error → Type 0) → Error → Type 0
@@ -53,6 +56,26 @@ abbrev pub UnitRefused : {W : Type 0} → (W → Meaning) → Sections W → Sec
 UnitRefused meaning old new u err =
     Because (SomeHasRisen meaning old new) (UnitFails u (meaning old.debug_abbrev.0).size (meaning old.debug_info.0).is_plain) err
 
--- some unit that wasn't written before is refused
-abbrev pub UnitsRefused : {W : Type 0} → (W → Meaning) → Sections W → Sections W → List UnitValue → Error → Type 0
-UnitsRefused meaning old new us err = Any (λ u. (u.is_written ≡ false) × UnitRefused meaning old new u err) us
+-- a unit of a table that isn't written yet fails, where its abbreviations stand behind those of the units before it
+abbrev pub UnitsFail : Bool → ℕ → List UnitValue → Error → Type 0
+UnitsFail is_plain at [] err = ⊥
+UnitsFail is_plain at (u ∷ us) err = ((u.is_written ≡ false) × UnitFails u at is_plain err) ⊎ UnitsFail is_plain (past_table at u) us err
+
+-- A reference across units leads to no entry, or its place has no room, once all units stand.
+pub record ReferencesFail {W : Type 0} (meaning : W → Meaning) (before : Sections W) (old_table new_table : List UnitValue) (us : List Numbered) (ks : List Kept) (err : Error) : Type 0 where
+  pub kept : List Kept
+  pub in_row : AreInRow (starts_of meaning before) (us ++ to_write old_table) (ks ++ kept)
+  pub keeps : KeepPlaces old_table us ks → KeepPlaces new_table (us ++ to_write old_table) (ks ++ kept)
+  pub fails : IsTrue (holes_fail (info_at new_table) (meaning before.debug_info.0).is_plain (units_draft (us ++ to_write old_table) (ks ++ kept)).holes err)
+
+-- why the units of a table are refused behind those that are pending
+abbrev pub UnitsRefused : {W : Type 0} → (W → Meaning) → Sections W → Sections W → Sections W → List UnitValue → List UnitValue → List Numbered → List Kept → Error → Type 0
+UnitsRefused meaning before old new old_table new_table us ks err =
+    Because (SomeHasRisen meaning old new)
+    (λ e. UnitsFail (meaning old.debug_info.0).is_plain (meaning old.debug_abbrev.0).size old_table e ⊎ ReferencesFail meaning before old_table new_table us ks e) err
+
+-- whatever units are pending
+abbrev pub RefusesAny : {W : Type 0} → (W → Meaning) → Sections W → Sections W → List UnitValue → List UnitValue → Error → Type 0
+RefusesAny {W} meaning old new old_table new_table err =
+    (before : Sections W) (us : List Numbered) (ks : List Kept) → before.debug_info_fixups ≡ [] → Pending meaning before old us ks →
+    UnitsRefused meaning before old new old_table new_table us ks err

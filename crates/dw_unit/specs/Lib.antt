@@ -12,6 +12,7 @@ pub mod UnitFaults
 pub mod Read
 pub mod Built
 pub mod Pending
+pub mod Filled
 pub mod Valid
 pub mod Causes
 pub mod Written

@@ -1,5 +1,6 @@
 -- Units that were written, with the places that they keep.
-use Rattle.std.specs.Prelude.{◌≡◌, ℕ, ◌+◌, ◌<◌, ◌^◌, List, [], ◌∷◌, length, map, All, Some, Bool, true, slice_get, IsTrue}
+use Rattle.std.specs.Prelude.{◌≡◌, ℕ, ◌+◌, ◌<◌, ◌^◌, List, [], ◌∷◌, ◌++◌, length, map, All, Option, Some, None, Bool, true, ◌==◌, slice_get, IsTrue, if◌then◌else◌}
+use Rattle.std.specs.List.{flat_map}
 use Rattle.std.specs.Option.{option_map}
 use Rattle.dw_base.specs.Numbers.{◌>>=◌, length_fits}
 use Rattle.dw_base.specs.Entries.{Mark, Open, Null, is_one_tree}
@@ -11,12 +12,14 @@ use Rattle.dw_writer.specs.declared.sections.Sections.{Sections}
 use Rattle.dw_writer.specs.Drafts.{Draft, Info, no_draft, then_draft, filled_text, IsDraft, Drafts}
 use Rattle.dw_entries.specs.declared.attribute.Attribute.{Attribute}
 use Rattle.dw_entries.specs.Entries.{EntryValue, entry_at}
+use Rattle.dw_entries.specs.Targets.{HaveInfoPlaces}
 use Rattle.dw_entries.specs.Tree.{preorder, children_in}
 use Rattle.dw_entries.specs.Values.{IsRanged}
-use Rattle.dw_unit.specs.Built.{Starts, table_size, at_zero}
-use Rattle.dw_unit.specs.Places.{Placement, found, targets_of}
+use Rattle.dw_unit.specs.Built.{Numbered, Starts, table_size, at_zero}
+use Rattle.dw_unit.specs.Places.{Placement, Offsets, OffsetsValue, offsets_in, found, placement_of, targets_of, info_from}
+use Rattle.dw_unit.specs.declared.places.Places.{Places}
 use Rattle.dw_unit.specs.UnitText.{tree_draft, unit_draft, unit_length}
-use Rattle.dw_unit.specs.UnitValue.{UnitValue}
+use Rattle.dw_unit.specs.UnitValue.{UnitValue, offsets_of}
 use Rattle.dw_unit.specs.UnitFaults.{is_encodable}
 use Rattle.dw_unit.specs.Whole.{tree_declared, tree_table, IsTreePlacement}
 
@@ -24,6 +27,10 @@ use Rattle.dw_unit.specs.Whole.{tree_declared, tree_table, IsTreePlacement}
 pub record Kept : Type 0 where
   pub starts : Starts
   pub places : Placement
+
+-- where the code keeps the places
+abbrev pub kept_in : Starts → Places → Kept
+kept_in at p = record { starts = at; places = placement_of p }
 
 -- a unit of these entries, as it is written there
 abbrev pub draft_of : Encoding → List EntryValue → Kept → Draft
@@ -34,14 +41,39 @@ abbrev pub past_kept : Starts → UnitValue → Kept → Starts
 past_kept at u k = record { info = at.info + (draft_of u.encoding u.entries k).size; abbrevs = at.abbrevs + table_size u }
 
 -- units one behind another
-abbrev pub units_draft : List UnitValue → List Kept → Draft
+abbrev pub units_draft : List Numbered → List Kept → Draft
 units_draft [] ks = no_draft
 units_draft (u ∷ us) [] = no_draft
-units_draft (u ∷ us) (k ∷ ks) = then_draft (draft_of u.encoding u.entries k) (units_draft us ks)
+units_draft (u ∷ us) (k ∷ ks) = then_draft (draft_of u.unit.encoding u.unit.entries k) (units_draft us ks)
 
--- where an entry of a unit stands in .debug_info, counted from where the section's part starts
-abbrev pub info_of : List Kept → Info
-info_of ks u i = slice_get ks u >>= λ k. option_map (λ n. k.starts.info + n) (found k.places.place i)
+-- the tables of units, one behind another
+abbrev pub tables_of : List Numbered → List ℕ
+tables_of us = flat_map (λ u. tree_table u.unit.encoding u.unit.entries) us
+
+-- what a unit keeps of where it stands
+abbrev pub kept_offsets : Kept → Offsets
+kept_offsets k = record { start = k.starts.info; place = found k.places.place }
+
+-- the same of the one of these units that has a number
+abbrev pub kept_at : List Numbered → List Kept → ℕ → Option Offsets
+kept_at [] ks n = None
+kept_at (u ∷ us) [] n = None
+kept_at (u ∷ us) (k ∷ ks) n = if u.id == n then Some (kept_offsets k) else kept_at us ks n
+
+-- where an entry of one of these units stands in .debug_info, counted from where the section's part starts
+abbrev pub info_of : List Numbered → List Kept → Info
+info_of us ks = info_from (kept_at us ks)
+
+-- the same of the units of a table
+abbrev pub offsets_at : List UnitValue → ℕ → Option Offsets
+offsets_at us n = slice_get us n >>= offsets_of
+
+abbrev pub info_at : List UnitValue → Info
+info_at us = info_from (offsets_at us)
+
+-- the units of a table that were written keep these places, and no others
+abbrev pub KeepPlaces : List UnitValue → List Numbered → List Kept → Type 0
+KeepPlaces table us ks = (n : ℕ) → offsets_at table n ≡ kept_at us ks n
 
 -- a text is there
 abbrev pub IsThere : Text → Type 0
@@ -72,32 +104,54 @@ pub record Stands (at : Starts) (e : Encoding) (es : List EntryValue) (k : Kept)
   pub tree : IsTrue (is_one_tree (map (children_in es) (preorder es)))
 
 -- each unit begins where the one before it ends, and its table
-abbrev pub AreInRow : Starts → List UnitValue → List Kept → Type 0
+abbrev pub AreInRow : Starts → List Numbered → List Kept → Type 0
 AreInRow at [] [] = Unit {0}
 AreInRow at [] (k ∷ ks) = ⊥
 AreInRow at (u ∷ us) [] = ⊥
-AreInRow at (u ∷ us) (k ∷ ks) = Stands at u.encoding u.entries k × AreInRow (past_kept at u k) us ks
+AreInRow at (u ∷ us) (k ∷ ks) = Stands at u.unit.encoding u.unit.entries k × AreInRow (past_kept at u.unit k) us ks
 
 -- where the next unit and its table are to begin
 abbrev pub starts_of : {W : Type 0} → (W → Meaning) → Sections W → Starts
 starts_of meaning s = record { info = (meaning s.debug_info.0).size; abbrevs = (meaning s.debug_abbrev.0).size }
 
--- A unit of these entries is added with its table; no reference in it is left open. Over a plain writer each number of it
--- fits, so its text is there.
-pub record PendsTree {W : Type 0} (meaning : W → Meaning) (old new : Sections W) (e : Encoding) (es : List EntryValue) : Type 0 where
-  pub kept : Kept
+-- A text is there where every section starts at 0, once its references have places that fit.
+abbrev pub IsThereFilled : Draft → Type 0
+IsThereFilled d = (info : Info) → HaveInfoPlaces info d.holes → (big : Bool) → IsThere (d.text info big at_zero)
+
+-- A unit of these entries is added with its table, and its references across units are left open. Over a plain writer each
+-- number of it fits, so its text is there.
+pub record PendsTree {W : Type 0} (meaning : W → Meaning) (old new : Sections W) (e : Encoding) (es : List EntryValue) (kept : Kept) : Type 0 where
   pub stands : Stands (starts_of meaning old) e es kept
-  pub unit : Drafts (meaning old.debug_info.0) (meaning new.debug_info.0) [] [] (draft_of e es kept)
+  pub unit : Drafts (meaning old.debug_info.0) (meaning new.debug_info.0) old.debug_info_fixups new.debug_info_fixups (draft_of e es kept)
   pub table : Adds (meaning old.debug_abbrev.0) (meaning new.debug_abbrev.0) (tree_table e es)
-  pub there : (meaning old.debug_info.0).is_plain ≡ true → (info : Info) (big : Bool) → IsThere ((draft_of e es kept).text info big at_zero)
+  pub there : (meaning old.debug_info.0).is_plain ≡ true → IsThereFilled (draft_of e es kept)
+
+-- the same of a unit, which keeps where its entries stand
+pub record PendsUnit {W : Type 0} (meaning : W → Meaning) (old new : Sections W) (u : UnitValue) (offsets : Option OffsetsValue) : Type 0 where
+  pub kept : Kept
+  pub tree : PendsTree meaning old new u.encoding u.entries kept
+  pub offsets_are : option_map offsets_in offsets ≡ Some (kept_offsets kept)
+
+-- Units that were written since some sections were handed in stand behind these, in a row, each with the places that it
+-- keeps. Their references across units are open: zeros, and one fixup for each, which no relocation meets.
+pub record Pending {W : Type 0} (meaning : W → Meaning) (old new : Sections W) (us : List Numbered) (kept : List Kept) : Type 0 where
+  pub in_row : AreInRow (starts_of meaning old) us kept
+  pub units : Drafts (meaning old.debug_info.0) (meaning new.debug_info.0) old.debug_info_fixups new.debug_info_fixups (units_draft us kept)
+  pub tables : Adds (meaning old.debug_abbrev.0) (meaning new.debug_abbrev.0) (tables_of us)
+  pub there : (meaning old.debug_info.0).is_plain ≡ true → IsThereFilled (units_draft us kept)
+
+-- whatever units are pending, this one is pending behind them
+abbrev pub ExtendsPending : {W : Type 0} → (W → Meaning) → Sections W → Sections W → UnitValue → Option OffsetsValue → Type 0
+ExtendsPending {W} meaning old new u offsets =
+    (before : Sections W) (us : List Numbered) (ks : List Kept) (id : ℕ) → Pending meaning before old us ks →
+    (k : Kept) × (option_map offsets_in offsets ≡ Some (kept_offsets k)) × Pending meaning before new (us ++ record { id = id; unit = u } ∷ []) (ks ++ k ∷ [])
 
 -- Units are added whose tables begin at a place: in every layout they resolve to their text, in which each reference across
 -- units has the place of its entry. Over a plain writer the text is there.
-pub record AddsUnits (old new : Meaning) (tables : ℕ) (us : List UnitValue) : Type 0 where
-  pub kept : List Kept
+pub record AddsUnits (old new : Meaning) (tables : ℕ) (info : Info) (us : List Numbered) (kept : List Kept) : Type 0 where
   pub in_row : AreInRow (record { info = old.size; abbrevs = tables }) us kept
   pub same : IsSameWriter old new
   pub size : new.size ≡ old.size + (units_draft us kept).size
   pub tidy : IsTidy old → IsTidy new
-  pub resolves : IsTidy old → (l : Layout) → resolved l new ≡ followed (resolved l old) (filled_text (info_of kept) (units_draft us kept) old.is_big l)
-  pub there : old.is_plain ≡ true → (big : Bool) → IsThere (filled_text (info_of kept) (units_draft us kept) big at_zero)
+  pub resolves : IsTidy old → (l : Layout) → resolved l new ≡ followed (resolved l old) (filled_text info (units_draft us kept) old.is_big l)
+  pub there : old.is_plain ≡ true → (big : Bool) → IsThere (filled_text info (units_draft us kept) big at_zero)

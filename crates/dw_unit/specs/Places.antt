@@ -1,7 +1,9 @@
 -- Where the entries of a unit stand.
-use Rattle.std.specs.Prelude.{◌≡◌, ℕ, Bool, not, ◌==◌, Option, Some, None, IsTrue, slice_index, if◌then◌else◌}
-use Rattle.dw_base.specs.Numbers.{word_of, fits}
+use Rattle.std.specs.Prelude.{◌≡◌, ℕ, ◌+◌, Bool, not, ◌==◌, List, Option, Some, None, IsTrue, slice_index, if◌then◌else◌}
+use Rattle.std.specs.Option.{option_map}
+use Rattle.dw_base.specs.Numbers.{◌>>=◌, word_of, fits}
 use Rattle.dw_base.specs.declared.common.Format.{Format}
+use Rattle.dw_writer.specs.Drafts.{Info}
 use Rattle.dw_entries.specs.Targets.{UnitTargets}
 use Rattle.dw_unit.specs.declared.places.Places.{Places}
 
@@ -39,3 +41,24 @@ FitsWords format p = (i : ℕ) → IsTrue (fits (word_of format) (p.place i)) ×
 pub record IsSamePlacement (p q : Placement) : Type 0 where
   pub place : (i : ℕ) → p.place i ≡ q.place i
   pub past : (i : ℕ) → p.past i ≡ q.past i
+
+-- Where a unit begins in .debug_info, and where each entry of its tree stands, counted from there.
+pub record Offsets : Type 0 where
+  pub start : ℕ
+  pub place : ℕ → Option ℕ
+
+-- The same as a unit keeps it: the places under the indices of entries, and 0 for those that don't stand in the tree.
+pub record OffsetsValue : Type 0 where
+  pub start : ℕ
+  pub places : List ℕ
+
+abbrev pub offsets_in : OffsetsValue → Offsets
+offsets_in o = record { start = o.start; place = found (slice_index o.places) }
+
+-- the place of an entry in .debug_info
+abbrev pub in_info : Offsets → ℕ → Option ℕ
+in_info o i = option_map (λ n. o.start + n) (o.place i)
+
+-- the places of all entries, where each unit's offsets are known by its number
+abbrev pub info_from : (ℕ → Option Offsets) → Info
+info_from offsets n i = offsets n >>= λ o. in_info o i

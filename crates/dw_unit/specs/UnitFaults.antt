@@ -1,5 +1,5 @@
 -- The faults of units: what stands in the way of writing one.
-use Rattle.std.specs.Prelude.{ℕ, Bool, false, not, ◌&&◌, ◌||◌, ◌==◌, nat_le, List, Option}
+use Rattle.std.specs.Prelude.{ℕ, Bool, false, not, ◌&&◌, ◌||◌, ◌==◌, nat_le, List, Option, Some, None, is_none}
 use Rattle.std.specs.List.{list_any}
 use Rattle.dw_base.specs.Numbers.{is_width, word_of, length_fits}
 use Rattle.dw_base.specs.Entries.{Mark, Open, Null}
@@ -7,6 +7,8 @@ use Rattle.dw_base.specs.declared.common.Encoding.{Encoding}
 use Rattle.dw_base.specs.declared.error.Error.{Error}
 use Rattle.dw_base.specs.declared.error.Error.TheVariants as errors
 use Rattle.dw_writer.specs.Causes.{offset_fits}
+use Rattle.dw_writer.specs.Drafts.{Info}
+use Rattle.dw_writer.specs.declared.fixup.DebugInfoFixup.{DebugInfoFixup}
 use Rattle.dw_entries.specs.declared.attribute.Attribute.{Attribute}
 use Rattle.dw_entries.specs.Values.{value_fails}
 use Rattle.dw_entries.specs.Entries.{EntryValue, entry_at}
@@ -53,3 +55,17 @@ header_fails e table is_plain length err = fields_fail e table is_plain err
 abbrev pub unit_fails : Encoding → List EntryValue → ℕ → UnitTargets → Bool → Error → Bool
 unit_fails e es table u is_plain err =
     header_fails e table is_plain (unit_length e (tree_draft e es u).size) err || marks_fail e es u.place is_plain (preorder es) err
+
+-- a place has no room in so many bytes of a writer
+abbrev pub has_no_room : Bool → ℕ → Option ℕ → Bool
+has_no_room is_plain w None = false
+has_no_room is_plain w (Some n) = not (offset_fits is_plain w n)
+
+-- a reference to an entry by its place in .debug_info leads nowhere, or the place has no room
+abbrev pub hole_fails : Info → Bool → DebugInfoFixup → Error → Bool
+hole_fails info is_plain h errors.InvalidReference = is_none (info h.unit.0 h.entry.0)
+hole_fails info is_plain h errors.ValueTooLarge = has_no_room is_plain h.size (info h.unit.0 h.entry.0)
+hole_fails info is_plain h err = false
+
+abbrev pub holes_fail : Info → Bool → List DebugInfoFixup → Error → Bool
+holes_fail info is_plain hs err = list_any (λ h. hole_fails info is_plain h err) hs

@@ -1,10 +1,12 @@
 -- The text of a unit: a header, and entries with their codes, each with a zero behind its children (DWARF 5, 7.5.1 to 7.5.3).
-use Rattle.std.specs.Prelude.{ℕ, ◌+◌, List, [], ◌∷◌, length, map, ◌==◌, if◌then◌else◌}
+use Rattle.std.specs.Prelude.{ℕ, ◌+◌, List, [], ◌∷◌, length, map, None, ◌==◌, if◌then◌else◌}
 use Rattle.dw_base.specs.Numbers.{when, word_of, escape_of, length_fits}
 use Rattle.dw_base.specs.Leb128.{uleb}
 use Rattle.dw_base.specs.Abbreviations.{Shape}
 use Rattle.dw_base.specs.Entries.{Mark, Open, Null}
 use Rattle.dw_base.specs.Spelling.{header_size, fields_size}
+use Rattle.dw_base.specs.declared.address.DebugInfoRef.{DebugInfoRef as InfoRef}
+use Rattle.dw_base.specs.declared.address.DebugInfoRef.TheVariants as refs
 use Rattle.dw_base.specs.declared.common.Encoding.{Encoding}
 use Rattle.dw_base.specs.declared.common.Format.{Format}
 use Rattle.dw_base.specs.declared.constants.TheConstants.{DW_UT_compile}
@@ -12,7 +14,7 @@ use Rattle.dw_base.specs.declared.section_id.SectionId.TheVariants.{DebugAbbrev}
 use Rattle.dw_writer.specs.Texts.{num_text}
 use Rattle.dw_writer.specs.Meaning.{Model}
 use Rattle.dw_writer.specs.SectionTexts.{bytes_text, offset_text, after}
-use Rattle.dw_writer.specs.Drafts.{Draft, no_draft, whole, then_draft, all_drafts}
+use Rattle.dw_writer.specs.Drafts.{Draft, no_draft, whole, then_draft, all_drafts, reference}
 use Rattle.dw_entries.specs.declared.attribute.Attribute.{Attribute}
 use Rattle.dw_entries.specs.Entries.{EntryValue, entry_at, has_sibling}
 use Rattle.dw_entries.specs.Targets.{UnitTargets}
@@ -46,6 +48,11 @@ unit_length e size = fields_size e + size
 -- a header whose table stands at a place, before so many bytes of entries
 unfoldable pub header_text : Encoding → ℕ → ℕ → Model
 header_text e table size = after (bytes_text (escape_of e.format)) (after (length_text e.format (unit_length e size)) (fields_text e table))
+
+-- the place of an entry in .debug_info, left open; an entry of another object has none
+abbrev pub info_draft : ℕ → InfoRef → Draft
+info_draft width (refs.Symbol s) = whole width (λ big l. None)
+info_draft width (refs.Entry u i) = reference width u i
 
 -- the values of attributes
 abbrev pub attribute_draft : Encoding → UnitTargets → Attribute → Draft

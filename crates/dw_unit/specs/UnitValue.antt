@@ -1,12 +1,14 @@
 -- A unit, as contracts see it.
-use Rattle.std.specs.Prelude.{◌≡◌, ◌≢◌, ℕ, ◌<◌, Option, List, [], ◌∷◌, length, Bool, true, false, IsTrue}
+use Rattle.std.specs.Prelude.{◌≡◌, ◌≢◌, ℕ, ◌<◌, Option, None, List, [], ◌∷◌, length, Bool, true, false, IsTrue, if◌then◌else◌}
 use Rattle.dw_base.specs.declared.common.Encoding.{Encoding}
 use Rattle.dw_unit.specs.declared.line_program.LineProgram.{LineProgram}
 use Rattle.dw_entries.specs.declared.value.AttributeValue.{AttributeValue}
 use Rattle.dw_entries.specs.Entries.{EntryValue, new_root, with_changed, value_of}
+use Rattle.std.specs.Option.{option_map}
+use Rattle.dw_unit.specs.Places.{Offsets, OffsetsValue, offsets_in}
 use Rattle.dw_entries.specs.Arena.{EntriesValue, IsArena, is_reserved as is_reserved_in}
 
--- the ids below `reserved` were handed out
+-- The ids below `reserved` were handed out. A unit that was written and not skipped keeps where its entries stand.
 pub record UnitValue : Type 0 where
   pub encoding : Encoding
   pub line_program : LineProgram
@@ -14,11 +16,12 @@ pub record UnitValue : Type 0 where
   pub reserved : ℕ
   pub is_written : Bool
   pub is_freed : Bool
+  pub offsets : Option OffsetsValue
 
 -- as it is made
 abbrev pub new_unit : Encoding → LineProgram → UnitValue
 new_unit encoding line_program =
-    record { encoding = encoding; line_program = line_program; entries = new_root ∷ []; reserved = 1; is_written = false; is_freed = false }
+    record { encoding = encoding; line_program = line_program; entries = new_root ∷ []; reserved = 1; is_written = false; is_freed = false; offsets = None }
 
 -- the entries, and how many ids were handed out
 abbrev pub entries_of : UnitValue → EntriesValue
@@ -31,15 +34,20 @@ is_reserved u i = is_reserved_in (entries_of u) i
 abbrev pub IsReserved : UnitValue → ℕ → Type 0
 IsReserved u i = IsTrue (is_reserved u i)
 
--- The entries are there until the unit is freed, and only a unit that was written is freed.
-pub record IsKept (es : List EntryValue) (is_written is_freed : Bool) : Type 0 where
+-- The entries are there until the unit is freed, and only a unit that was written is freed or keeps places.
+pub record IsKept (es : List EntryValue) (is_written is_freed : Bool) (offsets : Option OffsetsValue) : Type 0 where
   pub rooted : is_freed ≡ false → 0 < length es
   pub written : is_freed ≡ true → is_written ≡ true
+  pub unplaced : is_written ≡ false → offsets ≡ None
 
 -- what is true of each unit
 pub record IsSound (u : UnitValue) : Type 0 where
   pub arena : IsArena u.entries u.reserved
-  pub kept : IsKept u.entries u.is_written u.is_freed
+  pub kept : IsKept u.entries u.is_written u.is_freed u.offsets
+
+-- where the entries of a unit stand, if it was written and not skipped
+abbrev pub offsets_of : UnitValue → Option Offsets
+offsets_of u = if u.is_written then option_map offsets_in u.offsets else None
 
 -- a unit with one entry changed
 abbrev pub with_entry : UnitValue → ℕ → (EntryValue → EntryValue) → UnitValue
@@ -56,3 +64,7 @@ KeepsOtherValues old new i n = (m : ℕ) → m ≢ n → value_in new i m ≡ va
 -- the line program that there is where there is none
 abbrev pub no_line_program : LineProgram
 no_line_program = record { 0 = tt }
+
+-- a unit that gave its line program and its entries up
+abbrev pub freed : UnitValue → UnitValue
+freed u = record u { line_program = no_line_program; entries = []; is_freed = true }

@@ -1,16 +1,20 @@
 -- Units that have a spelling.
-use Rattle.std.specs.Prelude.{◌+◌, ◌<◌, ◌^◌, List, Bool, IsTrue, IsFalse}
-use Rattle.dw_base.specs.Numbers.{length_fits}
+use Rattle.std.specs.Prelude.{◌≡◌, ◌⊎◌, ℕ, ◌+◌, ◌<◌, ◌^◌, List, [], ◌∷◌, Bool, true, IsTrue, IsFalse}
+use Rattle.dw_base.specs.Numbers.{length_fits, word_of}
 use Rattle.dw_base.specs.Spelling.{header_size}
 use Rattle.dw_base.specs.declared.common.Encoding.{Encoding}
 use Rattle.dw_base.specs.declared.error.Error.{Error}
+use Rattle.dw_writer.specs.Causes.{offset_fits}
 use Rattle.dw_entries.specs.Entries.{EntryValue}
 use Rattle.dw_entries.specs.Tree.{preorder}
+use Rattle.dw_unit.specs.Built.{Numbered, Starts}
+use Rattle.dw_unit.specs.Pending.{Kept, units_draft, info_of, AreInRow}
 use Rattle.dw_unit.specs.Places.{Placement, found}
 use Rattle.dw_unit.specs.UnitText.{unit_length}
 use Rattle.dw_unit.specs.Whole.{tree_size, settled, IsTreePlacement}
-use Rattle.dw_unit.specs.UnitFaults.{is_encodable, marks_fail}
+use Rattle.dw_unit.specs.UnitFaults.{is_encodable, marks_fail, holes_fail}
 use Rattle.dw_unit.specs.UnitValue.{UnitValue}
+use Rattle.dw_unit.specs.Written.{past_table}
 
 -- A tree can be written into a writer that is plain or not: its header and its length have a spelling, and where its entries
 -- stand no value has a fault.
@@ -25,3 +29,19 @@ pub record IsWritableTree (is_plain : Bool) (e : Encoding) (es : List EntryValue
 -- the same of a unit, settled
 abbrev pub IsWritable : Bool → UnitValue → Type 0
 IsWritable is_plain u = IsWritableTree is_plain u.encoding (settled u).entries
+
+-- the same of a unit whose table is to stand at a place
+abbrev pub IsWritableAt : Bool → ℕ → UnitValue → Type 0
+IsWritableAt is_plain table u = IsWritable is_plain u × IsTrue (offset_fits is_plain (word_of u.encoding.format) table)
+
+-- Each unit of a table that isn't written yet can be written where its abbreviations stand behind those of the units before
+-- it.
+abbrev pub AreWritable : Bool → ℕ → List UnitValue → Type 0
+AreWritable is_plain at [] = Unit {0}
+AreWritable is_plain at (u ∷ us) = ((u.is_written ≡ true) ⊎ IsWritableAt is_plain at u) × AreWritable is_plain (past_table at u) us
+
+-- Every reference across these units leads to an entry of one of them, whose place has room.
+pub record ReferencesLead (is_plain : Bool) (at : Starts) (us : List Numbered) : Type 0 where
+  pub kept : List Kept
+  pub in_row : AreInRow at us kept
+  pub lead : (err : Error) → IsFalse (holes_fail (info_of us kept) is_plain (units_draft us kept).holes err)

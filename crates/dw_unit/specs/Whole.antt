@@ -1,5 +1,5 @@
 -- A unit as it is written: settled, in preorder, with codes.
-use Rattle.std.specs.Prelude.{ℕ, true, List, if◌then◌else◌}
+use Rattle.std.specs.Prelude.{◌≡◌, ◌⊎◌, ℕ, Bool, true, false, Option, List, [], ◌∷◌, if◌then◌else◌}
 use Rattle.dw_base.specs.Abbreviations.{Shape, Declaration}
 use Rattle.dw_base.specs.Spelling.{header_size, table_bytes}
 use Rattle.dw_base.specs.declared.common.Encoding.{Encoding}
@@ -8,7 +8,7 @@ use Rattle.dw_entries.specs.Entries.{EntryValue}
 use Rattle.dw_entries.specs.Tree.{preorder}
 use Rattle.dw_unit.specs.DistinctShapes.{entry_shapes, distinct_shapes}
 use Rattle.dw_unit.specs.Laid.{sized, sizes_of, IsPlacement, HasNoRoom}
-use Rattle.dw_unit.specs.Places.{Placement}
+use Rattle.dw_unit.specs.Places.{Placement, OffsetsValue}
 use Rattle.dw_entries.specs.Settled.{settled_entries}
 use Rattle.dw_unit.specs.UnitValue.{UnitValue}
 
@@ -39,10 +39,29 @@ TreeHasNoRoom e es = HasNoRoom (sized e es (tree_shapes e es)) es (header_size e
 abbrev pub settled : UnitValue → UnitValue
 settled u = record u { entries = settled_entries u.entries }
 
--- as it is once it was written
-abbrev pub marked_written : UnitValue → UnitValue
-marked_written u = record u { is_written = true }
+-- as it is once it was written, with the places that it keeps
+abbrev pub marked_written : Option OffsetsValue → UnitValue → UnitValue
+marked_written offsets u = record u { is_written = true; offsets = offsets }
 
 -- what writing makes of a unit: one that was written before stays
-abbrev pub written : UnitValue → UnitValue
-written u = if u.is_written then u else marked_written (settled u)
+abbrev pub written : Option OffsetsValue → UnitValue → UnitValue
+written offsets u = if u.is_written then u else marked_written offsets (settled u)
+
+-- The units of a table once they were written: each that wasn't written before is settled, is marked and keeps places.
+abbrev pub AreWritten : List UnitValue → List UnitValue → Type 0
+AreWritten [] [] = Unit {0}
+AreWritten [] (v ∷ vs) = ⊥
+AreWritten (u ∷ us) [] = ⊥
+AreWritten (u ∷ us) (v ∷ vs) = (v ≡ written v.offsets u) × AreWritten us vs
+
+-- a unit that was refused
+abbrev pub IsRefused : UnitValue → UnitValue → Type 0
+IsRefused u v = (u.is_written ≡ false) × ((v ≡ u) ⊎ (v ≡ settled u))
+
+-- The units of a table after a refusal: those before some unit were written, it is as it was or settled, and those behind it
+-- are as they were. Where no unit was refused, a reference between them was.
+abbrev pub AreStopped : List UnitValue → List UnitValue → Type 0
+AreStopped [] [] = Unit {0}
+AreStopped [] (v ∷ vs) = ⊥
+AreStopped (u ∷ us) [] = ⊥
+AreStopped (u ∷ us) (v ∷ vs) = ((v ≡ written v.offsets u) × AreStopped us vs) ⊎ (IsRefused u v × (vs ≡ us))

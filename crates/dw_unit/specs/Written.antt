@@ -1,21 +1,60 @@
 -- What writing units adds to the sections.
-use Rattle.std.specs.Prelude.{◌≡◌, not, List, filter, map, flat_map}
+use Rattle.std.specs.Prelude.{◌≡◌, ◌⊎◌, ℕ, suc, ◌+◌, Bool, true, false, List, [], ◌∷◌, ◌++◌, length, IsFalse, if◌then◌else◌}
 use Rattle.dw_writer.specs.Meaning.{Meaning, Adds}
+use Rattle.dw_writer.specs.Drafts.{Info}
+use Rattle.dw_base.specs.declared.error.Error.{Error}
 use Rattle.dw_writer.specs.declared.sections.Sections.{Sections}
-use Rattle.dw_unit.specs.Pending.{AddsUnits}
+use Rattle.dw_unit.specs.Built.{Numbered, table_size}
+use Rattle.dw_unit.specs.Pending.{Kept, units_draft, tables_of, info_at, KeepPlaces, PendsUnit, Pending, AddsUnits}
+use Rattle.dw_unit.specs.UnitFaults.{holes_fail}
 use Rattle.dw_unit.specs.UnitValue.{UnitValue}
-use Rattle.dw_unit.specs.Whole.{tree_table, settled}
+use Rattle.dw_unit.specs.Whole.{settled, marked_written}
 
--- the units that aren't written yet, as they will be
-abbrev pub to_write : List UnitValue → List UnitValue
-to_write us = map settled (filter (λ u. not u.is_written) us)
+-- the units that aren't written yet, as they will be, each with its number
+abbrev pub to_write_from : ℕ → List UnitValue → List Numbered
+to_write_from n [] = []
+to_write_from n (u ∷ us) = if u.is_written then to_write_from (suc n) us else record { id = n; unit = settled u } ∷ to_write_from (suc n) us
+
+abbrev pub to_write : List UnitValue → List Numbered
+to_write us = to_write_from 0 us
+
+-- where the next table of abbreviations is to begin
+abbrev pub past_table : ℕ → UnitValue → ℕ
+past_table at u = if u.is_written then at else at + table_size (settled u)
 
 -- Settled units at the end of .debug_info, each of which tells the place of its table, and these tables at the end of
--- .debug_abbrev.
-pub record AppendsUnits {W : Type 0} (meaning : W → Meaning) (old new : Sections W) (us : List UnitValue) : Type 0 where
-  pub info : AddsUnits (meaning old.debug_info.0) (meaning new.debug_info.0) (meaning old.debug_abbrev.0).size us
-  pub tables : Adds (meaning old.debug_abbrev.0) (meaning new.debug_abbrev.0) (flat_map (λ u. tree_table u.encoding u.entries) us)
+-- .debug_abbrev. References across units hold these places.
+pub record AppendsUnits {W : Type 0} (meaning : W → Meaning) (old new : Sections W) (info : Info) (us : List Numbered) (kept : List Kept) : Type 0 where
+  pub units : AddsUnits (meaning old.debug_info.0) (meaning new.debug_info.0) (meaning old.debug_abbrev.0).size info us kept
+  pub tables : Adds (meaning old.debug_abbrev.0) (meaning new.debug_abbrev.0) (tables_of us)
 
--- all but the two sections that units are written into stay
+-- The units of a table are pending behind what the sections held. Where the table kept the places of some units, it keeps
+-- those of all of them.
+pub record PendsUnits {W : Type 0} (meaning : W → Meaning) (old new : Sections W) (old_table new_table : List UnitValue) : Type 0 where
+  pub kept : List Kept
+  pub pending : Pending meaning old new (to_write old_table) kept
+  pub keeps : (us : List Numbered) (ks : List Kept) → length us ≡ length ks → KeepPlaces old_table us ks → KeepPlaces new_table (us ++ to_write old_table) (ks ++ kept)
+
+-- The units of a table are added behind those that are pending, and every reference between them holds the place that its
+-- entry's unit keeps. Where the table kept the places of the pending ones alone, it keeps those of all of them.
+pub record CompletesPending {W : Type 0} (meaning : W → Meaning) (before new : Sections W) (old_table new_table : List UnitValue) (us : List Numbered) (ks : List Kept) : Type 0 where
+  pub kept : List Kept
+  pub appends : AppendsUnits meaning before new (info_at new_table) (us ++ to_write old_table) (ks ++ kept)
+  pub keeps : KeepPlaces old_table us ks → KeepPlaces new_table (us ++ to_write old_table) (ks ++ kept)
+  pub lead : (err : Error) → IsFalse (holes_fail (info_at new_table) (meaning before.debug_info.0).is_plain (units_draft (us ++ to_write old_table) (ks ++ kept)).holes err)
+
+abbrev pub CompletesAny : {W : Type 0} → (W → Meaning) → Sections W → Sections W → List UnitValue → List UnitValue → Type 0
+CompletesAny {W} meaning old new old_table new_table =
+    (before : Sections W) (us : List Numbered) (ks : List Kept) → before.debug_info_fixups ≡ [] → Pending meaning before old us ks →
+    CompletesPending meaning before new old_table new_table us ks
+
+-- a unit that was written before is passed over, another one is written and marked
+abbrev pub WritesIfNew : {W : Type 0} → (W → Meaning) → Sections W → Sections W → UnitValue → UnitValue → Type 0
+WritesIfNew meaning old new u v =
+    ((u.is_written ≡ true) × (v ≡ u) × (new ≡ old))
+    ⊎ ((u.is_written ≡ false) × (v ≡ marked_written v.offsets (settled u)) × PendsUnit meaning old new (settled u) v.offsets)
+
+-- all but the two sections that units are written into, and the fixups of one, stay
 abbrev pub KeepsOtherSections : {W : Type 0} → Sections W → Sections W → Type 0
-KeepsOtherSections old new = new ≡ record old { debug_abbrev = new.debug_abbrev; debug_info = new.debug_info }
+KeepsOtherSections old new =
+    new ≡ record old { debug_abbrev = new.debug_abbrev; debug_info = new.debug_info; debug_info_fixups = new.debug_info_fixups }

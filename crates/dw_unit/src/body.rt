@@ -1,9 +1,10 @@
 //! What stands in a unit after its header.
 
-ghost use Rattle.std.specs.Prelude.{◌≡◌, [], length, map, IsTrue, IsFalse, OnOk, IfErr};
+ghost use Rattle.std.specs.Prelude.{◌≡◌, [], List, length, map, IsTrue, IsFalse, OnOk, IfErr};
 ghost use Rattle.dw_base.specs.Numbers.{is_width, fits, word_of};
 ghost use Rattle.dw_base.specs.declared.error.Error.{Error as AnError};
 ghost use Rattle.dw_writer.specs.Drafts.{Drafts};
+ghost use Rattle.dw_writer.specs.declared.fixup.DebugInfoFixup.{DebugInfoFixup};
 ghost use Rattle.dw_writer.specs.Meaning.{IsSameWriter};
 ghost use Rattle.dw_writer.specs.Causes.{NotAtAll};
 ghost use Rattle.dw_entries.specs.Tree.{IsIn, AreIn, mark_of, marks};
@@ -18,7 +19,7 @@ use crate::places::Places;
 use crate::value::write_value;
 use dw_base::{Encoding, Result};
 use dw_entries::{Attribute, DebuggingInformationEntry, Item};
-use dw_writer::Writer;
+use dw_writer::{FixupList, Writer};
 
 /// Writes the values of attributes.
 fn write_attributes<W: Writer>(
@@ -26,11 +27,12 @@ fn write_attributes<W: Writer>(
     attributes: &[Attribute],
     places: &Places,
     w: &mut W,
+    fixups: &mut FixupList,
 ) -> Result<()>
     requires width { IsTrue (is_width encoding.address_size) }
     requires fit { FitsWords encoding.format (placement_of places.now) }
     ensures ok { OnOk result
-        (Drafts (W.meaning w.old) (W.meaning w.new) [] []
+        (Drafts (W.meaning w.old) (W.meaning w.new) fixups.old fixups.new
         (attributes_draft encoding (targets_at places.now) attributes.now)) }
     ensures sound { OnOk result
         ((e : AnError) → IsFalse (attributes_fail encoding (targets_at places.now).place
@@ -43,7 +45,7 @@ fn write_attributes<W: Writer>(
     ensures same { IsSameWriter (W.meaning w.old) (W.meaning w.new) }
 {
     for attribute in attributes {
-        write_value(encoding, places, attribute.get(), w)?;
+        write_value(encoding, places, attribute.get(), w, fixups)?;
     }
     Ok(())
 }
@@ -57,7 +59,7 @@ fn write_sibling<W: Writer>(
 ) -> Result<()>
     requires { IsTrue (fits (word_of encoding.format) past) }
     ensures ok { OnOk result
-        (Drafts (W.meaning w.old) (W.meaning w.new) [] []
+        ((fixups : List DebugInfoFixup) → Drafts (W.meaning w.old) (W.meaning w.new) fixups fixups
         (sibling_draft encoding past entry.now)) }
     ensures err { IfErr result (Refused (W.meaning w.old) (W.meaning w.new) NotAtAll) }
     ensures same { IsSameWriter (W.meaning w.old) (W.meaning w.new) }
@@ -76,11 +78,12 @@ fn write_entry<W: Writer>(
     code: u64,
     places: &Places,
     w: &mut W,
+    fixups: &mut FixupList,
 ) -> Result<()>
     requires width { IsTrue (is_width encoding.address_size) }
     requires fit { FitsWords encoding.format (placement_of places.now) }
     ensures ok { OnOk result
-        (Drafts (W.meaning w.old) (W.meaning w.new) [] []
+        (Drafts (W.meaning w.old) (W.meaning w.new) fixups.old fixups.new
         (entry_draft encoding (targets_at places.now) code index entry.now)) }
     ensures sound { OnOk result
         ((e : AnError) → IsFalse (attributes_fail encoding (targets_at places.now).place
@@ -94,7 +97,7 @@ fn write_entry<W: Writer>(
 {
     w.write_uleb128(code)?;
     write_sibling(encoding, entry, places.past(index), w)?;
-    write_attributes(encoding, entry.attributes(), places, w)
+    write_attributes(encoding, entry.attributes(), places, w, fixups)
 }
 
 /// Writes an entry, or the zero that closes a list of children.
@@ -105,12 +108,13 @@ fn write_item<W: Writer>(
     code: u64,
     places: &Places,
     w: &mut W,
+    fixups: &mut FixupList,
 ) -> Result<()>
     requires width { IsTrue (is_width encoding.address_size) }
     requires within { IsIn (length entries.now) (mark_of item) }
     requires fit { FitsWords encoding.format (placement_of places.now) }
     ensures ok { OnOk result
-        (Drafts (W.meaning w.old) (W.meaning w.new) [] []
+        (Drafts (W.meaning w.old) (W.meaning w.new) fixups.old fixups.new
         (mark_draft encoding entries.now (targets_at places.now) code (mark_of item))) }
     ensures sound { OnOk result
         ((e : AnError) → IsFalse (mark_fails encoding entries.now (targets_at places.now).place
@@ -123,7 +127,10 @@ fn write_item<W: Writer>(
     ensures same { IsSameWriter (W.meaning w.old) (W.meaning w.new) }
 {
     match item {
-        Item::Open(index) => { write_entry(encoding, &entries[index], index, code, places, w) }
+        Item::Open(index) => {
+            let entry = &entries[index];
+            write_entry(encoding, entry, index, code, places, w, fixups)
+        }
         Item::Null => w.write_u8(0),
     }
 }
@@ -136,6 +143,7 @@ pub(crate) fn write_items<W: Writer>(
     codes: &[u64],
     places: &Places,
     w: &mut W,
+    fixups: &mut FixupList,
 ) -> Result<()>
     requires width { IsTrue (is_width encoding.address_size) }
     requires within { AreIn (length entries.now) (marks items.now) }
@@ -144,7 +152,7 @@ pub(crate) fn write_items<W: Writer>(
         ≡ map (code_at encoding entries.now (shapes_of encoding entries.now [] (marks items.now)))
         (marks items.now) }
     ensures ok { OnOk result
-        (Drafts (W.meaning w.old) (W.meaning w.new) [] []
+        (Drafts (W.meaning w.old) (W.meaning w.new) fixups.old fixups.new
         (marks_draft encoding entries.now (targets_at places.now)
         (shapes_of encoding entries.now [] (marks items.now)) (marks items.now))) }
     ensures sound { OnOk result
@@ -158,7 +166,7 @@ pub(crate) fn write_items<W: Writer>(
     ensures same { IsSameWriter (W.meaning w.old) (W.meaning w.new) }
 {
     for (k, item) in items.iter().enumerate() {
-        write_item(encoding, entries, *item, codes[k], places, w)?;
+        write_item(encoding, entries, *item, codes[k], places, w, fixups)?;
     }
     Ok(())
 }

@@ -1,8 +1,9 @@
 //! A compile unit with its entries, and the table of its abbreviations.
 
-ghost use Rattle.std.specs.Prelude.{◌≡◌, ◌≢◌, ◌≤◌, [], length, map, IsTrue, IsFalse, OnOk, IfErr};
-ghost use Rattle.dw_base.specs.Numbers.{is_width, length_fits};
+ghost use Rattle.std.specs.Prelude.{◌≡◌, ◌≢◌, ◌≤◌, ◌<◌, ◌+◌, ◌^◌, ℕ, length, map, IsTrue, IsFalse, OnOk, IfOk, IfErr};
+ghost use Rattle.dw_base.specs.Numbers.{is_width, length_fits, word_of};
 ghost use Rattle.dw_base.specs.declared.error.Error.{Error as AnError};
+ghost use Rattle.dw_writer.specs.Causes.{offset_fits};
 ghost use Rattle.dw_writer.specs.Drafts.{Drafts};
 ghost use Rattle.dw_writer.specs.Meaning.{IsSameWriter};
 ghost use Rattle.dw_writer.specs.Sections.{SomeHasRisen, fault_sum};
@@ -11,7 +12,7 @@ ghost use Rattle.dw_entries.specs.Entries.{entry_at};
 ghost use Rattle.dw_entries.specs.Tree.{AreIn, marks, preorder};
 ghost use Rattle.dw_unit.specs.Causes.{Because, Refused, Is, TreeFails};
 ghost use Rattle.dw_unit.specs.Coded.{code_at};
-ghost use Rattle.dw_unit.specs.Pending.{AreMarksRanged, PendsTree};
+ghost use Rattle.dw_unit.specs.Pending.{AreMarksRanged, PendsTree, kept_in, starts_of};
 ghost use Rattle.dw_unit.specs.Places.{placement_of, targets_at, FitsWords};
 ghost use Rattle.dw_unit.specs.UnitFaults.{is_encodable, unit_fails};
 ghost use Rattle.dw_unit.specs.UnitText.{tree_draft, unit_draft, unit_length};
@@ -26,7 +27,7 @@ use crate::layout::lay_out;
 use crate::places::Places;
 use dw_base::{Encoding, Result};
 use dw_entries::{DebuggingInformationEntry, Item, flatten};
-use dw_writer::{Sections, Writer};
+use dw_writer::{FixupList, Sections, Writer};
 use std::alloc::Global;
 
 /// Adds a unit with its entries. Its length is put in once the unit stands.
@@ -38,6 +39,7 @@ fn write_compile_unit<W: Writer>(
     codes: &[u64],
     places: &Places,
     w: &mut W,
+    fixups: &mut FixupList,
 ) -> Result<()>
     requires width { IsTrue (is_width encoding.address_size) }
     requires within { AreIn (length entries.now) (marks items.now) }
@@ -46,7 +48,7 @@ fn write_compile_unit<W: Writer>(
     requires codes { codes.now
         ≡ map (code_at encoding entries.now (tree_shapes encoding entries.now)) (marks items.now) }
     ensures ok { OnOk result
-        (Drafts (W.meaning w.old) (W.meaning w.new) [] []
+        (Drafts (W.meaning w.old) (W.meaning w.new) fixups.old fixups.new
         (unit_draft encoding table (tree_draft encoding entries.now (targets_at places.now)))) }
     ensures fits { OnOk result
         (IsTrue (length_fits encoding.format (unit_length encoding
@@ -60,11 +62,12 @@ fn write_compile_unit<W: Writer>(
         (Is (unit_fails encoding entries.now table (targets_at places.now)
         (W.meaning w.old).is_plain))) }
     ensures same { IsSameWriter (W.meaning w.old) (W.meaning w.new) }
+    ensures room { OnOk result ((W.meaning w.new).size < 2 ^ 64) }
 {
     let place = w.write_initial_length(encoding.format)?;
     let start = w.len();
     write_fields(encoding, table, w)?;
-    write_items(encoding, entries, items, codes, places, w)?;
+    write_items(encoding, entries, items, codes, places, w, fixups)?;
     let length = (w.len() - start) as u64;
     w.write_initial_length_at(place, length, encoding.format)
 }
@@ -76,14 +79,21 @@ pub(crate) fn write_tree<W: Writer>(
     encoding: Encoding,
     entries: &[DebuggingInformationEntry],
     sections: &mut Sections<W>,
-) -> Result<()>
+) -> Result<Places>
     requires encodable { IsTrue (is_encodable encoding) }
     requires linked { AreLinked entries.now }
     requires rooted { (entry_at entries.now 0).tag ≢ 0 }
-    ensures unit { OnOk result
-        (PendsTree W.meaning sections.old sections.new encoding entries.now) }
+    ensures unit { IfOk result
+        (λ p. PendsTree W.meaning sections.old sections.new encoding entries.now
+        (kept_in (starts_of W.meaning sections.old) p)) }
+    ensures room { IfOk result
+        (λ p. (W.meaning sections.old.debug_info.0).size + p.end < 2 ^ 64) }
+    ensures bounded { IfOk result (λ p. (i : ℕ) → (placement_of p).place i ≤ p.end) }
     ensures writable { OnOk result
         (IsWritableTree (W.meaning sections.old.debug_info.0).is_plain encoding entries.now) }
+    ensures place { OnOk result
+        (IsTrue (offset_fits (W.meaning sections.old.debug_info.0).is_plain
+        (word_of encoding.format) (W.meaning sections.old.debug_abbrev.0).size)) }
     ensures err { IfErr result
         (Because (SomeHasRisen W.meaning sections.old sections.new)
         (TreeFails encoding entries.now (W.meaning sections.old.debug_abbrev.0).size
@@ -107,5 +117,7 @@ pub(crate) fn write_tree<W: Writer>(
         codes,
         &places,
         &mut sections.debug_info.0,
-    )
+        &mut sections.debug_info_fixups,
+    )?;
+    Ok(places)
 }

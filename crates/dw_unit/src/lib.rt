@@ -8,7 +8,9 @@ mod entry_mut;
 mod header;
 mod layout;
 mod line_program;
+mod offsets;
 mod places;
+mod references;
 mod shape;
 #[cfg(test)]
 mod tests;
@@ -23,5 +25,6 @@ pub use dw_entries::{
 };
 pub use entry_mut::EntryMut;
 pub use line_program::LineProgram;
+pub use offsets::UnitOffsets;
 pub use unit::Unit;
 pub use unit_table::UnitTable;

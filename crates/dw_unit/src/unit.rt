@@ -1,14 +1,17 @@
 //! One unit.
 
-ghost use Rattle.std.specs.Prelude.{◌≡◌, ◌≢◌, ◌+◌, ◌<◌, false, length, Some, slice_get, OnOk, OnErr, IfOk, IfErr};
+ghost use Rattle.std.specs.Prelude.{◌≡◌, ◌≢◌, ◌+◌, ◌<◌, true, false, length, None, Some, slice_get, OnOk, OnErr, IfOk, IfErr};
+ghost use Rattle.std.specs.Option.{option_map};
 ghost use Rattle.dw_base.specs.declared.error.Error.TheVariants.{NoMemory};
 ghost use Rattle.dw_entries.specs.Entries.{with_added};
-ghost use Rattle.dw_unit.specs.UnitValue.{new_unit, is_reserved, IsReserved, IsSound};
+ghost use Rattle.dw_unit.specs.Places.{offsets_in};
+ghost use Rattle.dw_unit.specs.UnitValue.{new_unit, offsets_of, is_reserved, IsReserved, IsSound};
 
 use crate::compile_unit::write_tree;
 use crate::entry_mut::EntryMut;
 use crate::header::check_encoding;
 use crate::line_program::LineProgram;
+use crate::offsets::UnitOffsets;
 use dw_base::{DwTag, Encoding, Format, Result, UnitEntryId};
 use dw_entries::{DebuggingInformationEntry, Entries};
 use dw_writer::{Sections, Writer};
@@ -24,6 +27,7 @@ pub struct Unit {
     pub(crate) entries: Entries,
     is_written: bool,
     is_freed: bool,
+    offsets: Option<UnitOffsets>,
 }
 
 impl Model for Unit {
@@ -38,9 +42,10 @@ impl Model for Unit {
       reserved = u.entries.reserved;
       is_written = u.is_written;
       is_freed = u.is_freed;
+      offsets = u.offsets;
     } };
 
-    ghost invariant = { λ u. IsKept u.entries.entries u.is_written u.is_freed };
+    ghost invariant = { λ u. IsKept u.entries.entries u.is_written u.is_freed u.offsets };
 }
 
 impl Unit {
@@ -55,6 +60,7 @@ impl Unit {
             entries: Entries::new(alloc)?,
             is_written: false,
             is_freed: false,
+            offsets: None,
         })
     }
 
@@ -128,6 +134,14 @@ impl Unit {
         ensures { result ≡ self.now.is_written }
     {
         self.is_written
+    }
+
+    /// Where the entries of the unit stand. There is none exactly where the unit isn't written, or
+    /// was skipped.
+    pub fn offsets(&self) -> Option<&UnitOffsets>
+        ensures { option_map (λ o. offsets_in o.now) result ≡ offsets_of self.now }
+    {
+        self.offsets.as_ref()
     }
 
     /// Tells that the unit gave its entries up.
@@ -229,18 +243,21 @@ impl Unit {
     ghost use Rattle.std.specs.Prelude.{◌⊎◌, ◌≤◌};
     ghost use Rattle.dw_writer.specs.Sections.{fault_sum};
     ghost use Rattle.dw_unit.specs.Whole.{settled, marked_written};
-    ghost use Rattle.dw_unit.specs.Valid.{IsWritable};
-    ghost use Rattle.dw_unit.specs.Pending.{PendsTree};
+    ghost use Rattle.dw_unit.specs.Valid.{IsWritableAt};
+    ghost use Rattle.dw_unit.specs.Pending.{PendsUnit, ExtendsPending};
     ghost use Rattle.dw_unit.specs.Written.{KeepsOtherSections};
     ghost use Rattle.dw_unit.specs.Causes.{UnitRefused};
 
     /// Writes the unit at the end of `.debug_info` and its abbreviation table at the end of
-    /// `.debug_abbrev` (DWARF 5, 7.5.1 to 7.5.3), and marks it written. The root's base types move
-    /// before its other children.
+    /// `.debug_abbrev` (DWARF 5, 7.5.1 to 7.5.3), and marks it written; from then on it keeps where
+    /// its entries stand. The root's base types move before its other children. References to
+    /// entries by their place in `.debug_info` are left open, with a fixup each in
+    /// `debug_info_fixups`, until `UnitTable::write` fills them in.
     ///
     /// Refused as `UnsupportedVersion` or `UnsupportedWordSize` where the version isn't 2 to 5 or
     /// the address size isn't 1, 2, 4 or 8, as `InvalidAttributeValue` where a string has a zero
-    /// byte, as `InvalidReference` where a reference names an entry outside the unit's tree, as
+    /// byte, as `InvalidReference` where a reference within the unit names an entry outside its
+    /// tree, or one by its place in `.debug_info` names a symbol, as
     /// `InvalidAddress` where an address is a symbol's and the writer records no relocations, as
     /// `InitialLengthOverflow` where a 32-bit unit has 0xffff_fff0 bytes or more after its length
     /// (DWARF 5, 7.4), as `ValueTooLarge` where an address or an offset has no room in its width,
@@ -250,11 +267,16 @@ impl Unit {
     pub fn write<W: Writer>(&mut self, sections: &mut Sections<W>) -> Result<()>
         requires { self.old.is_written ≡ false }
         ensures unit { OnOk result
-            (PendsTree W.meaning sections.old sections.new self.old.encoding
-            (settled self.old).entries) }
+            (PendsUnit W.meaning sections.old sections.new (settled self.old)
+            self.new.offsets) }
+        ensures pending { OnOk result
+            (ExtendsPending W.meaning sections.old sections.new (settled self.old)
+            self.new.offsets) }
         ensures writable { OnOk result
-            (IsWritable (W.meaning sections.old.debug_info.0).is_plain self.old) }
-        ensures marked { OnOk result (self.new ≡ marked_written (settled self.old)) }
+            (IsWritableAt (W.meaning sections.old.debug_info.0).is_plain
+            (W.meaning sections.old.debug_abbrev.0).size self.old) }
+        ensures marked { OnOk result
+            (self.new ≡ marked_written self.new.offsets (settled self.old)) }
 
         ensures err { IfErr result (UnitRefused W.meaning sections.old sections.new self.old) }
         ensures kept { OnErr result ((self.new ≡ self.old) ⊎ (self.new ≡ settled self.old)) }
@@ -264,9 +286,36 @@ impl Unit {
     {
         check_encoding(self.encoding)?;
         self.settle()?;
+        let start = sections.debug_info.0.len();
         let alloc = self.entries.allocator();
-        write_tree(alloc, self.encoding, self.entries.as_slice(), sections)?;
+        let places = write_tree(alloc, self.encoding, self.entries.as_slice(), sections)?;
+        self.offsets = Some(UnitOffsets::of(start, places));
         self.is_written = true;
         Ok(())
+    }
+}
+
+impl Unit {
+    ghost use Rattle.dw_unit.specs.Whole.{marked_written};
+    ghost use Rattle.dw_unit.specs.UnitValue.{freed};
+
+    /// Marks the unit written without writing it, so that no later call writes it. A reference to
+    /// one of its entries by the place in `.debug_info` is refused as `InvalidReference`.
+    pub fn skip(&mut self)
+        requires { self.old.is_written ≡ false }
+        ensures { self.new ≡ marked_written None self.old }
+    {
+        self.is_written = true;
+    }
+
+    /// Gives the line program and the entries up, and the memory that they take. The places of the
+    /// entries stay.
+    pub fn free(&mut self)
+        requires { self.old.is_written ≡ true }
+        ensures { self.new ≡ freed self.old }
+    {
+        self.line_program = LineProgram::none();
+        self.entries.free();
+        self.is_freed = true;
     }
 }

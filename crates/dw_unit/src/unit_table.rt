@@ -1,16 +1,17 @@
 //! The units of a `Dwarf`.
 
-ghost use Rattle.std.specs.Prelude.{◌≡◌, ◌⊎◌, ◌+◌, ◌<◌, ◌≤◌, ◌++◌, ◌∷◌, [], Bool, true, false, List, length, map, Some, IsTrue, OnOk, IfOk, OnErr, IfErr, slice_get, slice_index_or};
-ghost use Rattle.dw_base.specs.declared.error.Error.TheVariants.{NoMemory};
-ghost use Rattle.std.specs.Prelude.{All};
+ghost use Rattle.std.specs.Prelude.{◌≡◌, ◌⊎◌, ◌+◌, ◌<◌, ◌≤◌, ◌++◌, ◌∷◌, [], true, false, List, All, length, Some, IsTrue, OnOk, IfOk, OnErr, IfErr, slice_get};
 ghost use Rattle.std.specs.Borrow.{sem};
-ghost use Rattle.dw_writer.specs.Sections.{fault_sum, NoFixups};
+ghost use Rattle.dw_base.specs.declared.error.Error.TheVariants.{NoMemory};
+ghost use Rattle.dw_writer.specs.Causes.{IsNotMemory, NotAtAll};
+ghost use Rattle.dw_writer.specs.Sections.{fault_sum, SomeHasRisen, NoFixups};
 ghost use Rattle.dw_unit.specs.UnitValue.{UnitValue};
-ghost use Rattle.dw_unit.specs.Valid.{IsWritable};
-ghost use Rattle.dw_unit.specs.Whole.{settled, written};
-ghost use Rattle.dw_unit.specs.Causes.{UnitsRefused};
-ghost use Rattle.dw_unit.specs.Written.{AppendsUnits, to_write, KeepsOtherSections};
+ghost use Rattle.dw_unit.specs.Valid.{IsWritableAt, AreWritable};
+ghost use Rattle.dw_unit.specs.Whole.{AreWritten, AreStopped, IsRefused};
+ghost use Rattle.dw_unit.specs.Causes.{Because, UnitRefused, UnitsFail, RefusesAny};
+ghost use Rattle.dw_unit.specs.Written.{CompletesAny, PendsUnits, WritesIfNew, KeepsOtherSections};
 
+use crate::references::fill;
 use crate::unit::Unit;
 use dw_base::{Result, UnitId};
 use dw_writer::{Sections, Writer};
@@ -86,23 +87,30 @@ impl UnitTable {
     }
 
     /// Writes the units that aren't written yet, each behind what `.debug_info` and `.debug_abbrev`
-    /// hold, and marks them written. After Ok the three lists of fixups are empty.
+    /// hold, marks them written, and fills in the references across units that are open: those of
+    /// these units, and those that `Unit::write` left in `debug_info_fixups`. After Ok the three
+    /// lists of fixups are empty.
     ///
-    /// The table has one unit at most so far. Refused as `Unit::write` refuses a unit that isn't
-    /// written yet. A refused unit is as it was, or has its base types moved, and the two sections
-    /// may have got some of its bytes.
+    /// Refused as `Unit::write` refuses a unit that isn't written yet, and where a reference across
+    /// units names an entry outside its unit's tree, or a unit that is absent or was skipped
+    /// (`InvalidReference`), or where its place has no room (`ValueTooLarge`). The units before the
+    /// one that was refused are written, it is as it was or has its base types moved, and those
+    /// behind it are as they were. The two sections may have got some bytes.
     pub fn write<W: Writer>(&mut self, sections: &mut Sections<W>) -> Result<()>
-        requires { length self.old ≤ 1 }
-        ensures units { OnOk result
-            (AppendsUnits W.meaning sections.old sections.new (to_write self.old)) }
+        ensures completes { OnOk result
+            (CompletesAny W.meaning sections.old sections.new self.old self.new) }
         ensures writable { OnOk result
-            (All (λ u. u.is_written ≡ false →
-            IsWritable (W.meaning sections.old.debug_info.0).is_plain u) self.old) }
-        ensures marked { OnOk result (self.new ≡ map written self.old) }
+            (AreWritable (W.meaning sections.old.debug_info.0).is_plain
+            (W.meaning sections.old.debug_abbrev.0).size self.old) }
+        ensures marked { OnOk result (AreWritten self.old self.new) }
         ensures emptied { OnOk result (NoFixups sections.new) }
 
-        ensures err { IfErr result (UnitsRefused W.meaning sections.old sections.new self.old) }
-        ensures kept { OnErr result ((self.new ≡ self.old) ⊎ (self.new ≡ map settled self.old)) }
+        ensures err { IfErr result
+            (RefusesAny W.meaning sections.old sections.new self.old self.new) }
+        // Where every unit is written already, references are patched, and no memory is taken.
+        ensures memory { IsTrue W.patches_in_place → All (λ u. u.is_written ≡ true) self.old →
+            IfErr result IsNotMemory }
+        ensures stopped { OnErr result (AreStopped self.old self.new) }
 
         ensures others { sections.new
             ≡ record sections.old {
@@ -115,35 +123,62 @@ impl UnitTable {
         ensures faults { fault_sum W.meaning sections.old ≤ fault_sum W.meaning sections.new }
     {
         self.write_units(sections)?;
+        fill(
+            self.units.as_slice(),
+            &sections.debug_info_fixups,
+            &mut sections.debug_info.0,
+        )?;
         sections.debug_info_fixups.clear();
         sections.debug_loc_fixups.clear();
         sections.debug_loclists_fixups.clear();
         Ok(())
     }
 
-    /// Writes the units. The lists of fixups stay as they are.
+    /// Writes the units. Their references across units stay open.
     fn write_units<W: Writer>(&mut self, sections: &mut Sections<W>) -> Result<()>
-        requires { length self.old ≤ 1 }
-        ensures units { OnOk result
-            (AppendsUnits W.meaning sections.old sections.new (to_write self.old)) }
+        ensures pending { OnOk result
+            (PendsUnits W.meaning sections.old sections.new self.old self.new) }
         ensures writable { OnOk result
-            (All (λ u. u.is_written ≡ false →
-            IsWritable (W.meaning sections.old.debug_info.0).is_plain u) self.old) }
-        ensures marked { OnOk result (self.new ≡ map written self.old) }
+            (AreWritable (W.meaning sections.old.debug_info.0).is_plain
+            (W.meaning sections.old.debug_abbrev.0).size self.old) }
+        ensures marked { OnOk result (AreWritten self.old self.new) }
 
-        ensures err { IfErr result (UnitsRefused W.meaning sections.old sections.new self.old) }
-        ensures kept { OnErr result ((self.new ≡ self.old) ⊎ (self.new ≡ map settled self.old)) }
+        ensures err { IfErr result
+            (Because (SomeHasRisen W.meaning sections.old sections.new)
+            (UnitsFail (W.meaning sections.old.debug_info.0).is_plain
+            (W.meaning sections.old.debug_abbrev.0).size self.old)) }
+        ensures idle { All (λ u. u.is_written ≡ true) self.old → IfErr result NotAtAll }
+        ensures stopped { OnErr result (AreStopped self.old self.new) }
 
         ensures others { KeepsOtherSections sections.old sections.new }
         ensures faults { fault_sum W.meaning sections.old ≤ fault_sum W.meaning sections.new }
     {
-        if self.units.is_empty() {
-            return Ok(());
+        for index in 0..self.units.len() {
+            write_if_new(&mut self.units[index], sections)?;
         }
-        let unit = &mut self.units[0];
-        if unit.is_written() {
-            return Ok(());
-        }
-        unit.write(sections)
+        Ok(())
     }
+}
+
+/// Writes a unit, unless it is written already.
+fn write_if_new<W: Writer>(unit: &mut Unit, sections: &mut Sections<W>) -> Result<()>
+    ensures ok { OnOk result
+        (WritesIfNew W.meaning sections.old sections.new unit.old unit.new) }
+    ensures writable { OnOk result
+        ((unit.old.is_written ≡ true)
+        ⊎ IsWritableAt (W.meaning sections.old.debug_info.0).is_plain
+        (W.meaning sections.old.debug_abbrev.0).size unit.old) }
+
+    ensures err { IfErr result
+        (λ e. (unit.old.is_written ≡ false)
+        × UnitRefused W.meaning sections.old sections.new unit.old e) }
+    ensures stopped { OnErr result (IsRefused unit.old unit.new) }
+
+    ensures others { KeepsOtherSections sections.old sections.new }
+    ensures faults { fault_sum W.meaning sections.old ≤ fault_sum W.meaning sections.new }
+{
+    if unit.is_written() {
+        return Ok(());
+    }
+    unit.write(sections)
 }

@@ -8,15 +8,18 @@ ghost use Rattle.dw_writer.specs.Drafts.{Drafts};
 ghost use Rattle.dw_writer.specs.Meaning.{IsSameWriter, Adds, Appends};
 ghost use Rattle.dw_writer.specs.Causes.{BytesRefused};
 ghost use Rattle.dw_writer.specs.SectionTexts.{offset_text, address_text};
-ghost use Rattle.dw_entries.specs.Content.{number_fails, text_fails, address_fails, offset_fails, reference_fails};
+ghost use Rattle.dw_entries.specs.Content.{number_fails, text_fails, address_fails, offset_fails, reference_fails, info_fails};
 ghost use Rattle.dw_entries.specs.Values.{value_draft, value_fails, IsRanged};
+ghost use Rattle.dw_unit.specs.UnitText.{info_draft};
 ghost use Rattle.dw_unit.specs.Causes.{Refused, Is};
 ghost use Rattle.dw_unit.specs.Places.{placement_of, targets_at, FitsWords};
 
 use crate::places::Places;
-use dw_base::{Address, Encoding, Error, Format, Result, SectionId, UnitEntryId};
-use dw_entries::{AttributeValue, Content};
-use dw_writer::Writer;
+use dw_base::{
+    Address, DebugInfoRef, Encoding, Error, Format, Result, SectionId, UnitEntryId,
+};
+use dw_entries::{AttributeValue, Content, info_place_size};
+use dw_writer::{DebugInfoFixup, FixupList, Writer};
 
 /// Writes what stands for the value in an entry.
 pub(crate) fn write_value<W: Writer>(
@@ -24,11 +27,12 @@ pub(crate) fn write_value<W: Writer>(
     places: &Places,
     value: &AttributeValue,
     w: &mut W,
+    fixups: &mut FixupList,
 ) -> Result<()>
     requires width { IsTrue (is_width encoding.address_size) }
     requires fit { FitsWords encoding.format (placement_of places.now) }
     ensures ok { OnOk result
-        (Drafts (W.meaning w.old) (W.meaning w.new) [] []
+        (Drafts (W.meaning w.old) (W.meaning w.new) fixups.old fixups.new
         (value_draft encoding (targets_at places.now) value.now)) }
     ensures sound { OnOk result
         ((e : AnError) → IsFalse (value_fails encoding (targets_at places.now).place
@@ -51,6 +55,9 @@ pub(crate) fn write_value<W: Writer>(
         Content::Target(address) => write_target(address, encoding.address_size, w),
         Content::Offset { value, section } => write_place(encoding.format, value, section, w),
         Content::EntryPlace(entry) => write_reference(encoding.format, places, entry, w),
+        Content::InfoPlace(entry) => {
+            write_info_reference(entry, info_place_size(encoding), w, fixups)
+        }
     }
 }
 
@@ -146,4 +153,33 @@ fn write_reference<W: Writer>(
         return Err(Error::InvalidReference);
     };
     w.write_udata(place, format.word_size())
+}
+
+/// Leaves the place of an entry in `.debug_info` open: as zeros, and a fixup that tells the entry.
+fn write_info_reference<W: Writer>(
+    reference: DebugInfoRef,
+    size: u8,
+    w: &mut W,
+    fixups: &mut FixupList,
+) -> Result<()>
+    requires { IsTrue (is_width size) }
+    ensures ok { OnOk result
+        (Drafts (W.meaning w.old) (W.meaning w.new) fixups.old fixups.new
+        (info_draft size reference)) }
+    ensures sound { OnOk result ((e : AnError) → IsFalse (info_fails reference e)) }
+    ensures err { IfErr result
+        (Refused (W.meaning w.old) (W.meaning w.new) (Is (info_fails reference))) }
+    ensures same { IsSameWriter (W.meaning w.old) (W.meaning w.new) }
+{
+    let DebugInfoRef::Entry(unit, entry) = reference else {
+        return Err(Error::InvalidReference);
+    };
+    let offset = w.len();
+    w.write_udata(0, size)?;
+    fixups.push(DebugInfoFixup {
+        offset,
+        size,
+        unit,
+        entry,
+    })
 }

@@ -1,17 +1,17 @@
 -- New plain sections take every Dwarf that is valid.
-use Rattle.std.specs.Prelude.{◌≡◌, true, List}
+use Rattle.std.specs.Prelude.{◌≡◌, ◌⊎◌, true, List, []}
 use Rattle.std.proofs.Common.{ℕ, sym, subst}
 use Rattle.dw_base.specs.declared.error.Error.{Error}
 use Rattle.dw_base.specs.declared.error.Error.TheVariants.{NoMemory}
 use Rattle.dw_writer.specs.Contents.{Meaning}
 use Rattle.dw_writer.specs.Sections.{SomeHasRisen}
 use Rattle.dw_writer.specs.declared.sections.Sections.{Sections}
-use Rattle.dw_unit.specs.Causes.{UnitFails}
-use Rattle.dw_unit.proofs.ValidLaws.{unit_unfailing}
-use Rattle.dw_dwarf.specs.Valid.{IsValid, DwarfRefused}
+use Rattle.dw_unit.specs.Built.{numbered, at_begin}
+use Rattle.dw_unit.specs.Causes.{UnitsFail}
+use Rattle.dw_dwarf.specs.Valid.{AreUnwritten, IsValid, SomeReferenceFails, DwarfRefused, settled_dwarf}
 use Rattle.dw_dwarf.specs.Written.{AreNewPlain, AreNew}
 use Rattle.dw_dwarf.specs.declared.dwarf.Dwarf.{Dwarf}
-use Rattle.dw_dwarf.proofs.Complete.{AreNew-from_plain, first_fits, valid_at, unit_fails}
+use Rattle.dw_dwarf.proofs.Complete.{AreNew-from_plain, dwarf_fails, valid_unfailing}
 use Rattle.dwarf_build.specs.Answers.{HasFault, SaysOf}
 use Rattle.dwarf_build.specs.Texts.{refused_text}
 use Rattle.dwarf_build.specs.declared.script.Script.{Script}
@@ -19,11 +19,11 @@ use Rattle.dwarf_build.specs.declared.status.Status.{Status}
 use Rattle.dwarf_build.specs.declared.status.Status.TheVariants.{WriteRefused}
 
 -- The clause of the writing call is named for the meaning and the sections that it mentions.
-pub dwarf_faulty : {W : Type 0} {meaning : W → Meaning} {old : Sections W} {Clause : Type 0} → (AreNew meaning old → Clause) → (new : Sections W) → AreNewPlain meaning old → (d : Dwarf) (e : Error) → (e ≡ NoMemory → ⊥) → DwarfRefused meaning old new d e →
-    (SomeHasRisen meaning old new → ⊥) → HasFault d e
-dwarf_faulty {W} {meaning} {old} clause new empty d e some r calm =
-    let fails = unit_fails meaning old new (AreNew-from_plain meaning old empty) calm r.1 e some r.4.1 in
-    (r.0, r.1, r.2, r.3, subst (λ b. UnitFails r.1 0 b e) empty.writers.debug_info.plain fails)
+pub dwarf_faulty : {W : Type 0} {meaning : W → Meaning} {old : Sections W} {Clause : Type 0} → (AreNew meaning old → Clause) → (new : Sections W) → AreNewPlain meaning old → (d : Dwarf) (e : Error) → AreUnwritten d → (e ≡ NoMemory → ⊥) →
+    (old.debug_info_fixups ≡ [] → AreUnwritten d → DwarfRefused meaning old new d e) → (SomeHasRisen meaning old new → ⊥) → HasFault d e
+dwarf_faulty {W} {meaning} {old} clause new empty d e unwritten some refused calm =
+    let fails = dwarf_fails meaning old new (AreNew-from_plain meaning old empty) calm d e some (refused empty.fixups.info unwritten) in
+    subst (λ b. UnitsFail b 0 d.units e ⊎ SomeReferenceFails b at_begin (numbered (settled_dwarf d).units) e) empty.writers.debug_info.plain fails
 
 -- what is said of a script that is refused
 pub says_refused : (s : Script) (status : Status) (text : List ℕ) (e : Error) → status ≡ WriteRefused → text ≡ refused_text e → HasFault s.dwarf e → SaysOf s status text
@@ -32,5 +32,4 @@ says_refused s status text e is says cause =
 
 -- a valid Dwarf has no fault
 pub valid_faultless : (d : Dwarf) (e : Error) → IsValid true d → HasFault d e → ⊥
-valid_faultless d e valid r =
-    unit_unfailing true r.1 0 (first_fits true r.1.encoding.format) (valid_at true d r.0 r.1 valid r.2 r.3) e r.4
+valid_faultless d e valid r = valid_unfailing true d valid e r

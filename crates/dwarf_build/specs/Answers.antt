@@ -1,9 +1,10 @@
 -- What the program answers, by its status.
-use Rattle.std.specs.Prelude.{◌≡◌, ◌⊎◌, ℕ, ◌<◌, ◌≤◌, true, List, [], ◌∷◌, length, Any, Option, Some, Ok, Err, codes}
+use Rattle.std.specs.Prelude.{◌≡◌, ◌⊎◌, ℕ, ◌<◌, ◌≤◌, true, List, [], ◌∷◌, length, Option, Some, Ok, Err, codes}
 use Rattle.dw_base.specs.Order.{is_big_of}
 use Rattle.dw_base.specs.declared.error.Error.{Error}
-use Rattle.dw_unit.specs.Causes.{UnitFails}
-use Rattle.dw_dwarf.specs.Valid.{IsValid, settled_dwarf}
+use Rattle.dw_unit.specs.Built.{numbered, at_begin}
+use Rattle.dw_unit.specs.Causes.{UnitsFail}
+use Rattle.dw_dwarf.specs.Valid.{IsValid, SomeReferenceFails, settled_dwarf}
 use Rattle.dw_dwarf.specs.Written.{SectionTexts, AreTextsOf}
 use Rattle.dw_dwarf.specs.declared.dwarf.Dwarf.{Dwarf}
 use Rattle.dw_base.specs.Faults.{HasRisen}
@@ -38,18 +39,19 @@ abbrev pub IsShort : List ℕ → Type 0
 IsShort bytes = length bytes ≤ longest_script
 
 -- the listing of sections that are read as exactly the script's units, with nothing in other sections. It comes, with
--- status 0, only for valid units, so that no reference in it names an entry outside its tree
+-- status 0, only for valid units, so that each reference in it names an entry of its unit's tree
 pub record ListsScript (s : Script) (text : List ℕ) : Type 0 where
   pub texts : SectionTexts
   pub valid : IsValid true s.dwarf
   pub are : AreTextsOf (is_big_of s.endian) (settled_dwarf s.dwarf) texts
   pub listed : text ≡ sections_text (is_big_of s.endian) texts
 
--- A plain writer can't take some unit, whose table would stand first.
+-- A plain writer can't take some unit, where its table stands behind those of the units before it, or some reference across
+-- units leads to no entry, or to one whose place has no room.
 abbrev pub HasFault : Dwarf → Error → Type 0
-HasFault d error = Any (λ u. UnitFails u 0 true error) d.units
+HasFault d error = UnitsFail true 0 d.units error ⊎ SomeReferenceFails true at_begin (numbered (settled_dwarf d).units) error
 
--- some unit of the script can't be written, and the text says why
+-- some unit of the script, or a reference across them, can't be written, and the text says why
 pub record IsWriteRefusal (s : Script) (text : List ℕ) : Type 0 where
   pub error : Error
   pub cause : HasFault s.dwarf error

@@ -1,5 +1,5 @@
 -- What a script builds: each line does what it says to what the lines before it built.
-use Rattle.std.specs.Prelude.{◌≡◌, ℕ, ◌+◌, ◌≤◌, List, [], ◌∷◌, length, Option, Some, None, Result, Ok, Err, ok_or, true, false, not, nat_lt, ◌==◌, if◌then◌else◌, slice_get, slice_set, All}
+use Rattle.std.specs.Prelude.{◌≡◌, ℕ, ◌+◌, List, [], ◌∷◌, ◌++◌, length, Option, Some, None, Result, Ok, Err, ok_or, true, false, not, nat_lt, ◌==◌, if◌then◌else◌, slice_get, slice_set, All}
 use Rattle.dw_base.specs.declared.endianity.RunTimeEndian.TheVariants.{Little}
 use Rattle.dw_script.specs.Fields.{Outcome, ◌>>=◌}
 use Rattle.dw_script.specs.Lines.{parsed_line}
@@ -8,7 +8,7 @@ use Rattle.dw_script.specs.declared.command.Command.{Command}
 use Rattle.dw_script.specs.declared.command.Command.TheVariants.{Order, Unit as AddUnit, Change as ChangeUnit}
 use Rattle.dw_script.specs.declared.change.Change.{Change}
 use Rattle.dw_script.specs.declared.change.Change.TheVariants as change
-use Rattle.dw_script.specs.declared.reason.Reason.TheVariants.{NotBuilt, OrderNotFirst, NoSuchUnit, NoSuchEntry, NotReserved, BadTag, BadName}
+use Rattle.dw_script.specs.declared.reason.Reason.TheVariants.{OrderNotFirst, NoSuchUnit, NoSuchEntry, NotReserved, BadTag, BadName}
 use Rattle.dw_script.specs.declared.value.Value.{Value}
 use Rattle.dw_script.specs.declared.value.Value.TheVariants as value
 use Rattle.dw_entries.specs.Entries.{EntryValue, with_changed, filled_up, with_new_child, with_sibling, with_attribute, without_attribute, without_child}
@@ -26,11 +26,6 @@ use Rattle.dwarf_build.specs.declared.script.ScriptError.TheVariants as whole
 abbrev pub empty_script : Script
 empty_script = record { endian = Little; dwarf = record { units = [] }; has_begun = false }
 
--- the units with one more, of which there may be one so far
-abbrev pub one_more_unit : List UnitValue → UnitValue → Outcome (List UnitValue)
-one_more_unit [] u = Ok (u ∷ [])
-one_more_unit (v ∷ vs) u = Err NotBuilt
-
 -- the value that an attribute gets
 abbrev pub attribute_value : Value → AttributeValue
 attribute_value (value.Address a) = stored.Address a
@@ -46,6 +41,7 @@ attribute_value (value.ImplicitConst z) = stored.ImplicitConst z
 attribute_value (value.Flag b) = stored.Flag b
 attribute_value value.FlagPresent = stored.FlagPresent
 attribute_value (value.UnitRef i) = stored.UnitRef (record { 0 = i })
+attribute_value (value.DebugInfoRef r) = stored.DebugInfoRef r
 attribute_value (value.DebugInfoRefSup n) = stored.DebugInfoRefSup n
 attribute_value (value.DebugMacinfoRef n) = stored.DebugMacinfoRef n
 attribute_value (value.DebugMacroRef n) = stored.DebugMacroRef n
@@ -121,7 +117,7 @@ with_units s us = record s { dwarf = record { units = us }; has_begun = true }
 -- after a command
 abbrev pub after_command : Script → Command → Outcome Script
 after_command s (Order o) = if s.has_begun then Err OrderNotFirst else Ok (record s { endian = o; has_begun = true })
-after_command s (AddUnit e) = one_more_unit s.dwarf.units (new_unit e no_line_program) >>= λ us. Ok (with_units s us)
+after_command s (AddUnit e) = Ok (with_units s (s.dwarf.units ++ new_unit e no_line_program ∷ []))
 after_command s (ChangeUnit unit c) = with_unit_changed unit (after_change c) s.dwarf.units >>= λ us. Ok (with_units s us)
 
 -- after a line that may ask for nothing
@@ -145,9 +141,8 @@ script bytes = after_lines 1 empty_script (pieces newline bytes)
 abbrev pub IsOpen : UnitValue → Type 0
 IsOpen u = (u.is_written ≡ false) × (u.is_freed ≡ false)
 
--- no unit or one, which is still built
-abbrev pub HasFewUnits : List UnitValue → Type 0
-HasFewUnits us = (length us ≤ 1) × All IsOpen us
+abbrev pub AreOpen : List UnitValue → Type 0
+AreOpen us = All IsOpen us
 
 -- why something isn't done: its condition, or want of memory
 abbrev pub RefusedFor : {T : Type 0} → Outcome T → CommandError → Type 0

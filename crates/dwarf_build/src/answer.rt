@@ -3,7 +3,7 @@
 ghost use Rattle.std.specs.Prelude.{◌≡◌, ◌≢◌, ◌≤◌, ◌↔◌, ◌∷◌, [], List, length, map, codes, Some, IsTrue, IfOk, IfErr, string_bytes};
 ghost use Rattle.dw_base.specs.declared.error.Error.TheVariants.{NoMemory};
 ghost use Rattle.dwarf_build.specs.Answers.{IsBuild, LeavesUnread, Says, SaysOf, SaysBuild, Reads, StopsFor};
-ghost use Rattle.dwarf_build.specs.Script.{HasFewUnits};
+ghost use Rattle.dwarf_build.specs.Script.{AreOpen};
 ghost use Rattle.dwarf_build.specs.Texts.{refusal_text, refused_text};
 
 use crate::listing::list_sections;
@@ -85,7 +85,7 @@ fn answer_write_refusal(alloc: Global, error: Error) -> Result<Answer, AllocErro
 
 // Writes what the script has built, and lists the sections.
 fn write_script(alloc: Global, mut script: Script) -> Result<Answer, AllocError>
-    requires { HasFewUnits script.dwarf.units }
+    requires { AreOpen script.dwarf.units }
     ensures { IfOk result (λ a. SaysOf script a.status a.text.items) }
 {
     let section = EndianVec::new(alloc, script.endian);

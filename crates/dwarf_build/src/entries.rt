@@ -201,6 +201,7 @@ fn owned_value(alloc: Global, value: Value<'_>) -> Result<AttributeValue, AllocE
         Value::Flag(is_set) => AttributeValue::Flag(is_set),
         Value::FlagPresent => AttributeValue::FlagPresent,
         Value::UnitRef(entry) => AttributeValue::UnitRef(id_of(entry)),
+        Value::DebugInfoRef(entry) => AttributeValue::DebugInfoRef(entry),
         Value::DebugInfoRefSup(offset) => AttributeValue::DebugInfoRefSup(offset),
         Value::DebugMacinfoRef(offset) => AttributeValue::DebugMacinfoRef(offset),
         Value::DebugMacroRef(offset) => AttributeValue::DebugMacroRef(offset),

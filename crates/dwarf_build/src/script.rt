@@ -45,7 +45,7 @@ pub enum CommandError {
 }
 
 impl Script {
-    ghost use Rattle.dwarf_build.specs.Script.{empty_script, after_command, after_line, HasFewUnits, RefusedFor, LineRefused};
+    ghost use Rattle.dwarf_build.specs.Script.{empty_script, after_command, after_line, AreOpen, RefusedFor, LineRefused};
 
     // Before the first line.
     fn new(alloc: Global) -> Script
@@ -61,7 +61,7 @@ impl Script {
     // Does what a line says, the number-th of the script. Where it is refused the script isn't used
     // again.
     fn read_line(&mut self, alloc: Global, line: &[u8], number: usize) -> Result<(), ScriptError>
-        requires { HasFewUnits self.old.dwarf.units }
+        requires { AreOpen self.old.dwarf.units }
         ensures ok { OnOk result (after_line self.old line.now ≡ Ok self.new) }
         ensures err { IfErr result (LineRefused self.old line.now number) }
     {
@@ -77,7 +77,7 @@ impl Script {
     }
 
     fn apply(&mut self, alloc: Global, command: Command<'_>) -> Result<(), CommandError>
-        requires { HasFewUnits self.old.dwarf.units }
+        requires { AreOpen self.old.dwarf.units }
         ensures ok { OnOk result (after_command self.old command.entry ≡ Ok self.new) }
         ensures err { IfErr result (RefusedFor (after_command self.old command.entry)) }
     {
@@ -104,9 +104,6 @@ impl Script {
         ensures ok { OnOk result (after_command self.old (Command.Unit encoding) ≡ Ok self.new) }
         ensures err { IfErr result (RefusedFor (after_command self.old (Command.Unit encoding))) }
     {
-        if self.dwarf.units.count() != 0 {
-            return Err(CommandError::Refused(Reason::NotBuilt));
-        }
         let unit = Unit::new(alloc, encoding, LineProgram::none()).map_err(
             |_| CommandError::NoMemory,
         )?;
@@ -124,7 +121,7 @@ impl Script {
         unit: u64,
         change: Change<'_>,
     ) -> Result<(), CommandError>
-        requires { HasFewUnits self.old.dwarf.units }
+        requires { AreOpen self.old.dwarf.units }
         ensures ok { OnOk result
             (after_command self.old (Command.Change unit change.entry) ≡ Ok self.new) }
         ensures err { IfErr result

@@ -17,7 +17,7 @@ use Rattle.dw_unit.proofs.body.write_attributes.Goals as goal
 
 pub loop-attribute-init : goal.loop-attribute-init
 loop-attribute-init g c = record {
-  added = Drafts-nothing (g.W.Writer.meaning c.args.w.now) [];
+  added = Drafts-nothing (g.W.Writer.meaning c.args.w.now) c.args.fixups.now;
   sound = λ e. refl;
   ranged = All-nil (λ (a : Attribute). IsRanged c.args.encoding a.value);
 }

@@ -10,7 +10,7 @@ use Rattle.dw_unit.proofs.body.write_attributes.Given as goal
 
 abbrev pub invariant-loop-attribute : goal.invariant-loop-attribute
 invariant-loop-attribute g l = record {
-  added : Drafts (g.W.Writer.meaning l.initial.w) (g.W.Writer.meaning l.w) [] [] (attributes_draft l.encoding (targets_at l.places) (take l.attribute-index l.attributes));
+  added : Drafts (g.W.Writer.meaning l.initial.w) (g.W.Writer.meaning l.w) l.initial.fixups l.fixups (attributes_draft l.encoding (targets_at l.places) (take l.attribute-index l.attributes));
   sound : (e : Error) → IsFalse (attributes_fail l.encoding (targets_at l.places).place (g.W.Writer.meaning l.initial.w).is_plain (take l.attribute-index l.attributes) e);
   ranged : AreRanged l.encoding (take l.attribute-index l.attributes);
 }

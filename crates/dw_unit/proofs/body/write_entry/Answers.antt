@@ -1,4 +1,3 @@
-use Rattle.std.specs.Prelude.{[]}
 use Rattle.dw_writer.proofs.Outcomes.{OnOk-map, IfErr-map}
 use Rattle.dw_writer.proofs.WriteLaws.{Drafts-then}
 use Rattle.dw_unit.specs.Causes.{Is}
@@ -14,7 +13,7 @@ returns-clause-ok g c =
     let sibling = rw c.past.ensures at c.in_ok-write_sibling.ensures.ok in
     let values = rw c.attributes.ensures.value at c.write_attributes.ensures.ok in
     OnOk-map c.write_attributes.result values
-    (λ p. Drafts-then (Drafts-bytes [] c.in_ok-write_uleb128.ensures.ok) (Drafts-then sibling p))
+    (λ p. Drafts-then (Drafts-bytes c.args.fixups.now c.in_ok-write_uleb128.ensures.ok) (Drafts-then (sibling c.args.fixups.now) p))
 
 pub returns-clause-sound : goal.returns-clause-sound
 returns-clause-sound g c =

@@ -1,4 +1,4 @@
-use Rattle.std.proofs.Common.{[], length, sym, subst, arith}
+use Rattle.std.proofs.Common.{length, sym, subst, arith}
 use Rattle.std.specs.Prelude.{IsFalse, IsTrue}
 use Rattle.dw_writer.proofs.Outcomes.{OnOk-map, IfErr-map}
 use Rattle.dw_entries.specs.Entries.{EntryValue}
@@ -12,7 +12,7 @@ use Rattle.dw_unit.proofs.body.write_item.Goals as goal
 
 pub returns-in-Null-clause-ok : goal.returns-in-Null-clause-ok
 returns-in-Null-clause-ok g c =
-    rw c.in-Null.is (OnOk-map c.write_u8.result c.write_u8.ensures.ok (Drafts-byte [] 0 (omega arith)))
+    rw c.in-Null.is (OnOk-map c.write_u8.result c.write_u8.ensures.ok (Drafts-byte c.args.fixups.now 0 (omega arith)))
 
 pub returns-in-Open-clause-sound : goal.returns-in-Open-clause-sound
 returns-in-Open-clause-sound g c =

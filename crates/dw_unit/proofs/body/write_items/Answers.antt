@@ -21,7 +21,7 @@ use Rattle.dw_unit.proofs.body.write_items.Goals as goal
 
 pub loop-k-init : goal.loop-k-init
 loop-k-init g c = record {
-  added = Drafts-nothing (g.W.Writer.meaning c.args.w.now) [];
+  added = Drafts-nothing (g.W.Writer.meaning c.args.w.now) c.args.fixups.now;
   sound = λ e. refl;
   ranged = All-nil (IsMarkRanged c.args.encoding c.args.entries.now);
 }

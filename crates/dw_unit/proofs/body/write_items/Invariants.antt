@@ -12,7 +12,7 @@ use Rattle.dw_unit.proofs.body.write_items.Given as goal
 
 abbrev pub invariant-loop-k : goal.invariant-loop-k
 invariant-loop-k g l = record {
-  added : Drafts (g.W.Writer.meaning l.initial.w) (g.W.Writer.meaning l.w) [] [] (marks_draft l.encoding l.entries (targets_at l.places) (shapes_of l.encoding l.entries [] (marks l.items)) (take l.k (marks l.items)));
+  added : Drafts (g.W.Writer.meaning l.initial.w) (g.W.Writer.meaning l.w) l.initial.fixups l.fixups (marks_draft l.encoding l.entries (targets_at l.places) (shapes_of l.encoding l.entries [] (marks l.items)) (take l.k (marks l.items)));
   sound : (e : Error) → IsFalse (marks_fail l.encoding l.entries (targets_at l.places).place (g.W.Writer.meaning l.initial.w).is_plain (take l.k (marks l.items)) e);
   ranged : AreMarksRanged l.encoding l.entries (take l.k (marks l.items));
 }

@@ -18,10 +18,10 @@ returns-in_ok-write_udata-clause-ok g c =
     let e = c.args.encoding in
     let w = word_of e.format in
     let wrote = rw c.word_size.ensures at c.in_ok-write_udata.ensures.ok in
-    Drafts-is (Drafts-fitting [] w c.args.past (width-word e.format) c.requires wrote)
+    λ kept. Drafts-is (Drafts-fitting kept w c.args.past (width-word e.format) c.requires wrote)
     (sibling_by e c.args.past c.args.entry.now true (sym c.has_sibling.ensures ∙ c.if-has_sibling.true))
 
 pub returns-else-has_sibling-clause-ok : goal.returns-else-has_sibling-clause-ok
 returns-else-has_sibling-clause-ok g c =
-    Drafts-is (Drafts-nothing (g.W.Writer.meaning c.args.w.now) [])
+    λ kept. Drafts-is (Drafts-nothing (g.W.Writer.meaning c.args.w.now) kept)
     (sibling_by c.args.encoding c.args.past c.args.entry.now false (sym c.has_sibling.ensures ∙ c.if-has_sibling.false))

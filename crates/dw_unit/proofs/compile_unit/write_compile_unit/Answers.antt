@@ -102,3 +102,7 @@ returns-clause-err g c =
     IfErr-map c.write_initial_length_at.result refused
     (λ err h. refused_after m mid new (Is (header_fails e c.args.table m.is_plain long)) (Is (unit_fails e es c.args.table u m.is_plain)) same (in_header e es c.args.table u m.is_plain) err
     (length_refused mid new e c.args.table m.is_plain long c.in_ok-place.place (omega (arith, inside, fields.size, body.text.size)) err h))
+
+pub returns-clause-room : goal.returns-clause-room
+returns-clause-room g c =
+    OnOk-map c.write_initial_length_at.result c.write_initial_length_at.ensures.ok (λ p. omega (arith, p.size, c.len.ensures))

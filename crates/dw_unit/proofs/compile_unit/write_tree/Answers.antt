@@ -5,17 +5,15 @@ use Rattle.std.specs.Prelude.{IsFalse}
 use Rattle.dw_base.specs.declared.error.Error.{Error}
 use Rattle.dw_writer.specs.Sections.{SomeHasRisen}
 use Rattle.dw_writer.proofs.FaultLaws.{SomeHasRisen-abbrev, SomeHasRisen-info}
-use Rattle.dw_writer.proofs.Outcomes.{IfErr-map}
 use Rattle.dw_entries.specs.Tree.{marks, mark_of, AreTagged}
 use Rattle.dw_entries.proofs.Tagged.{preorder_tagged}
 use Rattle.dw_unit.specs.Causes.{Is, TreeFails}
-use Rattle.dw_unit.specs.Pending.{Kept, starts_of}
 use Rattle.dw_unit.specs.Places.{placement_of, targets_of}
 use Rattle.dw_unit.specs.UnitFaults.{unit_fails}
-use Rattle.dw_unit.proofs.Faults.{because-map, bytes_because, OnOk-both}
+use Rattle.dw_unit.proofs.Faults.{because-map, bytes_because}
 use Rattle.dw_unit.proofs.PlaceSteps.{tree_distinct, tree_closes, tree_codes, tree_end, tree_placed, tree_no_room, places_fit, too_long}
 use Rattle.dw_unit.proofs.TextsThere.{unit_there}
-use Rattle.dw_unit.proofs.TreeWritten.{table_added, table_declared, tree_is_one, tree_few, tree_writable, faulty, too_long_faulty, room_refused, OnOk-four}
+use Rattle.dw_unit.proofs.TreeWritten.{table_added, table_declared, tree_is_one, tree_few, tree_writable, faulty, too_long_faulty, room_refused, place_fits, unit_long}
 use Rattle.dw_unit.proofs.compile_unit.write_tree.Goals as goal
 
 pub assign_codes-requires-clause-tagged : goal.assign_codes-requires-clause-tagged
@@ -79,21 +77,22 @@ returns-in_err-write-clause-err g c =
     rw (failed.1, failed.2)
     (bytes_because (TreeFails c.args.encoding c.args.entries.now (meaning old.debug_abbrev.0).size (meaning old.debug_info.0).is_plain) (meaning old.debug_abbrev.0) (meaning new.debug_abbrev.0) (SomeHasRisen-abbrev meaning old new) c.in_err-write.field-0.0 c.in_err-write.ensures.err)
 
-pub returns-clause-err : goal.returns-clause-err
-returns-clause-err g c =
+pub returns-in_err-write_compile_unit-clause-err : goal.returns-in_err-write_compile_unit-clause-err
+returns-in_err-write_compile_unit-clause-err g c =
     let e = c.args.encoding in
     let es = c.args.entries.now in
-    let err = rw c.len-place.ensures at c.write_compile_unit.ensures.err in
+    let err = rw c.len-place.ensures at c.in_err-write_compile_unit.ensures.err in
     let meaning = g.W.Writer.meaning in
     let old = c.args.sections.now in
-    let new = record old { debug_abbrev = c.write.new.w; debug_info = record { 0 = c.write_compile_unit.new.w } } in
+    let new = record old { debug_abbrev = c.write.new.w; debug_info = record { 0 = c.write_compile_unit.new.w }; debug_info_fixups = c.write_compile_unit.new.fixups } in
     let p = placement_of c.in_ok-places.places in
     let tree = ap marks c.as_slice-items.ensures.value ∙ c.in_ok-tree.ensures.items in
     let placed = tree_placed e es p (marks c.as_slice-items.result.now) tree c.in_ok-places.ensures.placed in
     let table = (meaning old.debug_abbrev.0).size in
     let plain = (meaning old.debug_info.0).is_plain in
-    IfErr-map c.write_compile_unit.result err
-    (because-map {p = Is (unit_fails e es table (targets_of p) plain)} {q = TreeFails e es table plain} (SomeHasRisen-info meaning old new) (faulty e es p placed table plain))
+    let failed = err_from_is_err_and c.from_residual-in_err-write_compile_unit.result c.from_residual-in_err-write_compile_unit.ensures.1 in
+    rw (failed.1, failed.2)
+    (because-map {p = Is (unit_fails e es table (targets_of p) plain)} {q = TreeFails e es table plain} (SomeHasRisen-info meaning old new) (faulty e es p placed table plain) c.in_err-write_compile_unit.field-0.0 err)
 
 pub returns-clause-writable : goal.returns-clause-writable
 returns-clause-writable g c =
@@ -106,9 +105,29 @@ returns-clause-writable g c =
     let tree = ap marks c.as_slice-items.ensures.value ∙ c.in_ok-tree.ensures.items in
     let placed = tree_placed e es p ms tree c.in_ok-places.ensures.placed in
     let end = tree_end e es ms p.place c.in_ok-places.places.end tree c.in_ok-places.ensures.end in
-    let sound = rw c.len-place.ensures at c.write_compile_unit.ensures.sound in
-    OnOk-both c.write_compile_unit.result c.write_compile_unit.ensures.fits sound
-    (λ fits h. tree_writable e es p placed (meaning old.debug_abbrev.0).size (meaning old.debug_info.0).is_plain c.requires.encodable c.in_ok-places.places.end end (omega arith) fits h)
+    let sound = rw c.len-place.ensures at c.in_ok-write_compile_unit.ensures.sound in
+    tree_writable e es p placed (meaning old.debug_abbrev.0).size (meaning old.debug_info.0).is_plain c.requires.encodable c.in_ok-places.places.end end (omega arith) c.in_ok-write_compile_unit.ensures.fits sound
+
+pub returns-clause-place : goal.returns-clause-place
+returns-clause-place g c =
+    let e = c.args.encoding in
+    let es = c.args.entries.now in
+    let meaning = g.W.Writer.meaning in
+    let old = c.args.sections.now in
+    let p = placement_of c.in_ok-places.places in
+    let sound = rw c.len-place.ensures at c.in_ok-write_compile_unit.ensures.sound in
+    place_fits e es (meaning old.debug_abbrev.0).size (targets_of p) (meaning old.debug_info.0).is_plain sound
+
+pub returns-clause-room : goal.returns-clause-room
+returns-clause-room g c =
+    let e = c.args.encoding in
+    let es = c.args.entries.now in
+    let p = placement_of c.in_ok-places.places in
+    let ms = marks c.as_slice-items.result.now in
+    let tree = ap marks c.as_slice-items.ensures.value ∙ c.in_ok-tree.ensures.items in
+    let end = tree_end e es ms p.place c.in_ok-places.places.end tree c.in_ok-places.ensures.end in
+    let long = unit_long e es p c.len-place.result in
+    omega (arith, c.in_ok-write_compile_unit.ensures.ok.text.size, c.in_ok-write_compile_unit.ensures.room, end, long)
 
 pub returns-clause-unit : goal.returns-clause-unit
 returns-clause-unit g c =
@@ -122,21 +141,18 @@ returns-clause-unit g c =
     let p = placement_of c.in_ok-places.places in
     let tree = ap marks c.as_slice-items.ensures.value ∙ c.in_ok-tree.ensures.items in
     let placed = tree_placed e es p ms tree c.in_ok-places.ensures.placed in
-    let ok = rw c.len-place.ensures at c.write_compile_unit.ensures.ok in
-    let kept : Kept = record { starts = starts_of meaning old; places = p } in
+    let unit = rw c.len-place.ensures at c.in_ok-write_compile_unit.ensures.ok in
     let table = (meaning old.debug_abbrev.0).size in
-    let passed = rw c.len-place.ensures at c.write_compile_unit.ensures.sound in
+    let sound = rw c.len-place.ensures at c.in_ok-write_compile_unit.ensures.sound in
     let fit = places_fit e.format p c.in_ok-places.places.end c.in_ok-check_length.ensures.ok c.in_ok-places.ensures.bounded in
-    OnOk-four c.write_compile_unit.result
-    (λ unit fits ranged sound. record {
-      kept = kept;
+    record {
       stands = record {
         starts = refl;
         placed = placed;
         draft = unit.is;
         encodable = c.requires.encodable;
-        fits = fits;
-        ranged = ranged;
+        fits = c.in_ok-write_compile_unit.ensures.fits;
+        ranged = c.in_ok-write_compile_unit.ensures.ranged;
         declared = table_declared e es ms shapes tree c.in_ok-assigned.ensures.table c.in_ok-write.ensures.spelled;
         few = tree_few es ms (length items) tree (sym (length-map items mark_of)) c.as_slice-items.type_inv.0;
         tree = tree_is_one es c.requires.rooted;
@@ -144,5 +160,4 @@ returns-clause-unit g c =
       unit = unit;
       table = table_added e es ms shapes tree c.in_ok-assigned.ensures.table c.in_ok-write.ensures.ok;
       there = λ plain. unit_there e es table p fit c.requires.encodable (subst (λ b. (err : Error) → IsFalse (unit_fails e es table (targets_of p) b err)) plain sound);
-    })
-    ok c.write_compile_unit.ensures.fits c.write_compile_unit.ensures.ranged passed
+    }

@@ -1,8 +1,8 @@
 use Rattle.std.proofs.Common.{◌∙◌, sym, ap, subst, ◌+◌, length, arith}
 use Rattle.dw_script.specs.Pieces.{lines_left}
-use Rattle.dwarf_build.specs.Script.{script, after_lines, empty_script, HasFewUnits}
+use Rattle.dwarf_build.specs.Script.{script, after_lines, empty_script, AreOpen}
 use Rattle.dwarf_build.proofs.Lines.{after_lines-ok}
-use Rattle.dwarf_build.proofs.ScriptUnits.{empty_few, line_few}
+use Rattle.dwarf_build.proofs.ScriptUnits.{none_open, line_open}
 use Rattle.dwarf_build.proofs.script.read_script.Goals as goal
 
 pub loop-line-init : goal.loop-line-init
@@ -12,7 +12,7 @@ loop-line-init c =
     record {
       can_next = tt;
       finite = tt;
-      few = subst (λ s. HasFewUnits s.dwarf.units) (sym c.new-script.ensures) empty_few;
+      open_units = subst (λ s. AreOpen s.dwarf.units) (sym c.new-script.ensures) none_open;
       left = ap (λ s. after_lines 1 s (lines_left c.into_iter-line-iterator.result)) c.new-script.ensures
           ∙ ap (after_lines 1 empty_script) (same ∙ c.lines-line-items.ensures.lines);
       room = omega (arith, c.lines-line-items.ensures.few, ap length same);
@@ -24,7 +24,7 @@ loop-line-preserved c =
     record {
       can_next = tt;
       finite = tt;
-      few = line_few c.loop-line.script c.read_line.new.self c.in-Some.line.now c.in_ok-read_line.ensures.ok c.loop-line.invariant.few;
+      open_units = line_open c.loop-line.script c.read_line.new.self c.in-Some.line.now c.in_ok-read_line.ensures.ok c.loop-line.invariant.open_units;
       left = sym (after_lines-ok (c.loop-line.number + 1) c.loop-line.script c.read_line.new.self c.in-Some.line.now (lines_left c.next.new.self) c.in_ok-read_line.ensures.ok)
           ∙ sym (ap (after_lines (c.loop-line.number + 1) c.loop-line.script) step) ∙ c.loop-line.invariant.left;
       room = omega (arith, c.loop-line.invariant.room, ap length step);
@@ -38,4 +38,4 @@ returns-clause-ok c =
     sym c.loop-line.invariant.left ∙ ap (after_lines (c.loop-line.number + 1) c.loop-line.script) c.in-None.ensures.steps.0
 
 pub read_line-requires : goal.read_line-requires
-read_line-requires c = c.loop-line.invariant.few
+read_line-requires c = c.loop-line.invariant.open_units

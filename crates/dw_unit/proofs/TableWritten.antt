@@ -1,0 +1,244 @@
+-- What writing the units of a table comes to.
+use Rattle.std.specs.Prelude.{◌≡◌, ◌⊎◌, ℕ, ◌+◌, ◌≤◌, ◌<◌, Bool, true, false, List, [], ◌∷◌, ◌++◌, length, Some, None, refl, slice_set, slice_index_or, IsFalse, IsTrue}
+use Rattle.std.proofs.Common.{sym, ◌∙◌, ap, subst, arith, append-nil, append_assoc, length-append, inl, inr}
+use Rattle.dw_base.specs.declared.error.Error.{Error}
+use Rattle.dw_base.specs.declared.error.Error.TheVariants as errors
+use Rattle.dw_base.specs.declared.section_id.SectionId.{SectionId}
+use Rattle.dw_base.specs.declared.section_id.SectionId.TheVariants.{DebugAbbrev, DebugInfo}
+use Rattle.dw_writer.specs.Causes.{HasRisen}
+use Rattle.dw_writer.specs.Meaning.{Meaning}
+use Rattle.dw_writer.specs.Sections.{SomeHasRisen, section_of, fault_sum}
+use Rattle.dw_writer.proofs.FaultLaws.{HasRisen-from, SomeHasRisen-info}
+use Rattle.dw_writer.specs.Meaning.{Adds}
+use Rattle.dw_writer.specs.declared.sections.Sections.{Sections}
+use Rattle.dw_unit.specs.Built.{Numbered, table_size}
+use Rattle.dw_unit.specs.Causes.{Because, Refused, Is, UnitRefused, UnitFails, UnitsFail, ReferencesFail, UnitsRefused, RefusesAny}
+use Rattle.dw_unit.specs.Filled.{Fills, AreFillable}
+use Rattle.dw_unit.specs.Pending.{Kept, units_draft, tables_of, info_at, KeepPlaces, PendsUnit, Pending}
+use Rattle.dw_unit.specs.UnitFaults.{holes_fail}
+use Rattle.dw_unit.specs.UnitValue.{UnitValue}
+use Rattle.dw_unit.specs.Valid.{IsWritableAt, AreWritable}
+use Rattle.dw_unit.specs.Whole.{settled, marked_written, AreWritten, AreStopped, IsRefused, tree_table}
+use Rattle.dw_unit.specs.Written.{to_write, past_table, PendsUnits, CompletesPending, CompletesAny, WritesIfNew, KeepsOtherSections, AppendsUnits}
+use Rattle.dw_unit.proofs.Faults.{because-map}
+use Rattle.dw_unit.proofs.PendingSteps.{pending_none, pending_one, pending_then, pending_between, pending_widths, pending_lead, row_length, units_added}
+use Rattle.dw_unit.proofs.TableSteps.{IsAt, next_is, none_gone, one_gone, all_gone, written_more, stopped_at, stopped_after, written_old, written_new, past_tables, past_more, past_old, past_new, writable_more, fails_at, to_write-old, to_write-new, keeps_more, offsets_new, offsets_marked}
+
+-- what stays in two calls
+pub front_others : {W : Type 0} (old now new : Sections W) → KeepsOtherSections old now → KeepsOtherSections now new → KeepsOtherSections old new
+front_others {W} old now new h k =
+    k ∙ ap (λ (s : Sections W). let t : Sections W = record s { debug_abbrev = new.debug_abbrev; debug_info = new.debug_info; debug_info_fixups = new.debug_info_fixups } in t) h
+
+-- a fault since some units were written is one since before them
+rises_from : {W : Type 0} (meaning : W → Meaning) (old now new : Sections W) → KeepsOtherSections old now → (meaning old.debug_abbrev.0).faults ≤ (meaning now.debug_abbrev.0).faults → (meaning old.debug_info.0).faults ≤ (meaning now.debug_info.0).faults →
+    SomeHasRisen meaning now new → SomeHasRisen meaning old new
+rises_from {W} meaning old now new others abbrevs info h = by_id h.id h.before h.after h.was h.is h.risen
+  where
+    by_id : (id : SectionId) (before after : W) → section_of now id ≡ Some before → section_of new id ≡ Some after → HasRisen (meaning before) (meaning after) → SomeHasRisen meaning old new
+    by_id DebugAbbrev b a was is r =
+        let same : now.debug_abbrev.0 ≡ b = cc in
+        record { id = DebugAbbrev; before = old.debug_abbrev.0; after = a; was = refl; is = is; risen = HasRisen-from (meaning old.debug_abbrev.0) (meaning now.debug_abbrev.0) (meaning a) abbrevs (subst (λ w. HasRisen (meaning w) (meaning a)) (sym same) r) }
+    by_id DebugInfo b a was is r =
+        let same : now.debug_info.0 ≡ b = cc in
+        record { id = DebugInfo; before = old.debug_info.0; after = a; was = refl; is = is; risen = HasRisen-from (meaning old.debug_info.0) (meaning now.debug_info.0) (meaning a) info (subst (λ w. HasRisen (meaning w) (meaning a)) (sym same) r) }
+    by_id id b a was is r = record { id = id; before = b; after = a; was = sym (ap (λ (s : Sections W). section_of s id) others) ∙ was; is = is; risen = r }
+
+-- The first units of a table were gone through, and those that were new are pending.
+pub record WritesFront {W : Type 0} (meaning : W → Meaning) (old now : Sections W) (us vs : List UnitValue) (i : ℕ) : Type 0 where
+  pub before : List UnitValue
+  pub after : List UnitValue
+  pub rest : List UnitValue
+  pub at : IsAt us vs i before after rest
+  pub written : AreWritten before after
+  pub writable : AreWritable (meaning old.debug_info.0).is_plain (meaning old.debug_abbrev.0).size before
+  pub kept : List Kept
+  pub pending : Pending meaning old now (to_write before) kept
+  pub keeps : (ws : List Numbered) (ks : List Kept) → length ws ≡ length ks → KeepPlaces us ws ks → KeepPlaces vs (ws ++ to_write before) (ks ++ kept)
+  pub place : (meaning now.debug_abbrev.0).size ≡ past_tables (meaning old.debug_abbrev.0).size before
+  pub others : KeepsOtherSections old now
+  pub faults : fault_sum meaning old ≤ fault_sum meaning now
+
+module _ {W : Type 0} (meaning : W → Meaning) where
+  pub front_none : (s : Sections W) (us : List UnitValue) → WritesFront meaning s s us us 0
+  front_none s us = record {
+    before = [];
+    after = [];
+    rest = us;
+    at = none_gone us;
+    written = tt;
+    writable = tt;
+    kept = [];
+    pending = pending_none meaning s;
+    keeps = λ ws ks same h. subst (λ xs. KeepPlaces us xs (ks ++ [])) (sym (append-nil ws)) (subst (KeepPlaces us ws) (sym (append-nil ks)) h);
+    place = refl;
+    others = refl;
+    faults = omega arith;
+  }
+
+  module _ (old now new : Sections W) (us vs : List UnitValue) (i : ℕ) (u v : UnitValue) (f : WritesFront meaning old now us vs i) (is : u ≡ slice_index_or vs i u) (below : i < length vs)
+      (others : KeepsOtherSections now new) (faults : fault_sum meaning now ≤ fault_sum meaning new) where
+    rest_is : (more : List UnitValue) × (f.rest ≡ u ∷ more)
+    rest_is =
+        let next = next_is f.after f.rest i u f.at.count_after (omega (arith, below, ap length f.at.new_is)) in
+        (next.0, next.1 ∙ ap (λ x. x ∷ next.0) (sym (is ∙ ap (λ ys. slice_index_or ys i u) f.at.new_is)))
+
+    here : IsAt us vs i f.before f.after (u ∷ rest_is.0)
+    here = subst (IsAt us vs i f.before f.after) rest_is.1 f.at
+
+    others_then : KeepsOtherSections old new
+    others_then = front_others old now new f.others others
+
+    faults_then : fault_sum meaning old ≤ fault_sum meaning new
+    faults_then = omega (arith, f.faults, faults)
+
+    writable_then : (u.is_written ≡ true) ⊎ IsWritableAt (meaning now.debug_info.0).is_plain (meaning now.debug_abbrev.0).size u → AreWritable (meaning old.debug_info.0).is_plain (meaning old.debug_abbrev.0).size (f.before ++ u ∷ [])
+    writable_then h =
+        let plain : (meaning now.debug_info.0).is_plain ≡ (meaning old.debug_info.0).is_plain = f.pending.units.text.same.kind in
+        writable_more (meaning old.debug_info.0).is_plain (meaning old.debug_abbrev.0).size f.before u f.writable
+        (subst (λ n. (u.is_written ≡ true) ⊎ IsWritableAt (meaning old.debug_info.0).is_plain n u) f.place
+        (subst (λ b. (u.is_written ≡ true) ⊎ IsWritableAt b (meaning now.debug_abbrev.0).size u) plain h))
+
+    -- a unit that was written before is passed over
+    front_old : (u.is_written ≡ true) → v ≡ u → new ≡ now → WritesFront meaning old new us (slice_set vs i v) (i + 1)
+    front_old old_mark same kept =
+        let gone = one_gone us vs i f.before f.after u v rest_is.0 here in
+        let none : to_write (f.before ++ u ∷ []) ≡ to_write f.before = to_write-old 0 f.before u old_mark in
+        let table : slice_set vs i v ≡ vs = gone.new_is ∙ append_assoc f.after (v ∷ []) rest_is.0 ∙ ap (λ x. f.after ++ x ∷ rest_is.0) same ∙ sym here.new_is in
+        record {
+          before = f.before ++ u ∷ [];
+          after = f.after ++ v ∷ [];
+          rest = rest_is.0;
+          at = gone;
+          written = written_more f.before f.after u v f.written (written_old u v old_mark same);
+          writable = writable_then (inl old_mark);
+          kept = f.kept;
+          pending = subst (λ s. Pending meaning old s (to_write (f.before ++ u ∷ [])) f.kept) (sym kept) (subst (λ xs. Pending meaning old now xs f.kept) (sym none) f.pending);
+          keeps = λ ws ks equal h.
+              subst (λ t. KeepPlaces t (ws ++ to_write (f.before ++ u ∷ [])) (ks ++ f.kept)) (sym table)
+              (subst (λ xs. KeepPlaces vs (ws ++ xs) (ks ++ f.kept)) (sym none) (f.keeps ws ks equal h));
+          place = ap (λ (s : Sections W). (meaning s.debug_abbrev.0).size) kept ∙ f.place ∙ sym (past_more (meaning old.debug_abbrev.0).size f.before u ∙ past_old (past_tables (meaning old.debug_abbrev.0).size f.before) u old_mark);
+          others = others_then;
+          faults = faults_then;
+        }
+
+    -- a new one is pending behind the others
+    front_new : u.is_written ≡ false → v ≡ marked_written v.offsets (settled u) → PendsUnit meaning now new (settled u) v.offsets → IsWritableAt (meaning now.debug_info.0).is_plain (meaning now.debug_abbrev.0).size u →
+        WritesFront meaning old new us (slice_set vs i v) (i + 1)
+    front_new new_mark marked p can =
+        let gone = one_gone us vs i f.before f.after u v rest_is.0 here in
+        let w : Numbered = record { id = i; unit = settled u } in
+        let one : to_write (f.before ++ u ∷ []) ≡ to_write f.before ++ w ∷ [] = to_write-new 0 i f.before u (omega (arith, f.at.count_before)) new_mark in
+        let table : slice_set vs i v ≡ f.after ++ v ∷ rest_is.0 = gone.new_is ∙ append_assoc f.after (v ∷ []) rest_is.0 in
+        let pending : Pending meaning old new (to_write f.before ++ w ∷ []) (f.kept ++ p.kept ∷ []) = pending_then meaning old now new (to_write f.before) (w ∷ []) f.kept (p.kept ∷ []) f.pending (pending_one meaning i (settled u) now new p.kept p.tree) in
+        let rows : length (to_write f.before) ≡ length f.kept = row_length _ (to_write f.before) f.kept f.pending.in_row in
+        record {
+          before = f.before ++ u ∷ [];
+          after = f.after ++ v ∷ [];
+          rest = rest_is.0;
+          at = gone;
+          written = written_more f.before f.after u v f.written (written_new u v new_mark marked);
+          writable = writable_then (inr can);
+          kept = f.kept ++ p.kept ∷ [];
+          pending = subst (λ xs. Pending meaning old new xs (f.kept ++ p.kept ∷ [])) (sym one) pending;
+          keeps = λ ws ks equal h.
+              let kept = subst (λ t. KeepPlaces t (ws ++ to_write f.before) (ks ++ f.kept)) here.new_is (f.keeps ws ks equal h) in
+              let long : length (ws ++ to_write f.before) ≡ length (ks ++ f.kept) = omega (arith, length-append ws (to_write f.before), length-append ks f.kept, equal, rows) in
+              let more = keeps_more f.after u v rest_is.0 i (settled u) (ws ++ to_write f.before) (ks ++ f.kept) p.kept (sym f.at.count_after) (offsets_new u new_mark) (offsets_marked (settled u) v (Some _) marked p.offsets_are) long kept in
+              let units : (ws ++ to_write f.before) ++ w ∷ [] ≡ ws ++ to_write (f.before ++ u ∷ []) = append_assoc ws (to_write f.before) (w ∷ []) ∙ ap (λ xs. ws ++ xs) (sym one) in
+              let places : (ks ++ f.kept) ++ p.kept ∷ [] ≡ ks ++ (f.kept ++ p.kept ∷ []) = append_assoc ks f.kept (p.kept ∷ []) in
+              subst (λ t. KeepPlaces t (ws ++ to_write (f.before ++ u ∷ [])) (ks ++ (f.kept ++ p.kept ∷ []))) (sym table)
+              (subst (KeepPlaces (f.after ++ v ∷ rest_is.0) (ws ++ to_write (f.before ++ u ∷ []))) places (subst (λ xs. KeepPlaces (f.after ++ v ∷ rest_is.0) xs ((ks ++ f.kept) ++ p.kept ∷ [])) units more));
+          place = p.tree.table.size ∙ ap (λ n. n + table_size (settled u)) f.place ∙ sym (past_more (meaning old.debug_abbrev.0).size f.before u ∙ past_new (past_tables (meaning old.debug_abbrev.0).size f.before) u new_mark);
+          others = others_then;
+          faults = faults_then;
+        }
+
+    pub front_more : WritesIfNew meaning now new u v → (u.is_written ≡ true) ⊎ IsWritableAt (meaning now.debug_info.0).is_plain (meaning now.debug_abbrev.0).size u → WritesFront meaning old new us (slice_set vs i v) (i + 1)
+    front_more (inl h) can = front_old h.0 h.1 h.2
+    front_more (inr h) (inl k) = absurd (let x : true ≡ false = sym k ∙ h.0 in cc)
+    front_more (inr h) (inr can) = front_new h.0 h.1 h.2 can
+
+    -- a unit that is refused
+    pub front_stopped : IsRefused u v → AreStopped us (slice_set vs i v)
+    front_stopped h =
+        let gone = one_gone us vs i f.before f.after u v rest_is.0 here in
+        subst (AreStopped us) (sym (gone.new_is ∙ append_assoc f.after (v ∷ []) rest_is.0))
+        (subst (λ xs. AreStopped xs (f.after ++ v ∷ rest_is.0)) (sym here.old_is) (stopped_at f.before f.after u v rest_is.0 f.written h))
+
+    pub front_refused : u.is_written ≡ false → (err : Error) → UnitRefused meaning now new u err →
+        Because (SomeHasRisen meaning old new) (UnitsFail (meaning old.debug_info.0).is_plain (meaning old.debug_abbrev.0).size us) err
+    front_refused new_mark err h =
+        let plain = (meaning old.debug_info.0).is_plain in
+        let table = (meaning old.debug_abbrev.0).size in
+        because-map {p = UnitFails u (meaning now.debug_abbrev.0).size (meaning now.debug_info.0).is_plain} {q = UnitsFail plain table us} (rises_from meaning old now new f.others f.pending.tables.same.faults f.pending.units.text.same.faults)
+        (λ e k.
+        let there = subst (λ n. UnitFails u n plain e) f.place (subst (λ b. UnitFails u (meaning now.debug_abbrev.0).size b e) f.pending.units.text.same.kind k) in
+        subst (λ xs. UnitsFail plain table xs e) (sym here.old_is) (fails_at plain table f.before u rest_is.0 e new_mark there))
+        err h
+
+-- where all were gone through
+pub front_all : {W : Type 0} (meaning : W → Meaning) (old now : Sections W) (us vs : List UnitValue) (i : ℕ) → WritesFront meaning old now us vs i → length vs ≤ i →
+    PendsUnits meaning old now us vs × AreWritten us vs × AreWritable (meaning old.debug_info.0).is_plain (meaning old.debug_abbrev.0).size us
+front_all meaning old now us vs i f le =
+    let all = all_gone us vs i f.before f.after f.rest f.at le in
+    let pends : PendsUnits meaning old now f.before vs = record { kept = f.kept; pending = f.pending; keeps = λ ws ks equal h. f.keeps ws ks equal (subst (λ xs. KeepPlaces xs ws ks) all.0 h) } in (
+      subst (λ xs. PendsUnits meaning old now xs vs) all.0 pends,
+      subst (λ xs. AreWritten xs vs) all.0 (subst (AreWritten f.before) all.1 f.written),
+      subst (AreWritable (meaning old.debug_info.0).is_plain (meaning old.debug_abbrev.0).size) all.0 f.writable,
+    )
+
+-- Units behind those that are pending
+
+module _ {W : Type 0} (meaning : W → Meaning) (before old now : Sections W) (us vs : List UnitValue) (ws : List Numbered) (ks : List Kept) (none : before.debug_info_fixups ≡ []) (first : Pending meaning before old ws ks) (p : PendsUnits meaning old now us vs) where
+  pub all_pending : Pending meaning before now (ws ++ to_write us) (ks ++ p.kept)
+  all_pending = pending_then meaning before old now ws (to_write us) ks p.kept first p.pending
+
+  equal : length ws ≡ length ks
+  equal = row_length _ ws ks first.in_row
+
+  -- their references are filled in
+  pub all_completed : (new : Sections W) → Fills (meaning now.debug_info.0) (meaning new.debug_info.0) (info_at vs) now.debug_info_fixups → meaning new.debug_abbrev.0 ≡ meaning now.debug_abbrev.0 →
+      ((err : Error) → IsFalse (holes_fail (info_at vs) (meaning now.debug_info.0).is_plain now.debug_info_fixups err)) → CompletesPending meaning before new us vs ws ks
+  all_completed new f tables sound =
+      let plain : (meaning now.debug_info.0).is_plain ≡ (meaning before.debug_info.0).is_plain = all_pending.units.text.same.kind in
+      let lead = λ (err : Error). sym (pending_lead meaning (info_at vs) (meaning before.debug_info.0).is_plain before now (ws ++ to_write us) (ks ++ p.kept) none all_pending err)
+          ∙ ap (λ b. holes_fail (info_at vs) b now.debug_info_fixups err) (sym plain) ∙ sound err in
+      record {
+        kept = p.kept;
+        appends = record {
+          units = units_added meaning (info_at vs) before now (meaning new.debug_info.0) (ws ++ to_write us) (ks ++ p.kept) none all_pending f lead;
+          tables = subst (λ m. Adds (meaning before.debug_abbrev.0) m (tables_of (ws ++ to_write us))) (sym tables) all_pending.tables;
+        };
+        keeps = p.keeps ws ks equal;
+        lead = lead;
+      }
+
+  -- or one of them is refused
+  pub all_refused : (new : Sections W) → KeepsOtherSections old now → (err : Error) →
+      (AreFillable (meaning now.debug_info.0) now.debug_info_fixups → Refused (meaning now.debug_info.0) (meaning new.debug_info.0) (Is (holes_fail (info_at vs) (meaning now.debug_info.0).is_plain now.debug_info_fixups)) err) →
+      UnitsRefused meaning before old new us vs ws ks err
+  all_refused new others err h =
+      let units = ws ++ to_write us in
+      let kept = ks ++ p.kept in
+      let plain : (meaning now.debug_info.0).is_plain ≡ (meaning before.debug_info.0).is_plain = all_pending.units.text.same.kind in
+      let can : AreFillable (meaning now.debug_info.0) now.debug_info_fixups = record {
+        between = pending_between meaning before now units kept none all_pending;
+        widths = pending_widths meaning before now units kept none all_pending;
+      } in
+      because-map {p = Is (holes_fail (info_at vs) (meaning now.debug_info.0).is_plain now.debug_info_fixups)}
+      {q = λ e. UnitsFail (meaning old.debug_info.0).is_plain (meaning old.debug_abbrev.0).size us e ⊎ ReferencesFail meaning before us vs ws ks e}
+      (λ r. rises_from meaning old now new others p.pending.tables.same.faults p.pending.units.text.same.faults (SomeHasRisen-info meaning now new r))
+      (λ e k. inr (record {
+        kept = p.kept;
+        in_row = all_pending.in_row;
+        keeps = p.keeps ws ks equal;
+        fails = sym (pending_lead meaning (info_at vs) (meaning before.debug_info.0).is_plain before now units kept none all_pending e)
+            ∙ ap (λ b. holes_fail (info_at vs) b now.debug_info_fixups e) (sym plain) ∙ k;
+      }))
+      err (h can)
+
+-- a unit of the table is refused
+pub units_refused : {W : Type 0} (meaning : W → Meaning) (old new : Sections W) (us vs : List UnitValue) (err : Error) → Because (SomeHasRisen meaning old new) (UnitsFail (meaning old.debug_info.0).is_plain (meaning old.debug_abbrev.0).size us) err → RefusesAny meaning old new us vs err
+units_refused meaning old new us vs err h before ws ks none first =
+    because-map {p = UnitsFail (meaning old.debug_info.0).is_plain (meaning old.debug_abbrev.0).size us}
+    {q = λ e. UnitsFail (meaning old.debug_info.0).is_plain (meaning old.debug_abbrev.0).size us e ⊎ ReferencesFail meaning before us vs ws ks e} (λ r. r) (λ e k. inl k) err h
