@@ -7,6 +7,8 @@ mod dwarf;
 mod relocation_tests;
 #[cfg(test)]
 mod tests;
+#[cfg(test)]
+mod unit_table_tests;
 
 pub use dw_base::{
     BigEndian, DwAt, DwAte, DwForm, DwLang, DwTag, Encoding, Endianity, Error, Format,

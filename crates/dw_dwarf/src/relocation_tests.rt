@@ -1,9 +1,10 @@
-//! A unit, written with relocations.
+//! Units, written with relocations.
 
 use crate::Dwarf;
-use dw_base::constants::{DW_AT_low_pc, DW_AT_macros};
+use dw_base::constants::{DW_AT_low_pc, DW_AT_macros, DW_AT_type};
 use dw_base::{
-    Address, DebugMacroOffset, Encoding, Error, Format, LittleEndian, Result, SectionId, UnitId,
+    Address, DebugInfoRef, DebugMacroOffset, Encoding, Error, Format, LittleEndian, Result,
+    SectionId, UnitEntryId, UnitId,
 };
 use dw_unit::{AttributeValue, LineProgram, Unit};
 use dw_writer::{EndianVec, RelocVec, Relocation, RelocationTarget, Sections};
@@ -80,6 +81,70 @@ fn records_what_a_linker_puts_in(rt: HostRuntime) -> std::result::Result<(), Fai
     assert_eq!(rt; sections.debug_abbrev.0.slice(), ABBREVS.as_slice());
     assert_eq!(rt; sections.debug_info.0.relocations(), RELOCATIONS.as_slice());
     assert!(rt; sections.debug_abbrev.0.relocations().is_empty());
+    Ok(())
+}
+
+/// Two units, the first of which names the root of the second in its last four bytes.
+const TWO_INFOS: [u8; 30] = [
+    13, 0, 0, 0, 5, 0, 1, 8, 0, 0, 0, 0, 1, 0, 0, 0, 0, 9, 0, 0, 0, 5, 0, 1, 8, 0, 0, 0, 0, 1,
+];
+
+/// Their tables, the second of which stands at 8, and the root of the second unit, at 12 behind the
+/// 17 bytes of the first. The reference comes last, as it is filled in once both units stand.
+const TWO_RELOCATIONS: [Relocation; 3] = [
+    Relocation {
+        offset: 8,
+        size: 4,
+        target: RelocationTarget::Section(SectionId::DebugAbbrev),
+        addend: 0,
+        eh_pe: None,
+    },
+    Relocation {
+        offset: 25,
+        size: 4,
+        target: RelocationTarget::Section(SectionId::DebugAbbrev),
+        addend: 8,
+        eh_pe: None,
+    },
+    Relocation {
+        offset: 13,
+        size: 4,
+        target: RelocationTarget::Section(SectionId::DebugInfo),
+        addend: 29,
+        eh_pe: None,
+    },
+];
+
+/// A unit of version 5 that has its root alone.
+fn root_alone(alloc: Global) -> Result<Unit> {
+    let encoding = Encoding {
+        address_size: 8,
+        format: Format::Dwarf32,
+        version: 5,
+    };
+    Unit::new(alloc, encoding, LineProgram::none())
+}
+
+#[test]
+fn records_a_reference_across_units_once(rt: HostRuntime) -> std::result::Result<(), Fail> {
+    let mut first = root_alone(rt.alloc())?;
+    let second_root = DebugInfoRef::Entry(UnitId::new(1), UnitEntryId::new(0));
+    assert_eq!(rt; first.count(), 1);
+    first
+        .get_mut(UnitEntryId::new(0))
+        .set(DW_AT_type, AttributeValue::DebugInfoRef(second_root))?;
+    let mut dwarf = Dwarf::new(rt.alloc());
+    dwarf.units.add(first)?;
+    dwarf.units.add(root_alone(rt.alloc())?)?;
+    let writer = RelocVec::new(rt.alloc(), LittleEndian);
+    let mut sections = Sections::new(rt.alloc(), writer)?;
+    dwarf.write(&mut sections)?;
+    assert_eq!(rt; sections.debug_info.0.slice(), TWO_INFOS.as_slice());
+    assert_eq!(rt;
+        sections.debug_info.0.relocations(),
+        TWO_RELOCATIONS.as_slice()
+    );
+    assert!(rt; sections.debug_info_fixups.is_empty());
     Ok(())
 }
 

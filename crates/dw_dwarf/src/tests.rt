@@ -118,13 +118,16 @@ fn answers_each_fault(rt: HostRuntime) -> std::result::Result<(), Fail> {
 fn leaves_no_fixup(rt: HostRuntime) -> std::result::Result<(), Fail> {
     let mut dwarf = dwarf_of(rt.alloc(), encoding(5))?;
     let mut sections = new_sections(rt.alloc())?;
-    sections.debug_loc_fixups.push(DebugInfoFixup {
+    let fixup = DebugInfoFixup {
         offset: 0,
         size: 4,
         unit: UnitId::new(0),
         entry: UnitEntryId::new(0),
-    })?;
+    };
+    sections.debug_loc_fixups.push(fixup)?;
+    sections.debug_loclists_fixups.push(fixup)?;
     assert_eq!(rt; sections.debug_loc_fixups.len(), 1);
+    assert_eq!(rt; sections.debug_loclists_fixups.len(), 1);
     assert_eq!(rt; dwarf.units.count(), 1);
     dwarf.write(&mut sections)?;
     assert!(rt; sections.debug_info_fixups.is_empty());

@@ -96,7 +96,7 @@ info-draft e u unit entry k kind width =
     let wide = info_width e width in
     let c : Content = InfoPlace (refs.Entry unit entry) in
     subst IsDraft (draft_is w w _ _ _ _ refl
-        (λ info big l. sym (ap (λ x. content_operand e (targets_in u l info) c >>= λ o. Some (operand_bytes big x o)) kind ∙ number_text big w (info unit.0 entry.0) wide)) refl)
+    (λ info big l. sym (ap (λ x. content_operand e (targets_in u l info) c >>= λ o. Some (operand_bytes big x o)) kind ∙ number_text big w (info unit.0 entry.0) wide)) refl)
     (reference-draft w unit entry wide)
 
 content-draft : (e : Encoding) (u : UnitTargets) (c : Content) (k : Option Kind) → k ≡ Some (content_kind e c) → IsTrue (is_width e.address_size) → IsDraft (content_draft e u k c)

@@ -126,7 +126,7 @@ fn reads_lines(rt: HostRuntime) {
 
 #[test]
 fn reads_entries(rt: HostRuntime) {
-    let rows: [(&[u8], Result<Request, Reason>); 39] = [
+    let rows: [(&[u8], Result<Request, Reason>); 40] = [
         (b"add 0 0 0x34", add(0, 0, 0x34)),
         (b"add 0 0 DW_TAG_variable", add(0, 0, 0x34)),
         (b"add 1 2 DW_TAG_array_type", add(1, 2, 0x01)),
@@ -171,7 +171,8 @@ fn reads_entries(rt: HostRuntime) {
         (b"set 0 0 3 string 61 62", Err(Reason::WrongFields)),
         (b"set 0 0 3 block 6", Err(Reason::BadHex)),
         (b"set 0 0 3 range_ref 1", Err(Reason::NotBuilt)),
-        (b"set 0 0 3 info_ref 0 1", Err(Reason::NotBuilt)),
+        (b"set 0 0 3 info_ref 0:1", set(0, 0, 0x03)),
+        (b"set 0 0 3 info_ref 0 1", Err(Reason::BadNumber)),
         (b"set 0 0 3 file_index", Err(Reason::NotBuilt)),
         (b"set 0 0 3 frob", Err(Reason::UnknownWord)),
         (b"set 0 0 3", Err(Reason::WrongFields)),
@@ -304,8 +305,8 @@ fn refuses_words_that_are_not_built(rt: HostRuntime) -> Result<(), Fail> {
 }
 
 /// The kinds of values that aren't built.
-const UNBUILT_KINDS: &str = "exprloc info_ref line_program_ref loc_ref range_ref str_ref
-line_str_ref file_index";
+const UNBUILT_KINDS: &str = "exprloc line_program_ref loc_ref range_ref str_ref line_str_ref
+file_index";
 
 /// The fields after a kind that isn't built aren't looked at.
 #[test]
@@ -447,6 +448,60 @@ fn reads_addresses(rt: HostRuntime) -> Result<(), Fail> {
         ("address Sym:1:2", "bad number"),
         ("address sym:1 2", "bad number"),
         ("address sym:1:2 3", "wrong fields"),
+    ];
+    for (line, want) in rows {
+        assert_eq!(rt; shown(rt.alloc(), line)?.as_str(), want, "at {line}");
+    }
+    Ok(())
+}
+
+/// An entry of any unit, by the numbers of both, or a symbol.
+#[test]
+fn reads_references(rt: HostRuntime) -> Result<(), Fail> {
+    let rows = [
+        (
+            "info_ref 1:0",
+            "DebugInfoRef(Entry(UnitId(1), UnitEntryId(0)))",
+        ),
+        (
+            "info_ref 0x10:007",
+            "DebugInfoRef(Entry(UnitId(16), UnitEntryId(7)))",
+        ),
+        (
+            "info_ref 0:18446744073709551615",
+            "DebugInfoRef(Entry(UnitId(0), UnitEntryId(18446744073709551615)))",
+        ),
+        ("info_ref sym:0", "DebugInfoRef(Symbol(0))"),
+        ("info_ref sym:0x1F", "DebugInfoRef(Symbol(31))"),
+        ("info_ref 18446744073709551616:0", "bad number"),
+        ("info_ref 0:18446744073709551616", "bad number"),
+        ("info_ref sym:18446744073709551616", "bad number"),
+        ("info_ref 0:-1", "bad number"),
+        ("info_ref -1:0", "bad number"),
+    ];
+    for (line, want) in rows {
+        assert_eq!(rt; shown(rt.alloc(), line)?.as_str(), want, "at {line}");
+    }
+    Ok(())
+}
+
+#[test]
+fn refuses_fields_that_are_no_reference(rt: HostRuntime) -> Result<(), Fail> {
+    let rows = [
+        ("info_ref 0", "bad number"),
+        ("info_ref 0:", "bad number"),
+        ("info_ref :0", "bad number"),
+        ("info_ref :", "bad number"),
+        ("info_ref 0::0", "bad number"),
+        ("info_ref 0:0:", "bad number"),
+        ("info_ref 0:0:0", "bad number"),
+        ("info_ref sym", "bad number"),
+        ("info_ref sym:", "bad number"),
+        ("info_ref sym:0:0", "bad number"),
+        ("info_ref Sym:0", "bad number"),
+        ("info_ref 0 0", "bad number"),
+        ("info_ref", "wrong fields"),
+        ("info_ref 0:0 0", "wrong fields"),
     ];
     for (line, want) in rows {
         assert_eq!(rt; shown(rt.alloc(), line)?.as_str(), want, "at {line}");

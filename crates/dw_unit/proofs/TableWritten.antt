@@ -202,7 +202,7 @@ module _ {W : Type 0} (meaning : W → Meaning) (before old now : Sections W) (u
   all_completed new f tables sound =
       let plain : (meaning now.debug_info.0).is_plain ≡ (meaning before.debug_info.0).is_plain = all_pending.units.text.same.kind in
       let lead = λ (err : Error). sym (pending_lead meaning (info_at vs) (meaning before.debug_info.0).is_plain before now (ws ++ to_write us) (ks ++ p.kept) none all_pending err)
-          ∙ ap (λ b. holes_fail (info_at vs) b now.debug_info_fixups err) (sym plain) ∙ sound err in
+      ∙ ap (λ b. holes_fail (info_at vs) b now.debug_info_fixups err) (sym plain) ∙ sound err in
       record {
         kept = p.kept;
         appends = record {

@@ -10,6 +10,8 @@ mod layout;
 mod line_program;
 mod offsets;
 mod places;
+#[cfg(test)]
+mod reference_tests;
 mod references;
 mod shape;
 #[cfg(test)]

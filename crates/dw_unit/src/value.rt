@@ -15,9 +15,7 @@ ghost use Rattle.dw_unit.specs.Causes.{Refused, Is};
 ghost use Rattle.dw_unit.specs.Places.{placement_of, targets_at, FitsWords};
 
 use crate::places::Places;
-use dw_base::{
-    Address, DebugInfoRef, Encoding, Error, Format, Result, SectionId, UnitEntryId,
-};
+use dw_base::{Address, DebugInfoRef, Encoding, Error, Format, Result, SectionId, UnitEntryId};
 use dw_entries::{AttributeValue, Content, info_place_size};
 use dw_writer::{DebugInfoFixup, FixupList, Writer};
 

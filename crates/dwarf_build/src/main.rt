@@ -14,6 +14,8 @@ mod tests;
 #[cfg(test)]
 mod tree_tests;
 #[cfg(test)]
+mod units_tests;
+#[cfg(test)]
 mod value_tests;
 
 ghost use Rattle.std.specs.Prelude.{◌≡◌, ◌⊎◌, IfErr};

@@ -316,7 +316,10 @@ fn refuses_lines(rt: HostRuntime) -> Result<(), Fail> {
         (b"unit 5 8 32 0", "line 1: wrong fields\n"),
         (b"unit 5 8 32\norder big", "line 2: order not first\n"),
         (b"order big\norder big", "line 2: order not first\n"),
-        (b"unit 5 8 32\nunit 5 8 32", "line 2: not built\n"),
+        (
+            b"unit 5 8 32\nunit 5 8 32\nadd 2 0 1",
+            "line 3: no such unit\n",
+        ),
         (b"unit 5 8 32\nunit 5 8 16", "line 2: bad number\n"),
         (b"unit 5 8 32\nunit 5 8 32 9", "line 2: wrong fields\n"),
         (b"add 0 0 1", "line 1: no such unit\n"),
@@ -327,7 +330,7 @@ fn refuses_lines(rt: HostRuntime) -> Result<(), Fail> {
         (b"set 0 0 3 string 6", "line 1: bad hex\n"),
         (b"end", "line 1: not built\n"),
         (b"# one\n\n#\xff\nunit\n", "line 4: wrong fields\n"),
-        (b"\n\nunit 6 8 32\n\nunit 5 8 32", "line 5: not built\n"),
+        (b"\n\nunit 6 8 32\n\nunit 5 8 16", "line 5: bad number\n"),
         (b"unit 5 8 32\nfrob\nunit\n\x80", "line 2: unknown word\n"),
         (
             b"#\n#\n#\n#\n#\n\n\n\n\n\n\nfrob",
@@ -348,8 +351,16 @@ fn refuses_lines(rt: HostRuntime) -> Result<(), Fail> {
 
 #[test]
 fn refuses_what_has_no_spelling(rt: HostRuntime) -> Result<(), Fail> {
-    let rows: [(&[u8], &str); 7] = [
+    let rows: [(&[u8], &str); 9] = [
         (b"unit 6 8 32\n", "refused: UnsupportedVersion\n"),
+        (
+            b"\n\nunit 6 8 32\n\nunit 5 8 32",
+            "refused: UnsupportedVersion\n",
+        ),
+        (
+            b"unit 5 8 32\nunit 5 3 32\n",
+            "refused: UnsupportedWordSize\n",
+        ),
         (b"unit 1 8 32\n", "refused: UnsupportedVersion\n"),
         (b"unit 0 8 64\n", "refused: UnsupportedVersion\n"),
         (b"unit 65535 8 32\n", "refused: UnsupportedVersion\n"),

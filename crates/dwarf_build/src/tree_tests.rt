@@ -206,8 +206,9 @@ fn refuses_lines_about_entries(rt: HostRuntime) -> Result<(), Fail> {
         ("set 0 0 3 udata 1 2", "line 2: wrong fields\n"),
         ("set 0 0 DW_AT_frob udata 1", "line 2: unknown word\n"),
         ("set 0 0 3 frob 1", "line 2: unknown word\n"),
-        ("set 0 0 3 info_ref 0:0", "line 2: not built\n"),
-        ("set 9 9 0 info_ref x y", "line 2: not built\n"),
+        ("set 9 9 0 info_ref 0:x y", "line 2: bad number\n"),
+        ("set 9 9 0 info_ref 0:0", "line 2: no such unit\n"),
+        ("set 9 9 0 range_ref x y", "line 2: not built\n"),
         ("str 61", "line 2: not built\n"),
         ("set 0 0 3 udata 1\norder big", "line 3: order not first\n"),
     ];
