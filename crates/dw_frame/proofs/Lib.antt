@@ -4,4 +4,11 @@ pub mod OperandSteps
 pub mod InstructionSteps
 pub mod AdvanceSteps
 pub mod ProgramSteps
+pub mod PartSteps
+pub mod CauseSteps
+pub mod NumberSteps
+pub mod EntrySteps
+pub mod CieSteps
+pub mod FdeSteps
+pub mod TableSteps
 pub mod Worked

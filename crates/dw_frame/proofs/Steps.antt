@@ -80,7 +80,7 @@ piece_is a b s t e f =
     let text : Model → Piece = λ x. record { size = b; text = x } in
     ap size e ∙ ap text (fun_ext (λ big. fun_ext (λ l. f big l)))
 
-nothing-followed : (t : Text) → followed (Some []) t ≡ t
+pub nothing-followed : (t : Text) → followed (Some []) t ≡ t
 unfolding followed
 nothing-followed None = refl
 nothing-followed (Some xs) = refl
@@ -121,3 +121,7 @@ written-field {a} {b} w n p =
 pub Writes-field : {T : Type 0} (r : Result T Error) (a b : Meaning) (w n : ℕ) → OnOk r (Adds a b (num a.is_big w n)) → IfErr r (BytesRefused a b) → Writes r a b (field w n) never
 Writes-field (Ok x) a b w n p q = (written-field w n p, λ e. refl)
 Writes-field (Err e) a b w n p q = bytes_refused a b never e q
+
+-- where there is nothing to write
+pub Writes-none : (m : Meaning) (p : Piece) → nothing ≡ p → Writes {T = Unit {0}} (Ok tt) m m p never
+Writes-none m p e = (subst (IsWritten m m) e (written-nothing m), λ e. refl)

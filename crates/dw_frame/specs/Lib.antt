@@ -5,3 +5,11 @@ pub mod Operands
 pub mod Instructions
 pub mod Advances
 pub mod Programs
+pub mod Parts
+pub mod PointerParts
+pub mod Entries
+pub mod Opened
+pub mod Cies
+pub mod Fdes
+pub mod Tables
+pub mod Places

@@ -1,5 +1,5 @@
 -- Texts with their sizes.
-use Rattle.std.specs.Prelude.{ℕ, ◌+◌, List, [], ◌∷◌, length, Some, None}
+use Rattle.std.specs.Prelude.{ℕ, ◌+◌, List, [], length, Some, None}
 use Rattle.dw_base.specs.Numbers.{num}
 use Rattle.dw_writer.specs.Texts.{num_text, followed}
 use Rattle.dw_writer.specs.Meaning.{Meaning, Model, Appends}
@@ -30,19 +30,6 @@ field w n = record { size = w; text = λ big l. Some (num big w n) }
 -- one piece after another
 unfoldable pub both : Piece → Piece → Piece
 both p q = record { size = p.size + q.size; text = λ big l. followed (p.text big l) (q.text big l) }
-
--- pieces, one after another
-abbrev pub pieces : List Piece → Piece
-pieces [] = nothing
-pieces (p ∷ ps) = both p (pieces ps)
-
--- a piece that hangs on the place where it stands
-abbrev pub Placed : Type 0
-Placed = ℕ → Piece
-
--- one such piece after another
-abbrev pub in_turn : Placed → Placed → Placed
-in_turn p q at = both (p at) (q (at + (p at).size))
 
 -- the bytes of a piece are added
 abbrev pub IsWritten : Meaning → Meaning → Piece → Type 0

@@ -3,15 +3,17 @@
 ghost use Rattle.std.specs.Prelude.{◌≡◌, [], ◌∷◌, ◌++◌, None, false, OnOk, OnErr, IfOk, IfErr};
 ghost use Rattle.dw_base.specs.declared.error.Error.TheVariants.{NoMemory};
 ghost use Rattle.dw_base.specs.declared.constants.TheConstants.{DW_EH_PE_absptr};
-ghost use Rattle.dw_expr.specs.Places.{Refused};
-ghost use Rattle.dw_frame.specs.Causes.{IsNone};
-ghost use Rattle.dw_frame.specs.Pieces.{IsWritten};
-ghost use Rattle.dw_frame.specs.Programs.{instructions_piece, instructions_fail};
+ghost use Rattle.dw_frame.specs.Causes.{never, Writes};
+ghost use Rattle.dw_frame.specs.Parts.{only_if, Puts};
+ghost use Rattle.dw_frame.specs.Entries.{counted};
+ghost use Rattle.dw_frame.specs.Cies.{is_augmented, has_encoding, byte_if, letters, encoding_if, sizes, version_part, register_part, personality_part, cie_data, cie_head, cie_measures, cie_contents, cie_part};
 
+use crate::entry::{OpenBlock, OpenEntry};
 use crate::instruction::CallFrameInstruction;
+use crate::kind::FrameKind;
 use crate::program::{copy_instructions, write_instructions};
 use dw_base::constants::DW_EH_PE_absptr;
-use dw_base::{Address, DwEhPe, Encoding, Register, Result};
+use dw_base::{Address, DwEhPe, Encoding, Error, Register, Result};
 use dw_writer::Writer;
 use std::alloc::Global;
 
@@ -86,25 +88,108 @@ impl CommonInformationEntry {
         Ok(())
     }
 
-    /// Writes the instructions that hold at the begin of each function (DWARF 5, 6.4.2). Refused
-    /// are, beside what the writer refuses: an offset that the factor of data offsets doesn't
-    /// divide, as `InvalidFrameDataOffset`; and in an expression an entry, as
-    /// `UnsupportedCfiExpressionReference` where its place in the unit is named and as
-    /// `InvalidReference` where its place in `.debug_info` is, and a branch without a target, as
-    /// `UnsetBranchTarget`.
-    pub fn write_instructions<W: Writer>(&self, w: &mut W) -> Result<()>
-        ensures ok { OnOk result (IsWritten (W.meaning w.old) (W.meaning w.new)
-            (instructions_piece self.now.encoding self.now.data_alignment_factor
-            self.now.instructions.items)) }
-        ensures sound { OnOk result (IsNone
-            (instructions_fail self.now.encoding self.now.data_alignment_factor
-            (W.meaning w.old).is_plain self.now.instructions.items)) }
-        ensures err { IfErr result (Refused (W.meaning w.old) (W.meaning w.new)
-            (instructions_fail self.now.encoding self.now.data_alignment_factor
-            (W.meaning w.old).is_plain self.now.instructions.items)) }
+    /// Whether it has anything beyond DWARF's own fields.
+    pub(crate) fn is_augmented(&self) -> bool
+        ensures { result ≡ is_augmented self.now }
     {
+        self.lsda_encoding.is_some()
+            || self.personality.is_some()
+            || self.has_encoding()
+            || self.signal_trampoline
+    }
+
+    /// Whether the addresses of its FDEs are encoded in another way than as absolute pointers.
+    pub(crate) fn has_encoding(&self) -> bool
+        ensures { result ≡ has_encoding self.now }
+    {
+        self.fde_address_encoding.0 != DW_EH_PE_absptr.0
+    }
+
+    /// Writes the entry, and returns its place.
+    pub(crate) fn write<W: Writer>(&self, w: &mut W, kind: FrameKind) -> Result<usize>
+        ensures part { Puts result (W.meaning w.old) (W.meaning w.new) (cie_part kind self.now) }
+        ensures place { IfOk result (λ p. p ≡ (W.meaning w.old).size) }
+    {
+        let place = w.len();
+        let entry = OpenEntry::open(w, self.encoding)?;
+        self.write_contents(w, kind)?;
+        entry.close(w)?;
+        Ok(place)
+    }
+
+    fn write_contents<W: Writer>(&self, w: &mut W, kind: FrameKind) -> Result<()>
+        ensures { Puts result (W.meaning w.old) (W.meaning w.new) (cie_contents kind self.now) }
+    {
+        self.write_head(w, kind)?;
+        self.write_measures(w, kind)?;
+        self.write_block(w)?;
         let instructions = self.instructions.as_slice();
         write_instructions(instructions, w, self.encoding, self.data_alignment_factor)
+    }
+
+    /// Writes what stands before the factors.
+    fn write_head<W: Writer>(&self, w: &mut W, kind: FrameKind) -> Result<()>
+        ensures { Puts result (W.meaning w.old) (W.meaning w.new) (cie_head kind self.now) }
+    {
+        w.write(kind.cie_id(self.encoding.format))?;
+        write_version(w, kind, self.encoding.version)?;
+        self.write_letters(w)?;
+        write_sizes(w, self.encoding)
+    }
+
+    /// Writes the augmentation string.
+    fn write_letters<W: Writer>(&self, w: &mut W) -> Result<()>
+        ensures { Writes result (W.meaning w.old) (W.meaning w.new) (letters self.now) never }
+    {
+        write_byte_if(w, self.is_augmented(), b'z')?;
+        write_byte_if(w, self.lsda_encoding.is_some(), b'L')?;
+        write_byte_if(w, self.personality.is_some(), b'P')?;
+        write_byte_if(w, self.has_encoding(), b'R')?;
+        write_byte_if(w, self.signal_trampoline, b'S')?;
+        w.write(&[0])
+    }
+
+    /// Writes the factors and the column of the return address.
+    fn write_measures<W: Writer>(&self, w: &mut W, kind: FrameKind) -> Result<()>
+        ensures { Puts result (W.meaning w.old) (W.meaning w.new) (cie_measures kind self.now) }
+    {
+        w.write_uleb128(u64::from(self.code_alignment_factor))?;
+        w.write_sleb128(i64::from(self.data_alignment_factor))?;
+        write_register(w, kind, self.encoding.version, self.return_address_register)
+    }
+
+    /// Writes what the augmentation string announces, behind its length.
+    fn write_block<W: Writer>(&self, w: &mut W) -> Result<()>
+        ensures { Puts result (W.meaning w.old) (W.meaning w.new)
+            (only_if (is_augmented self.now) (counted (cie_data self.now))) }
+    {
+        if !self.is_augmented() {
+            return Ok(());
+        }
+        let block = OpenBlock::open(w)?;
+        self.write_data(w)?;
+        block.close(w)
+    }
+
+    fn write_data<W: Writer>(&self, w: &mut W) -> Result<()>
+        ensures { Puts result (W.meaning w.old) (W.meaning w.new) (cie_data self.now) }
+    {
+        write_encoding(w, self.lsda_encoding)?;
+        self.write_personality(w)?;
+        write_byte_if(w, self.has_encoding(), self.fde_address_encoding.0)
+    }
+
+    fn write_personality<W: Writer>(&self, w: &mut W) -> Result<()>
+        ensures { Puts result (W.meaning w.old) (W.meaning w.new)
+            (personality_part self.now.encoding.address_size self.now.personality) }
+    {
+        match self.personality {
+            None => Ok(()),
+            Some((encoding, address)) => {
+                w.write(&[encoding.0])?;
+                w.write_eh_pointer(address, encoding, self.encoding.address_size)
+            }
+        }
     }
 
     /// A second entry that equals this one.
@@ -129,4 +214,64 @@ impl CommonInformationEntry {
             instructions,
         })
     }
+}
+
+/// Writes the version, if the section knows it.
+fn write_version<W: Writer>(w: &mut W, kind: FrameKind, version: u16) -> Result<()>
+    ensures { Puts result (W.meaning w.old) (W.meaning w.new) (version_part kind version) }
+{
+    if !kind.knows(version) {
+        return Err(Error::UnsupportedVersion(version));
+    }
+    w.write(&[version as u8])
+}
+
+/// Writes the bytes of an address and of a segment selector, which there is none of, from version 4
+/// on.
+fn write_sizes<W: Writer>(w: &mut W, encoding: Encoding) -> Result<()>
+    ensures { Writes result (W.meaning w.old) (W.meaning w.new)
+        (sizes encoding.version encoding.address_size) never }
+{
+    if encoding.version != 4 {
+        return Ok(());
+    }
+    w.write(&[encoding.address_size, 0])
+}
+
+/// Writes the column of the return address, which has one byte in version 1 of `.debug_frame`.
+fn write_register<W: Writer>(
+    w: &mut W,
+    kind: FrameKind,
+    version: u16,
+    register: Register,
+) -> Result<()>
+    ensures { Puts result (W.meaning w.old) (W.meaning w.new)
+        (register_part kind version register.0) }
+{
+    let column = u64::from(register.0);
+    if kind.has_byte_register(version) {
+        w.write_udata(column, 1)
+    } else {
+        w.write_uleb128(column)
+    }
+}
+
+/// Writes the encoding of a pointer that there may be.
+fn write_encoding<W: Writer>(w: &mut W, encoding: Option<DwEhPe>) -> Result<()>
+    ensures { Writes result (W.meaning w.old) (W.meaning w.new) (encoding_if encoding) never }
+{
+    match encoding {
+        None => Ok(()),
+        Some(encoding) => w.write(&[encoding.0]),
+    }
+}
+
+/// Writes a byte where something holds.
+fn write_byte_if<W: Writer>(w: &mut W, holds: bool, byte: u8) -> Result<()>
+    ensures { Writes result (W.meaning w.old) (W.meaning w.new) (byte_if holds byte) never }
+{
+    if !holds {
+        return Ok(());
+    }
+    w.write(&[byte])
 }

@@ -1,16 +1,19 @@
 //! Frame description entries (DWARF 5, 6.4.1).
 
-ghost use Rattle.std.specs.Prelude.{◌≡◌, [], ◌∷◌, ◌++◌, None, OnOk, OnErr, IfOk, IfErr};
+ghost use Rattle.std.specs.Prelude.{◌≡◌, ◌≤◌, [], ◌∷◌, ◌++◌, None, OnOk, OnErr, IfOk, IfErr};
 ghost use Rattle.dw_base.specs.declared.error.Error.TheVariants.{NoMemory};
-ghost use Rattle.dw_expr.specs.Places.{Refused};
-ghost use Rattle.dw_frame.specs.Causes.{IsNone};
-ghost use Rattle.dw_frame.specs.Pieces.{IsWritten};
-ghost use Rattle.dw_frame.specs.Programs.{program_piece, program_fails, a_step};
+ghost use Rattle.dw_frame.specs.Parts.{only_if, Puts};
+ghost use Rattle.dw_frame.specs.Entries.{counted};
+ghost use Rattle.dw_frame.specs.Programs.{a_step};
+ghost use Rattle.dw_frame.specs.Cies.{is_augmented};
+ghost use Rattle.dw_frame.specs.Fdes.{cie_pointer, encoded_range, plain_range, range_part, lsda_part, fde_contents, fde_part};
 
 use crate::cie::CommonInformationEntry;
+use crate::entry::{OpenBlock, OpenEntry};
 use crate::instruction::CallFrameInstruction;
+use crate::kind::FrameKind;
 use crate::program::{Step, copy_steps, write_steps};
-use dw_base::{Address, Result};
+use dw_base::{Address, DwEhPe, Error, Format, Result, SectionId};
 use dw_writer::Writer;
 use std::alloc::Global;
 
@@ -64,25 +67,40 @@ impl FrameDescriptionEntry {
         Ok(())
     }
 
-    /// Writes the instructions by the factors of the entry's CIE, each behind an advance where its
-    /// offset rose (DWARF 5, 6.4.2). Refused are, beside what
-    /// `CommonInformationEntry::write_instructions` refuses, an offset that falls or rises by no
-    /// multiple of the factor of code offsets, as `InvalidFrameCodeOffset`.
-    pub fn write_instructions<W: Writer>(
+    /// Writes the entry behind its CIE, which stands at this place.
+    pub(crate) fn write<W: Writer>(
         &self,
         w: &mut W,
+        kind: FrameKind,
+        cie_at: usize,
         cie: &CommonInformationEntry,
     ) -> Result<()>
-        ensures ok { OnOk result (IsWritten (W.meaning w.old) (W.meaning w.new)
-            (program_piece cie.now.encoding cie.now.code_alignment_factor
-            cie.now.data_alignment_factor 0 self.now.steps.items)) }
-        ensures sound { OnOk result (IsNone
-            (program_fails cie.now.encoding cie.now.code_alignment_factor
-            cie.now.data_alignment_factor (W.meaning w.old).is_plain 0 self.now.steps.items)) }
-        ensures err { IfErr result (Refused (W.meaning w.old) (W.meaning w.new)
-            (program_fails cie.now.encoding cie.now.code_alignment_factor
-            cie.now.data_alignment_factor (W.meaning w.old).is_plain 0 self.now.steps.items)) }
+        requires { cie_at ≤ (W.meaning w.old).size }
+        ensures { Puts result (W.meaning w.old) (W.meaning w.new)
+            (fde_part kind cie_at cie.now self.now) }
     {
+        if cie.lsda_encoding.is_some() != self.lsda.is_some() {
+            return Err(Error::LsdaMismatch);
+        }
+        let entry = OpenEntry::open(w, cie.encoding)?;
+        self.write_contents(w, kind, cie_at, cie)?;
+        entry.close(w)
+    }
+
+    fn write_contents<W: Writer>(
+        &self,
+        w: &mut W,
+        kind: FrameKind,
+        cie_at: usize,
+        cie: &CommonInformationEntry,
+    ) -> Result<()>
+        requires { cie_at ≤ (W.meaning w.old).size }
+        ensures { Puts result (W.meaning w.old) (W.meaning w.new)
+            (fde_contents kind cie_at cie.now self.now) }
+    {
+        write_cie_pointer(w, kind, cie.encoding.format, cie_at)?;
+        self.write_range(w, cie)?;
+        self.write_block(w, cie)?;
         write_steps(
             self.steps.as_slice(),
             w,
@@ -90,6 +108,60 @@ impl FrameDescriptionEntry {
             cie.code_alignment_factor,
             cie.data_alignment_factor,
         )
+    }
+
+    /// Writes where the function begins, and how many bytes it has.
+    fn write_range<W: Writer>(&self, w: &mut W, cie: &CommonInformationEntry) -> Result<()>
+        ensures { Puts result (W.meaning w.old) (W.meaning w.new) (range_part cie.now self.now) }
+    {
+        let size = cie.encoding.address_size;
+        if cie.has_encoding() {
+            self.write_encoded_range(w, cie.fde_address_encoding, size)
+        } else {
+            self.write_plain_range(w, size)
+        }
+    }
+
+    fn write_encoded_range<W: Writer>(&self, w: &mut W, encoding: DwEhPe, size: u8) -> Result<()>
+        ensures { Puts result (W.meaning w.old) (W.meaning w.new)
+            (encoded_range size encoding.0 self.now) }
+    {
+        w.write_eh_pointer(self.address, encoding, size)?;
+        w.write_eh_pointer_data(u64::from(self.length), encoding.format(), size)
+    }
+
+    fn write_plain_range<W: Writer>(&self, w: &mut W, size: u8) -> Result<()>
+        ensures { Puts result (W.meaning w.old) (W.meaning w.new) (plain_range size self.now) }
+    {
+        w.write_address(self.address, size)?;
+        w.write_udata(u64::from(self.length), size)
+    }
+
+    /// Writes the data that the CIE announces, behind its length.
+    fn write_block<W: Writer>(&self, w: &mut W, cie: &CommonInformationEntry) -> Result<()>
+        ensures { Puts result (W.meaning w.old) (W.meaning w.new)
+            (only_if (is_augmented cie.now)
+            (counted (lsda_part cie.now.encoding.address_size cie.now.lsda_encoding self.now.lsda))) }
+    {
+        if !cie.is_augmented() {
+            return Ok(());
+        }
+        let block = OpenBlock::open(w)?;
+        self.write_lsda(w, cie)?;
+        block.close(w)
+    }
+
+    fn write_lsda<W: Writer>(&self, w: &mut W, cie: &CommonInformationEntry) -> Result<()>
+        ensures { Puts result (W.meaning w.old) (W.meaning w.new)
+            (lsda_part cie.now.encoding.address_size cie.now.lsda_encoding self.now.lsda) }
+    {
+        let Some(encoding) = cie.lsda_encoding else {
+            return Ok(());
+        };
+        let Some(address) = self.lsda else {
+            return Ok(());
+        };
+        w.write_eh_pointer(address, encoding, cie.encoding.address_size)
     }
 
     /// A second entry that equals this one.
@@ -106,5 +178,25 @@ impl FrameDescriptionEntry {
             lsda: self.lsda,
             steps,
         })
+    }
+}
+
+/// Writes where the CIE stands: its offset in `.debug_frame`, or how far it stands before this
+/// field in `.eh_frame`.
+fn write_cie_pointer<W: Writer>(
+    w: &mut W,
+    kind: FrameKind,
+    format: Format,
+    cie_at: usize,
+) -> Result<()>
+    requires { cie_at ≤ (W.meaning w.old).size }
+    ensures { Puts result (W.meaning w.old) (W.meaning w.new) (cie_pointer kind format cie_at) }
+{
+    match kind {
+        FrameKind::Debug => w.write_offset(cie_at, SectionId::DebugFrame, format.word_size()),
+        FrameKind::Eh => {
+            let distance = w.len() - cie_at;
+            w.write_udata(distance as u64, 4)
+        }
     }
 }

@@ -4,10 +4,13 @@
 
 mod advance;
 mod cie;
+mod entry;
 mod factor;
 mod fde;
 mod instruction;
+mod kind;
 mod operand;
+mod places;
 mod program;
 mod spelling;
 mod table;

@@ -1,6 +1,11 @@
 //! Instructions at the limits of their spellings, and tables of entries. The bytes are taken from
 //! the tables of the standard (DWARF 5, 7.24).
 
+mod entries;
+mod pointers;
+mod refusals;
+
+use crate::program::{Step, write_instructions, write_steps};
 use crate::{CallFrameInstruction, CommonInformationEntry, FrameDescriptionEntry, FrameTable};
 use dw_base::{
     Address, DebugInfoRef, Encoding, Error, Format, Register, Result, RunTimeEndian, UnitEntryId,
@@ -11,13 +16,14 @@ use std::alloc::Global;
 use std::process::Abort;
 use std::test::Fail;
 
+const ENCODING: Encoding = Encoding {
+    address_size: 8,
+    format: Format::Dwarf32,
+    version: 1,
+};
+
 fn a_cie(alloc: Global, code_factor: u8, data_factor: i8) -> CommonInformationEntry {
-    let encoding = Encoding {
-        address_size: 8,
-        format: Format::Dwarf32,
-        version: 1,
-    };
-    CommonInformationEntry::new(alloc, encoding, code_factor, data_factor, Register(16))
+    CommonInformationEntry::new(alloc, ENCODING, code_factor, data_factor, Register(16))
 }
 
 /// What an instruction of a CIE is written as.
@@ -26,10 +32,9 @@ fn written(
     data_factor: i8,
     instruction: CallFrameInstruction,
 ) -> Result<EndianVec<RunTimeEndian>> {
-    let mut cie = a_cie(alloc, 1, data_factor);
-    cie.add_instruction(instruction)?;
+    let instructions = vec![in alloc; instruction]?;
     let mut w = EndianVec::new(alloc, RunTimeEndian::Little);
-    cie.write_instructions(&mut w)?;
+    write_instructions(instructions.as_slice(), &mut w, ENCODING, data_factor)?;
     Ok(w)
 }
 
@@ -235,14 +240,17 @@ fn refuses_entries_in_expressions(rt: HostRuntime) -> std::result::Result<(), Fa
 
 /// An FDE that remembers its state at each of these offsets, as it is written.
 fn advances(alloc: Global, code_factor: u8, offsets: &[u32]) -> Result<EndianVec<RunTimeEndian>> {
-    let cie = a_cie(alloc, code_factor, 1);
-    let mut fde = FrameDescriptionEntry::new(alloc, Address::Constant(0), 0);
+    let mut steps = Vec::new(alloc);
     for offset in offsets {
-        fde.add_instruction(*offset, CallFrameInstruction::RememberState)?;
+        let offset = *offset;
+        let instruction = CallFrameInstruction::RememberState;
+        steps.push(Step {
+            offset,
+            instruction,
+        })?;
     }
     let mut w = EndianVec::new(alloc, RunTimeEndian::Little);
-    fde.try_clone()?
-        .write_instructions(&mut w, &cie.try_clone()?)?;
+    write_steps(steps.as_slice(), &mut w, ENCODING, code_factor, 1)?;
     Ok(w)
 }
 

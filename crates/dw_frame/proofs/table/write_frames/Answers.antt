@@ -1,0 +1,52 @@
+use Rattle.std.specs.Prelude.{Ok, Err, refl, ◌+◌, drop}
+use Rattle.std.proofs.Common.{sym, subst, arith}
+use Rattle.std.proofs.lemmas.Result.{err_from_is_err_and}
+use Rattle.dw_writer.proofs.Steps.{IsSameWriter-trans}
+use Rattle.dw_frame.specs.Parts.{Puts}
+use Rattle.dw_frame.specs.Places.{known, AreBefore}
+use Rattle.dw_frame.specs.Tables.{frame, frames_from, with_place, place_at}
+use Rattle.dw_frame.proofs.PartSteps.{Puts-then, Puts-first, Puts-nothing}
+use Rattle.dw_frame.proofs.ProgramSteps.{drop_cons, drop_all}
+use Rattle.dw_frame.proofs.TableSteps.{none_before}
+use Rattle.dw_frame.proofs.table.write_frames.Goals as goal
+
+pub loop-fde-init : goal.loop-fde-init
+loop-fde-init g c =
+    let none = c.in_ok-places.ensures.places in
+    let m = (g.W.Writer.meaning c.args.w.now) in
+    record {
+      same = record { order = refl; kind = refl; faults = omega arith };
+      counted = rw c.in_ok-places.ensures.count refl;
+      behind = subst (λ p. AreBefore p m.size) (sym none) (none_before m.size);
+      rest = λ r b h. subst (λ p. Puts r m b (frames_from c.args.kind c.args.cies.now p c.args.fdes.now)) none h;
+    }
+
+pub returns-in_err-write_frame : goal.returns-in_err-write_frame
+returns-in_err-write_frame g c =
+    let e = c.in_err-write_frame.field-0.0 in
+    let p = err_from_is_err_and c.from_residual-in_err-write_frame.result c.from_residual-in_err-write_frame.ensures.1 in
+    let split = drop_cons c.args.fdes.now c.loop-fde.fde-index c.fde-item.result c.loop-fde-test.true c.fde-item.is in
+    rw (p.1, p.2)
+    (c.loop-fde.invariant.rest (Err e) (g.W.Writer.meaning c.write_frame.new.w)
+    (subst (λ ys. Puts {T = Unit {0}} (Err e) (g.W.Writer.meaning c.loop-fde.w) (g.W.Writer.meaning c.write_frame.new.w) (frames_from c.args.kind c.args.cies.now (known c.loop-fde.places.places.items) ys)) (sym split)
+    (Puts-first (Unit {0}) (g.W.Writer.meaning c.loop-fde.w) (g.W.Writer.meaning c.write_frame.new.w) (frame c.args.kind c.args.cies.now (known c.loop-fde.places.places.items) c.fde-item.result) (frames_from c.args.kind c.args.cies.now (with_place c.fde-item.result.0.0 (place_at ((known c.loop-fde.places.places.items) c.fde-item.result.0.0) (g.W.Writer.meaning c.loop-fde.w).size) (known c.loop-fde.places.places.items)) (drop (c.loop-fde.fde-index + 1) c.args.fdes.now)) e c.in_err-write_frame.ensures.part)))
+
+pub loop-fde-preserved : goal.loop-fde-preserved
+loop-fde-preserved g c =
+    let before = c.loop-fde.invariant in
+    let first = c.in_ok-write_frame.ensures in
+    let split = drop_cons c.args.fdes.now c.loop-fde.fde-index c.fde-item.result c.loop-fde-test.true c.fde-item.is in
+    record {
+      same = IsSameWriter-trans before.same first.part.0.same;
+      counted = first.count;
+      behind = first.before;
+      rest = λ r b h. before.rest r b
+          (subst (λ ys. Puts r (g.W.Writer.meaning c.loop-fde.w) b (frames_from c.args.kind c.args.cies.now (known c.loop-fde.places.places.items) ys)) (sym split)
+          (Puts-then r (g.W.Writer.meaning c.loop-fde.w) (g.W.Writer.meaning c.write_frame.new.w) b (frame c.args.kind c.args.cies.now (known c.loop-fde.places.places.items) c.fde-item.result) (frames_from c.args.kind c.args.cies.now (with_place c.fde-item.result.0.0 (place_at ((known c.loop-fde.places.places.items) c.fde-item.result.0.0) (g.W.Writer.meaning c.loop-fde.w).size) (known c.loop-fde.places.places.items)) (drop (c.loop-fde.fde-index + 1) c.args.fdes.now)) first.part
+          (subst (λ p. Puts r (g.W.Writer.meaning c.write_frame.new.w) b (frames_from c.args.kind c.args.cies.now p (drop (c.loop-fde.fde-index + 1) c.args.fdes.now))) first.places h)));
+    }
+
+pub returns : goal.returns
+returns g c =
+    c.loop-fde.invariant.rest (Ok tt) (g.W.Writer.meaning c.loop-fde.w)
+    (subst (λ ys. Puts {T = Unit {0}} (Ok tt) (g.W.Writer.meaning c.loop-fde.w) (g.W.Writer.meaning c.loop-fde.w) (frames_from c.args.kind c.args.cies.now (known c.loop-fde.places.places.items) ys)) (sym (drop_all c.args.fdes.now c.loop-fde.fde-index c.loop-fde-test.false)) (Puts-nothing (g.W.Writer.meaning c.loop-fde.w)))
