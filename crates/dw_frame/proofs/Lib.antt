@@ -8,7 +8,12 @@ pub mod PartSteps
 pub mod CauseSteps
 pub mod NumberSteps
 pub mod EntrySteps
+pub mod PointerLaws
+pub mod TextParts
+pub mod FdeLaws
 pub mod CieSteps
 pub mod FdeSteps
 pub mod TableSteps
+pub mod FdeReading
+pub mod TableReading
 pub mod Worked

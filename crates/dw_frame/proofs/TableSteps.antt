@@ -9,6 +9,7 @@ use Rattle.dw_writer.specs.Meaning.{Meaning}
 use Rattle.dw_frame.specs.declared.cie.CommonInformationEntry.{CommonInformationEntry}
 use Rattle.dw_frame.specs.declared.fde.FrameDescriptionEntry.{FrameDescriptionEntry}
 use Rattle.dw_frame.specs.declared.kind.FrameKind.{FrameKind}
+use Rattle.dw_frame.specs.Reading.{at_zero, IsRanged, IsWide, IsTold}
 use Rattle.dw_frame.specs.Parts.{Placed, Puts}
 use Rattle.dw_frame.specs.Fdes.{fde_part}
 use Rattle.dw_frame.specs.Tables.{Places, no_places, with_place, place_at, new_cie, fde_of, frame, have_cies}
@@ -79,3 +80,24 @@ pub grown : {T E : Type 0} (r : Result T E) (old new : List CommonInformationEnt
 grown (Ok x) old new k true h e = omega (arith, ap length h)
 grown (Ok x) old new k false h e = omega (arith, ap length h, length-append old (k ∷ []))
 grown (Err x) old new k b h e = omega (arith, ap length e)
+
+-- What is told beside a text
+
+pub OnOk-always : {T E P : Type 0} (r : Result T E) → P → OnOk r P
+OnOk-always (Ok x) p = p
+OnOk-always (Err e) p = tt
+
+pub frame_told : {T : Type 0} (r : Result T Error) (a b z : Meaning) (kind : FrameKind) (cies : List CommonInformationEntry) (places : Places) (x : CieId × FrameDescriptionEntry) (c : CommonInformationEntry) (at : ℕ) →
+    slice_get cies x.0.0 ≡ Some c → at ≡ place_at (places x.0.0) a.size → Puts {T = Unit {0}} (Ok tt) a b (new_cie kind (places x.0.0) (Some c)) → Puts r b z (fde_part kind at c x.1) → OnOk r (IsRanged x.1) →
+    OnOk r (IsTold kind cies places x a.size)
+frame_told (Ok y) a b z kind cies places x c at got is h k ranged =
+    let first = subst (λ o. Puts {T = Unit {0}} (Ok tt) a b (new_cie kind (places x.0.0) o)) (sym got) h in
+    let second : Puts {T = Unit {0}} (Ok tt) b z (fde_of kind at (slice_get cies x.0.0) x.1) = subst (λ o. Puts {T = Unit {0}} (Ok tt) b z (fde_of kind at o x.1)) (sym got) k in
+    let third = subst (λ n. Puts {T = Unit {0}} (Ok tt) b z (fde_of kind n (slice_get cies x.0.0) x.1)) is second in
+    let behind : b.size ≡ a.size + (new_cie kind (places x.0.0) (slice_get cies x.0.0) a.size).piece.size = first.0.size in
+    record {
+      cie = λ big. first.0.wide big at_zero;
+      fde = subst (λ n. IsWide (fde_of kind (place_at (places x.0.0) a.size) (slice_get cies x.0.0) x.1 n)) behind (λ big. third.0.wide big at_zero);
+      ranged = ranged;
+    }
+frame_told (Err e) a b z kind cies places x c at got is h k ranged = tt

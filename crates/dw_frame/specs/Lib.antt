@@ -13,3 +13,5 @@ pub mod Cies
 pub mod Fdes
 pub mod Tables
 pub mod Places
+pub mod ReadPointers
+pub mod Reading

@@ -1,10 +1,11 @@
 //! Frame description entries (DWARF 5, 6.4.1).
 
-ghost use Rattle.std.specs.Prelude.{◌≡◌, ◌≤◌, [], ◌∷◌, ◌++◌, None, OnOk, OnErr, IfOk, IfErr};
+ghost use Rattle.std.specs.Prelude.{◌≡◌, ◌≤◌, ◌<◌, ◌^◌, [], ◌∷◌, ◌++◌, None, IfSome, OnOk, OnErr, IfOk, IfErr};
 ghost use Rattle.dw_base.specs.declared.error.Error.TheVariants.{NoMemory};
 ghost use Rattle.dw_frame.specs.Parts.{only_if, Puts};
 ghost use Rattle.dw_frame.specs.Entries.{counted};
 ghost use Rattle.dw_frame.specs.Programs.{a_step};
+ghost use Rattle.dw_frame.specs.Reading.{IsShort, IsRanged};
 ghost use Rattle.dw_frame.specs.Cies.{is_augmented};
 ghost use Rattle.dw_frame.specs.Fdes.{cie_pointer, encoded_range, plain_range, range_part, lsda_part, fde_contents, fde_part};
 
@@ -76,9 +77,11 @@ impl FrameDescriptionEntry {
         cie: &CommonInformationEntry,
     ) -> Result<()>
         requires { cie_at ≤ (W.meaning w.old).size }
-        ensures { Puts result (W.meaning w.old) (W.meaning w.new)
+        ensures part { Puts result (W.meaning w.old) (W.meaning w.new)
             (fde_part kind cie_at cie.now self.now) }
+        ensures ranged { OnOk result (IsRanged self.now) }
     {
+        tell_widths(self.address, self.length, self.lsda);
         if cie.lsda_encoding.is_some() != self.lsda.is_some() {
             return Err(Error::LsdaMismatch);
         }
@@ -198,5 +201,30 @@ fn write_cie_pointer<W: Writer>(
             let distance = w.len() - cie_at;
             w.write_udata(distance as u64, 4)
         }
+    }
+}
+
+/// The numbers of an FDE have the widths of their types, which laws over all numbers have to be
+/// told. Nothing is done.
+fn tell_widths(address: Address, size: u32, lsda: Option<Address>)
+    ensures address { IsShort address }
+    ensures size { size < 2 ^ 64 }
+    ensures lsda { IfSome lsda IsShort }
+{
+    let _size = u64::from(size);
+    tell_width(address);
+    match lsda {
+        Some(lsda) => tell_width(lsda),
+        None => (),
+    }
+}
+
+/// The number of an address has 64 bits.
+fn tell_width(address: Address)
+    ensures { IsShort address }
+{
+    match address {
+        Address::Constant(_) => (),
+        Address::Symbol { .. } => (),
     }
 }

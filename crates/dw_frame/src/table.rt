@@ -1,6 +1,6 @@
 //! The call frames of a file.
 
-ghost use Rattle.std.specs.Prelude.{◌≡◌, ◌<◌, ◌≤◌, [], ◌∷◌, ◌++◌, length, IsTrue, Some, OnOk, OnErr, IfOk, IfErr, if◌then◌else◌};
+ghost use Rattle.std.specs.Prelude.{◌≡◌, ◌<◌, ◌≤◌, ℕ, List, [], ◌∷◌, ◌++◌, length, IsTrue, Some, OnOk, OnErr, IfOk, IfErr, if◌then◌else◌};
 ghost use Rattle.std.specs.List.{list_any, position_or_len};
 ghost use Rattle.dw_base.specs.declared.error.Error.TheVariants.{NoMemory};
 ghost use Rattle.dw_expr.specs.Places.{Refused};
@@ -10,7 +10,9 @@ ghost use Rattle.dw_frame.specs.Causes.{IsNone};
 ghost use Rattle.dw_frame.specs.Pieces.{IsWritten};
 ghost use Rattle.dw_frame.specs.Parts.{Puts};
 ghost use Rattle.dw_frame.specs.Places.{known, AreBefore};
-ghost use Rattle.dw_frame.specs.Tables.{have_cies, new_cie, frame, frames_part, place_at, with_place};
+ghost use Rattle.dw_frame.specs.Tables.{have_cies, new_cie, frame, frames_part, no_places, place_at, with_place};
+ghost use Rattle.dw_frame.specs.Reading.{IsTold, AreTold, ShowsFrames};
+ghost use Rattle.dw_writer.specs.New.{IsEmptyPlainWriter};
 
 use crate::cie::CommonInformationEntry;
 use crate::fde::FrameDescriptionEntry;
@@ -123,6 +125,12 @@ impl FrameTable {
             ((frames_part Debug self.now.cies.keys self.now.fdes.items (W.meaning w.old.0).size).fails
             (W.meaning w.old.0).is_plain)
             → IfErr result (BytesRefused (W.meaning w.old.0) (W.meaning w.new.0)) }
+        // In a section of its own each FDE is read with its addresses, and leads to its CIE.
+        ensures read { OnOk result
+            (IsEmptyPlainWriter (W.meaning w.old.0) (W.meaning w.old.0).is_big →
+            (bytes : List ℕ) → (W.meaning w.new.0).bytes ≡ Some bytes →
+            ShowsFrames Debug (W.meaning w.old.0).is_big
+            self.now.cies.keys self.now.fdes.items bytes) }
     {
         self.write(&mut w.0, FrameKind::Debug)
     }
@@ -142,13 +150,24 @@ impl FrameTable {
             ((frames_part Eh self.now.cies.keys self.now.fdes.items (W.meaning w.old.0).size).fails
             (W.meaning w.old.0).is_plain)
             → IfErr result (BytesRefused (W.meaning w.old.0) (W.meaning w.new.0)) }
+        // In a section of its own each FDE is read with its addresses, and leads to its CIE.
+        ensures read { OnOk result
+            (IsEmptyPlainWriter (W.meaning w.old.0) (W.meaning w.old.0).is_big →
+            (bytes : List ℕ) → (W.meaning w.new.0).bytes ≡ Some bytes →
+            ShowsFrames Eh (W.meaning w.old.0).is_big
+            self.now.cies.keys self.now.fdes.items bytes) }
     {
         self.write(&mut w.0, FrameKind::Eh)
     }
 
     fn write<W: Writer>(&self, w: &mut W, kind: FrameKind) -> Result<()>
-        ensures { Puts result (W.meaning w.old) (W.meaning w.new)
+        ensures part { Puts result (W.meaning w.old) (W.meaning w.new)
             (frames_part kind self.now.cies.keys self.now.fdes.items) }
+        ensures read { OnOk result
+            (IsEmptyPlainWriter (W.meaning w.old) (W.meaning w.old).is_big →
+            (bytes : List ℕ) → (W.meaning w.new).bytes ≡ Some bytes →
+            ShowsFrames kind (W.meaning w.old).is_big
+            self.now.cies.keys self.now.fdes.items bytes) }
     {
         let alloc = *self.fdes.allocator();
         write_frames(alloc, self.cies.as_slice(), self.fdes.as_slice(), w, kind)
@@ -164,8 +183,10 @@ fn write_frames<W: Writer>(
     kind: FrameKind,
 ) -> Result<()>
     requires { IsTrue (have_cies (length cies.now) fdes.now) }
-    ensures { Puts result (W.meaning w.old) (W.meaning w.new)
+    ensures part { Puts result (W.meaning w.old) (W.meaning w.new)
         (frames_part kind cies.now fdes.now) }
+    ensures told { OnOk result
+        (AreTold kind cies.now no_places fdes.now (W.meaning w.old).size) }
 {
     let mut places = CiePlaces::new(alloc, cies.len())?;
     for fde in fdes {
@@ -193,6 +214,8 @@ fn write_frame<W: Writer>(
     ensures count { length places.new.places.items ≡ length cies.now }
     ensures before { OnOk result
         (AreBefore (known places.new.places.items) (W.meaning w.new).size) }
+    ensures told { OnOk result (IsTold kind cies.now (known places.old.places.items) fde.now
+        (W.meaning w.old).size) }
 {
     let (id, fde) = fde;
     let cie = &cies[id.index()];

@@ -4,6 +4,7 @@ use Rattle.std.proofs.lemmas.Result.{err_from_is_err_and}
 use Rattle.dw_writer.proofs.Steps.{IsSameWriter-trans}
 use Rattle.dw_frame.specs.Parts.{Puts}
 use Rattle.dw_frame.specs.Places.{known, AreBefore}
+use Rattle.dw_frame.specs.Reading.{AreTold}
 use Rattle.dw_frame.specs.Tables.{frame, frames_from, with_place, place_at}
 use Rattle.dw_frame.proofs.PartSteps.{Puts-then, Puts-first, Puts-nothing}
 use Rattle.dw_frame.proofs.ProgramSteps.{drop_cons, drop_all}
@@ -19,10 +20,11 @@ loop-fde-init g c =
       counted = rw c.in_ok-places.ensures.count refl;
       behind = subst (λ p. AreBefore p m.size) (sym none) (none_before m.size);
       rest = λ r b h. subst (λ p. Puts r m b (frames_from c.args.kind c.args.cies.now p c.args.fdes.now)) none h;
+      told = λ t. subst (λ p. AreTold c.args.kind c.args.cies.now p c.args.fdes.now m.size) none t;
     }
 
-pub returns-in_err-write_frame : goal.returns-in_err-write_frame
-returns-in_err-write_frame g c =
+pub returns-in_err-write_frame-clause-part : goal.returns-in_err-write_frame-clause-part
+returns-in_err-write_frame-clause-part g c =
     let e = c.in_err-write_frame.field-0.0 in
     let p = err_from_is_err_and c.from_residual-in_err-write_frame.result c.from_residual-in_err-write_frame.ensures.1 in
     let split = drop_cons c.args.fdes.now c.loop-fde.fde-index c.fde-item.result c.loop-fde-test.true c.fde-item.is in
@@ -44,9 +46,19 @@ loop-fde-preserved g c =
           (subst (λ ys. Puts r (g.W.Writer.meaning c.loop-fde.w) b (frames_from c.args.kind c.args.cies.now (known c.loop-fde.places.places.items) ys)) (sym split)
           (Puts-then r (g.W.Writer.meaning c.loop-fde.w) (g.W.Writer.meaning c.write_frame.new.w) b (frame c.args.kind c.args.cies.now (known c.loop-fde.places.places.items) c.fde-item.result) (frames_from c.args.kind c.args.cies.now (with_place c.fde-item.result.0.0 (place_at ((known c.loop-fde.places.places.items) c.fde-item.result.0.0) (g.W.Writer.meaning c.loop-fde.w).size) (known c.loop-fde.places.places.items)) (drop (c.loop-fde.fde-index + 1) c.args.fdes.now)) first.part
           (subst (λ p. Puts r (g.W.Writer.meaning c.write_frame.new.w) b (frames_from c.args.kind c.args.cies.now p (drop (c.loop-fde.fde-index + 1) c.args.fdes.now))) first.places h)));
+      told = λ t. before.told
+          (subst (λ ys. AreTold c.args.kind c.args.cies.now (known c.loop-fde.places.places.items) ys (g.W.Writer.meaning c.loop-fde.w).size) (sym split) (
+            first.told,
+            subst (AreTold c.args.kind c.args.cies.now (with_place c.fde-item.result.0.0 (place_at ((known c.loop-fde.places.places.items) c.fde-item.result.0.0) (g.W.Writer.meaning c.loop-fde.w).size) (known c.loop-fde.places.places.items)) (drop (c.loop-fde.fde-index + 1) c.args.fdes.now)) first.part.0.size
+                (subst (λ p. AreTold c.args.kind c.args.cies.now p (drop (c.loop-fde.fde-index + 1) c.args.fdes.now) (g.W.Writer.meaning c.write_frame.new.w).size) first.places t),
+          ));
     }
 
-pub returns : goal.returns
-returns g c =
+pub returns-clause-told : goal.returns-clause-told
+returns-clause-told g c =
+    c.loop-fde.invariant.told (subst (λ ys. AreTold c.args.kind c.args.cies.now (known c.loop-fde.places.places.items) ys (g.W.Writer.meaning c.loop-fde.w).size) (sym (drop_all c.args.fdes.now c.loop-fde.fde-index c.loop-fde-test.false)) tt)
+
+pub returns-clause-part : goal.returns-clause-part
+returns-clause-part g c =
     c.loop-fde.invariant.rest (Ok tt) (g.W.Writer.meaning c.loop-fde.w)
     (subst (λ ys. Puts {T = Unit {0}} (Ok tt) (g.W.Writer.meaning c.loop-fde.w) (g.W.Writer.meaning c.loop-fde.w) (frames_from c.args.kind c.args.cies.now (known c.loop-fde.places.places.items) ys)) (sym (drop_all c.args.fdes.now c.loop-fde.fde-index c.loop-fde-test.false)) (Puts-nothing (g.W.Writer.meaning c.loop-fde.w)))
