@@ -19,7 +19,8 @@ use Rattle.dw_frame.specs.Entries.{counted, padded, entry}
 use Rattle.dw_frame.specs.Cies.{is_augmented}
 use Rattle.dw_frame.specs.Fdes.{cie_pointer, range_part, lsda_part, disagree, mismatch, instructions, fde_contents, fde_part}
 use Rattle.dw_frame.specs.ReadPointers.{data_at, pointer_at}
-use Rattle.dw_frame.specs.Reading.{place_of, cie_field_at, lsda_at, fde_at, FdeRead, IsShort, IsRanged, ShowsFde}
+use Rattle.dw_frame.specs.Reading.{cie_field_at, lsda_at, fde_at, FdeRead, IsRanged, ShowsFde}
+use Rattle.dw_frame.specs.ReadCies.{place_of, IsShort}
 use Rattle.dw_frame.proofs.PointerLaws.{data-again, pointer-again}
 use Rattle.dw_frame.proofs.TextParts.{IsText, turned, number_again, measured_parts, counted_parts}
 use Rattle.dw_frame.proofs.FdeLaws.{pointer_known, known_text, field_again, field_wide, range_parts, range_wide}

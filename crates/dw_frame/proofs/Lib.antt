@@ -15,5 +15,6 @@ pub mod CieSteps
 pub mod FdeSteps
 pub mod TableSteps
 pub mod FdeReading
+pub mod CieReading
 pub mod TableReading
 pub mod Worked

@@ -20,7 +20,9 @@ use Rattle.dw_frame.specs.Tables.{Places, no_places, with_place, place_at, new_c
 use Rattle.dw_frame.specs.Reading.{at_zero, ShowsCie, ShowsFrame, ShowsFrames, AreTold}
 use Rattle.dw_frame.proofs.Steps.{nothing-followed}
 use Rattle.dw_frame.proofs.TextParts.{IsText, turned}
+use Rattle.dw_frame.specs.ReadCies.{IsRangedCie}
 use Rattle.dw_frame.proofs.FdeReading.{fde_again}
+use Rattle.dw_frame.proofs.CieReading.{cie_again}
 
 all_at : {A : Type 0} (P : A → Type 0) (x : A) (xs : List A) → P x → All P xs → (k : ℕ) (d : A) → k < length (x ∷ xs) → P (get_or (x ∷ xs) k d)
 all_at P x xs p ps zero d h = p
@@ -39,22 +41,23 @@ module _ (kind : FrameKind) (big : Bool) (cies : List CommonInformationEntry) wh
     whole = ap (λ ys. ys ++ more) s.whole ∙ append_assoc s.before (s.text ++ s.behind) more ∙ ap (λ ys. s.before ++ ys) (append_assoc s.text s.behind more);
     place = s.place;
     is = s.is;
+    read = s.read;
   }
 
   none_shown : (bytes : List ℕ) → AreShown no_places bytes
   none_shown bytes i p c e f = cc
 
   -- the CIE of an FDE stands before it, with its own bytes or long before
-  shown_here : (places : Places) (i : ℕ) (before xs : List ℕ) (c : CommonInformationEntry) → AreShown places before → slice_get cies i ≡ Some c →
+  shown_here : (places : Places) (i : ℕ) (before xs : List ℕ) (c : CommonInformationEntry) → IsRangedCie c → AreShown places before → slice_get cies i ≡ Some c →
       IsText big (new_cie kind (places i) (slice_get cies i) (length before)) xs →
       (place_at (places i) (length before) ≤ length (before ++ xs)) × ShowsCie kind big c (place_at (places i) (length before)) (before ++ xs)
-  shown_here places i before xs c all got e = by_place (places i) refl
+  shown_here places i before xs c ranged all got e = by_place (places i) refl
     where
       by_place : (o : Option ℕ) → places i ≡ o → (place_at o (length before) ≤ length (before ++ xs)) × ShowsCie kind big c (place_at o (length before)) (before ++ xs)
       by_place None is =
           let text : IsText big (cie_part kind c (length before)) xs = subst (λ g. IsText big (new_cie kind None g (length before)) xs) got (subst (λ o. IsText big (new_cie kind o (slice_get cies i) (length before)) xs) is e) in (
             omega (arith, length-append before xs),
-            record { before = before; text = xs; behind = []; whole = ap (λ ys. before ++ ys) (sym (append-nil xs)); place = refl; is = text },
+            record { before = before; text = xs; behind = []; whole = ap (λ ys. before ++ ys) (sym (append-nil xs)); place = refl; is = text; read = λ rest. cie_again kind c (length before) big xs rest ranged text },
           )
       by_place (Some p) is = let s = all i p c is got in (omega (arith, s.0, length-append before xs), more_shown before xs s.1)
 
@@ -101,8 +104,8 @@ module _ (kind : FrameKind) (big : Bool) (cies : List CommonInformationEntry) wh
       let behind1 : length (before ++ t.xs) ≡ at1 = omega (arith, length-append before t.xs, long1) in
       let found = some_cie place at1 (slice_get cies i) x.1 t.ys t.second in
       let c = found.0 in
-      let here = shown_here places i before t.xs c all found.1 t.first in
-      let here_by : (d : CommonInformationEntry) → slice_get cies i ≡ Some d → (place ≤ length (before ++ t.xs)) × ShowsCie kind big d place (before ++ t.xs) = λ d g. shown_here places i before t.xs d all g t.first in
+      let here = shown_here places i before t.xs c (told.0.own c found.1) all found.1 t.first in
+      let here_by : (d : CommonInformationEntry) → slice_get cies i ≡ Some d → (place ≤ length (before ++ t.xs)) × ShowsCie kind big d place (before ++ t.xs) = λ d g. shown_here places i before t.xs d (told.0.own d g) all g t.first in
       let rest1 = s.ys ++ rest in
       let after = (before ++ t.xs) ++ t.ys in
       let whole : before ++ (zs ++ rest) ≡ (before ++ t.xs) ++ (t.ys ++ rest1) =

@@ -1,6 +1,6 @@
 -- What writes of FDEs, one after another, come to.
 use Rattle.std.specs.Prelude.{◌≡◌, ℕ, zero, suc, ◌+◌, ◌<◌, ◌≤◌, ◌==◌, ◌&&◌, Bool, true, false, nat_lt, List, [], ◌∷◌, length, get_or, Option, Some, None, IfSome, slice_get, ◌++◌, Result, Ok, Err, OnOk, OnErr, IfOk, refl, IsTrue, if◌then◌else◌}
-use Rattle.std.proofs.Common.{sym, ap, subst, arith, length-append}
+use Rattle.std.proofs.Common.{sym, ap, subst, arith, length-append, ◌∙◌}
 use Rattle.std.proofs.lemmas.Bool.{and_parts, ltb-true, lt-ltb}
 use Rattle.dw_base.specs.declared.error.Error.{Error}
 use Rattle.dw_base.specs.declared.ids.CieId.{CieId}
@@ -9,6 +9,7 @@ use Rattle.dw_writer.specs.Meaning.{Meaning}
 use Rattle.dw_frame.specs.declared.cie.CommonInformationEntry.{CommonInformationEntry}
 use Rattle.dw_frame.specs.declared.fde.FrameDescriptionEntry.{FrameDescriptionEntry}
 use Rattle.dw_frame.specs.declared.kind.FrameKind.{FrameKind}
+use Rattle.dw_frame.specs.ReadCies.{IsRangedCie}
 use Rattle.dw_frame.specs.Reading.{at_zero, IsRanged, IsWide, IsTold}
 use Rattle.dw_frame.specs.Parts.{Placed, Puts}
 use Rattle.dw_frame.specs.Fdes.{fde_part}
@@ -88,9 +89,9 @@ OnOk-always (Ok x) p = p
 OnOk-always (Err e) p = tt
 
 pub frame_told : {T : Type 0} (r : Result T Error) (a b z : Meaning) (kind : FrameKind) (cies : List CommonInformationEntry) (places : Places) (x : CieId × FrameDescriptionEntry) (c : CommonInformationEntry) (at : ℕ) →
-    slice_get cies x.0.0 ≡ Some c → at ≡ place_at (places x.0.0) a.size → Puts {T = Unit {0}} (Ok tt) a b (new_cie kind (places x.0.0) (Some c)) → Puts r b z (fde_part kind at c x.1) → OnOk r (IsRanged x.1) →
+    slice_get cies x.0.0 ≡ Some c → at ≡ place_at (places x.0.0) a.size → Puts {T = Unit {0}} (Ok tt) a b (new_cie kind (places x.0.0) (Some c)) → Puts r b z (fde_part kind at c x.1) → OnOk r (IsRanged x.1) → IsRangedCie c →
     OnOk r (IsTold kind cies places x a.size)
-frame_told (Ok y) a b z kind cies places x c at got is h k ranged =
+frame_told (Ok y) a b z kind cies places x c at got is h k ranged own =
     let first = subst (λ o. Puts {T = Unit {0}} (Ok tt) a b (new_cie kind (places x.0.0) o)) (sym got) h in
     let second : Puts {T = Unit {0}} (Ok tt) b z (fde_of kind at (slice_get cies x.0.0) x.1) = subst (λ o. Puts {T = Unit {0}} (Ok tt) b z (fde_of kind at o x.1)) (sym got) k in
     let third = subst (λ n. Puts {T = Unit {0}} (Ok tt) b z (fde_of kind n (slice_get cies x.0.0) x.1)) is second in
@@ -99,5 +100,6 @@ frame_told (Ok y) a b z kind cies places x c at got is h k ranged =
       cie = λ big. first.0.wide big at_zero;
       fde = subst (λ n. IsWide (fde_of kind (place_at (places x.0.0) a.size) (slice_get cies x.0.0) x.1 n)) behind (λ big. third.0.wide big at_zero);
       ranged = ranged;
+      own = λ d g. let same : c ≡ d = let f : Some c ≡ Some d = sym got ∙ g in cc in subst IsRangedCie same own;
     }
-frame_told (Err e) a b z kind cies places x c at got is h k ranged = tt
+frame_told (Err e) a b z kind cies places x c at got is h k ranged own = tt

@@ -1,11 +1,26 @@
 -- Instructions and advances, worked by hand from the tables of the standard (DWARF 5, 6.4.2 and 7.24).
-use Rattle.std.specs.Prelude.{◌≡◌, ℕ, Some, None, refl, pos, negsuc}
+use Rattle.std.specs.Prelude.{◌≡◌, ℕ, Some, None, refl, pos, negsuc, false, [], ◌∷◌}
 use Rattle.dw_base.specs.declared.common.Register.{Register}
 use Rattle.dw_frame.specs.declared.instruction.CallFrameInstruction.TheVariants.{Cfa, CfaOffset, Restore, Offset, ValOffset}
 use Rattle.dw_frame.specs.Factors.{factored}
 use Rattle.dw_frame.specs.Operands.{Nothing, Uleb, Sleb}
 use Rattle.dw_frame.specs.Instructions.{spell, spelled}
 use Rattle.dw_frame.specs.Advances.{delta, delta_piece}
+use Rattle.dw_base.specs.Leb128.{uleb, uleb_groups, sleb, sleb_groups}
+use Rattle.dw_base.specs.Numbers.{num}
+use Rattle.dw_base.specs.declared.address.Address.TheVariants.{Constant}
+use Rattle.dw_base.specs.declared.common.Format.TheVariants.{Dwarf32}
+use Rattle.dw_writer.specs.SectionTexts.{address_text, offset_text}
+use Rattle.dw_writer.specs.Texts.{Text, followed, num_text}
+use Rattle.dw_frame.specs.declared.cie.CommonInformationEntry.{CommonInformationEntry}
+use Rattle.dw_frame.specs.declared.fde.FrameDescriptionEntry.{FrameDescriptionEntry}
+use Rattle.dw_frame.specs.declared.kind.FrameKind.{FrameKind}
+use Rattle.dw_frame.specs.declared.kind.FrameKind.TheVariants.{Debug, Eh}
+use Rattle.dw_frame.specs.Pieces.{both}
+use Rattle.dw_frame.specs.Parts.{in_turn}
+use Rattle.dw_frame.specs.Entries.{with_length}
+use Rattle.dw_frame.specs.Reading.{at_zero}
+use Rattle.dw_frame.specs.Tables.{frames_part}
 
 abbrev register : ℕ → Register
 register n = record { 0 = n }
@@ -52,3 +67,35 @@ back = refl
 
 advance_text : (delta_piece 63).size ≡ 1
 advance_text = refl
+
+-- One FDE of the CIE of version 1 with the factors 1 and 8 and the column 16, where addresses have 8 bytes
+
+abbrev small_cie : CommonInformationEntry → CommonInformationEntry
+small_cie c = record c {
+  encoding = record { address_size = 8; format = Dwarf32; version = 1 };
+  code_alignment_factor = 1;
+  data_alignment_factor = pos 8;
+  return_address_register = register 16;
+  personality = None;
+  lsda_encoding = None;
+  fde_address_encoding = record { 0 = 0 };
+  signal_trampoline = false;
+}
+
+abbrev small_fde : FrameDescriptionEntry → FrameDescriptionEntry
+small_fde f = record f { address = Constant 0x1000; length = 0x10; lsda = None }
+
+unfoldable small_text : FrameKind → CommonInformationEntry → FrameDescriptionEntry → Text
+small_text kind c f = (frames_part kind (small_cie c ∷ []) ((record { 0 = 0 }, small_fde f) ∷ []) 0).piece.text false at_zero
+
+debug_text : (c : CommonInformationEntry) (f : FrameDescriptionEntry) → c.instructions.items ≡ [] → f.steps.items ≡ [] → small_text Debug c f ≡ Some (
+    0x0c ∷ 0 ∷ 0 ∷ 0 ∷ 0xff ∷ 0xff ∷ 0xff ∷ 0xff ∷ 1 ∷ 0 ∷ 1 ∷ 8 ∷ 0x10 ∷ 0 ∷ 0 ∷ 0
+    ∷ 0x14 ∷ 0 ∷ 0 ∷ 0 ∷ 0 ∷ 0 ∷ 0 ∷ 0 ∷ 0 ∷ 0x10 ∷ 0 ∷ 0 ∷ 0 ∷ 0 ∷ 0 ∷ 0 ∷ 0x10 ∷ 0 ∷ 0 ∷ 0 ∷ 0 ∷ 0 ∷ 0 ∷ 0 ∷ [])
+unfolding small_text in_turn both with_length followed num num_text uleb uleb_groups sleb sleb_groups address_text offset_text
+debug_text c f h k = rw (h, k) refl
+
+unwinding_text : (c : CommonInformationEntry) (f : FrameDescriptionEntry) → c.instructions.items ≡ [] → f.steps.items ≡ [] → small_text Eh c f ≡ Some (
+    0x0c ∷ 0 ∷ 0 ∷ 0 ∷ 0 ∷ 0 ∷ 0 ∷ 0 ∷ 1 ∷ 0 ∷ 1 ∷ 8 ∷ 0x10 ∷ 0 ∷ 0 ∷ 0
+    ∷ 0x14 ∷ 0 ∷ 0 ∷ 0 ∷ 0x14 ∷ 0 ∷ 0 ∷ 0 ∷ 0 ∷ 0x10 ∷ 0 ∷ 0 ∷ 0 ∷ 0 ∷ 0 ∷ 0 ∷ 0x10 ∷ 0 ∷ 0 ∷ 0 ∷ 0 ∷ 0 ∷ 0 ∷ 0 ∷ [])
+unfolding small_text in_turn both with_length followed num num_text uleb uleb_groups sleb sleb_groups address_text
+unwinding_text c f h k = rw (h, k) refl

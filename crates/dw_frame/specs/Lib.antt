@@ -14,4 +14,5 @@ pub mod Fdes
 pub mod Tables
 pub mod Places
 pub mod ReadPointers
+pub mod ReadCies
 pub mod Reading

@@ -3,8 +3,7 @@ use Rattle.std.specs.Prelude.{◌≡◌, ℕ, ◌+◌, ◌-◌, ◌^◌, ◌<◌
 use Rattle.std.specs.Option.{option_map}
 use Rattle.dw_base.specs.Numbers.{Parser, ◌>>=◌, when, number_at, initial_length_at, word_of}
 use Rattle.dw_base.specs.Pointers.{format_of}
-use Rattle.dw_base.specs.declared.address.Address.{Address}
-use Rattle.dw_base.specs.declared.address.Address.TheVariants.{Constant, Symbol}
+use Rattle.dw_base.specs.declared.address.Address.TheVariants.{Constant}
 use Rattle.dw_base.specs.declared.common.Format.{Format}
 use Rattle.dw_base.specs.declared.constants.DwEhPe.{DwEhPe}
 use Rattle.dw_base.specs.declared.ids.CieId.{CieId}
@@ -17,10 +16,7 @@ use Rattle.dw_frame.specs.Parts.{Part}
 use Rattle.dw_frame.specs.Cies.{cie_part}
 use Rattle.dw_frame.specs.Tables.{Places, with_place, place_at, new_cie, fde_of, frame}
 use Rattle.dw_frame.specs.ReadPointers.{data_at, pointer_at}
-
--- where the rest of bytes stands, which themselves stand at a place
-abbrev pub place_of : ℕ → List ℕ → List ℕ → ℕ
-place_of at bytes rest = at + (length bytes - length rest)
+use Rattle.dw_frame.specs.ReadCies.{place_of, IsShort, IsRangedCie, ReadsCie}
 
 -- the field of an FDE that leads to its CIE: the CIE's offset, or how far it stands before the field
 abbrev pub cie_field_at : FrameKind → Bool → Format → ℕ → Parser ℕ
@@ -57,11 +53,6 @@ fde_at kind big c at bytes =
 abbrev pub at_zero : Layout
 at_zero = record { starts = []; own_start = 0; symbols = [] }
 
--- an address of 64 bits
-abbrev pub IsShort : Address → Type 0
-IsShort (Constant n) = n < 2 ^ 64
-IsShort (Symbol s a) = Unit {0}
-
 -- the numbers of an FDE have the widths of their types
 pub record IsRanged (f : FrameDescriptionEntry) : Type 0 where
   pub address : IsShort f.address
@@ -77,7 +68,7 @@ pub record ShowsFde (kind : FrameKind) (big : Bool) (c : CommonInformationEntry)
   pub length : seen.length ≡ f.length
   pub lsda : f.lsda ≡ option_map Constant seen.lsda
 
--- a CIE stands at a place: its text is found there
+-- a CIE stands at a place: its text is found there, and is read as it was built
 pub record ShowsCie (kind : FrameKind) (big : Bool) (c : CommonInformationEntry) (at : ℕ) (bytes : List ℕ) : Type 0 where
   pub before : List ℕ
   pub text : List ℕ
@@ -85,6 +76,7 @@ pub record ShowsCie (kind : FrameKind) (big : Bool) (c : CommonInformationEntry)
   pub whole : bytes ≡ before ++ (text ++ behind)
   pub place : length before ≡ at
   pub is : (cie_part kind c at).piece.text big at_zero ≡ Some text
+  pub read : (rest : List ℕ) → ReadsCie kind big c at (text ++ rest)
 
 -- An FDE of a table is read at some place of a section, by the encodings of the CIE that it was built with. Its field leads
 -- to where that CIE stands.
@@ -110,6 +102,7 @@ pub record IsTold (kind : FrameKind) (cies : List CommonInformationEntry) (place
   pub cie : IsWide (new_cie kind (places x.0.0) (slice_get cies x.0.0) at)
   pub fde : IsWide (fde_of kind (place_at (places x.0.0) at) (slice_get cies x.0.0) x.1 (at + (new_cie kind (places x.0.0) (slice_get cies x.0.0) at).piece.size))
   pub ranged : IsRanged x.1
+  pub own : (c : CommonInformationEntry) → slice_get cies x.0.0 ≡ Some c → IsRangedCie c
 
 module _ (kind : FrameKind) (cies : List CommonInformationEntry) where
   abbrev pub AreTold : Places → List (CieId × FrameDescriptionEntry) → ℕ → Type 0

@@ -1,8 +1,10 @@
 //! Common information entries (DWARF 5, 6.4.1).
 
-ghost use Rattle.std.specs.Prelude.{◌≡◌, [], ◌∷◌, ◌++◌, None, false, OnOk, OnErr, IfOk, IfErr};
+ghost use Rattle.std.specs.Prelude.{◌≡◌, ◌<◌, ◌^◌, [], ◌∷◌, ◌++◌, None, false, IsTrue, IfSome, OnOk, OnErr, IfOk, IfErr};
 ghost use Rattle.dw_base.specs.declared.error.Error.TheVariants.{NoMemory};
 ghost use Rattle.dw_base.specs.declared.constants.TheConstants.{DW_EH_PE_absptr};
+ghost use Rattle.dw_base.specs.Leb128.{fits_i64};
+ghost use Rattle.dw_frame.specs.ReadCies.{IsShort, IsRangedCie};
 ghost use Rattle.dw_frame.specs.Causes.{never, Writes};
 ghost use Rattle.dw_frame.specs.Parts.{only_if, Puts};
 ghost use Rattle.dw_frame.specs.Entries.{counted};
@@ -192,6 +194,19 @@ impl CommonInformationEntry {
         }
     }
 
+    /// Its numbers have the widths of their types, which laws over all numbers have to be told.
+    /// Nothing is done.
+    pub(crate) fn tell_widths(&self)
+        ensures { IsRangedCie self.now }
+    {
+        tell_numbers(
+            self.code_alignment_factor,
+            self.data_alignment_factor,
+            self.return_address_register,
+        );
+        tell_personality(self.personality);
+    }
+
     /// A second entry that equals this one.
     pub fn try_clone(&self) -> Result<CommonInformationEntry>
         ensures ok { IfOk result
@@ -274,4 +289,36 @@ fn write_byte_if<W: Writer>(w: &mut W, holds: bool, byte: u8) -> Result<()>
         return Ok(());
     }
     w.write(&[byte])
+}
+
+/// The numbers of a CIE have the widths of their types.
+fn tell_numbers(code_factor: u8, data_factor: i8, register: Register)
+    ensures code { code_factor < 2 ^ 64 }
+    ensures signed { IsTrue (fits_i64 data_factor) }
+    ensures register { register.0 < 2 ^ 64 }
+{
+    let _numbers = (
+        u64::from(code_factor),
+        i64::from(data_factor),
+        u64::from(register.0),
+    );
+}
+
+fn tell_personality(personality: Option<(DwEhPe, Address)>)
+    ensures { IfSome personality (λ p. IsShort p.1) }
+{
+    match personality {
+        Some((_, address)) => tell_width(address),
+        None => (),
+    }
+}
+
+/// The number of an address has 64 bits.
+pub(crate) fn tell_width(address: Address)
+    ensures { IsShort address }
+{
+    match address {
+        Address::Constant(_) => (),
+        Address::Symbol { .. } => (),
+    }
 }

@@ -5,11 +5,12 @@ ghost use Rattle.dw_base.specs.declared.error.Error.TheVariants.{NoMemory};
 ghost use Rattle.dw_frame.specs.Parts.{only_if, Puts};
 ghost use Rattle.dw_frame.specs.Entries.{counted};
 ghost use Rattle.dw_frame.specs.Programs.{a_step};
-ghost use Rattle.dw_frame.specs.Reading.{IsShort, IsRanged};
+ghost use Rattle.dw_frame.specs.ReadCies.{IsShort};
+ghost use Rattle.dw_frame.specs.Reading.{IsRanged};
 ghost use Rattle.dw_frame.specs.Cies.{is_augmented};
 ghost use Rattle.dw_frame.specs.Fdes.{cie_pointer, encoded_range, plain_range, range_part, lsda_part, fde_contents, fde_part};
 
-use crate::cie::CommonInformationEntry;
+use crate::cie::{CommonInformationEntry, tell_width};
 use crate::entry::{OpenBlock, OpenEntry};
 use crate::instruction::CallFrameInstruction;
 use crate::kind::FrameKind;
@@ -216,15 +217,5 @@ fn tell_widths(address: Address, size: u32, lsda: Option<Address>)
     match lsda {
         Some(lsda) => tell_width(lsda),
         None => (),
-    }
-}
-
-/// The number of an address has 64 bits.
-fn tell_width(address: Address)
-    ensures { IsShort address }
-{
-    match address {
-        Address::Constant(_) => (),
-        Address::Symbol { .. } => (),
     }
 }

@@ -219,6 +219,7 @@ fn write_frame<W: Writer>(
 {
     let (id, fde) = fde;
     let cie = &cies[id.index()];
+    cie.tell_widths();
     let place = write_new_cie(cie, places.get(*id), w, kind)?;
     places.set(*id, place);
     fde.write(w, kind, place, cie)

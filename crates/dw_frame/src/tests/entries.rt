@@ -185,13 +185,10 @@ fn a_function(alloc: Global) -> FrameDescriptionEntry {
 fn turns(alloc: Global) -> Result<FrameTable> {
     let mut frames = FrameTable::new(alloc);
     let first = frames.add_cie(a_cie(alloc, 1, 8))?;
+    frames.add_fde(first, a_function(alloc))?;
     let second = frames.add_cie(a_cie(alloc, 2, 8))?;
-    for cie in [first, second, first] {
-        frames.add_fde(
-            cie,
-            FrameDescriptionEntry::new(alloc, Address::Constant(1), 2),
-        )?;
-    }
+    frames.add_fde(second, a_function(alloc))?;
+    frames.add_fde(first, a_function(alloc))?;
     Ok(frames)
 }
 

@@ -35,7 +35,7 @@ returns-clause-told g c =
     let got = got_at c.args.cies.now c.args.fde.now.0.0 cie c.requires.own (rw c.index.ensures at c.index-cies-index.is) in
     let place = rw c.get.ensures at c.in_ok-place.ensures.place in
     let first = rw c.get.ensures at c.in_ok-place.ensures.part in
-    frame_told c.write.result (g.W.Writer.meaning c.args.w.now) (g.W.Writer.meaning c.write_new_cie.new.w) (g.W.Writer.meaning c.write.new.w) c.args.kind c.args.cies.now (known c.args.places.now.places.items) c.args.fde.now cie c.in_ok-place.place got place first c.write.ensures.part c.write.ensures.ranged
+    frame_told c.write.result (g.W.Writer.meaning c.args.w.now) (g.W.Writer.meaning c.write_new_cie.new.w) (g.W.Writer.meaning c.write.new.w) c.args.kind c.args.cies.now (known c.args.places.now.places.items) c.args.fde.now cie c.in_ok-place.place got place first c.write.ensures.part c.write.ensures.ranged c.tell_widths.ensures
 
 pub returns-clause-before : goal.returns-clause-before
 returns-clause-before g c =
