@@ -123,7 +123,7 @@ uleb_shorter bs x e =
     let p = bind_parts (groups_at bs) (λ (y : ℕ × List ℕ). when (nat_lt y.0 (2 ^ 64)) (Some y)) x (grammar_is ℕ uleb_at uleb_read bs x uleb_law e) in
     groups_shorter bs x (p.1 ∙ when_same (nat_lt p.0.0 (2 ^ 64)) (Some p.0) x p.2)
 
-uleb16_shorter : (bs : List ℕ) (x : ℕ × List ℕ) → uleb16_read bs ≡ Ok x → length x.1 < length bs
+pub uleb16_shorter : (bs : List ℕ) (x : ℕ × List ℕ) → uleb16_read bs ≡ Ok x → length x.1 < length bs
 unfolding uleb16_read
 uleb16_shorter bs x e =
     let p = then_parts (uleb_read bs) (λ (y : ℕ × List ℕ). if_so (nat_lt y.0 (2 ^ 16)) BadLeb128 (Ok y)) x e in
@@ -132,7 +132,7 @@ uleb16_shorter bs x e =
     let s : length p.0.1 < length bs = uleb_shorter bs p.0 p.1 in
     omega (arith, s, ap (λ (y : ℕ × List ℕ). length y.1) r)
 
-sleb_shorter : (bs : List ℕ) (x : ℤ × List ℕ) → sleb_read bs ≡ Ok x → length x.1 < length bs
+pub sleb_shorter : (bs : List ℕ) (x : ℤ × List ℕ) → sleb_read bs ≡ Ok x → length x.1 < length bs
 unfolding sleb_at
 sleb_shorter bs x e =
     let p = bind_parts (signed_groups_at bs) (λ (y : ℤ × List ℕ). when (fits_i64 y.0) (Some y)) x (grammar_is ℤ sleb_at sleb_read bs x sleb_law e) in

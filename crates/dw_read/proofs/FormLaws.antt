@@ -1,11 +1,11 @@
 -- A reading of operands, attributes and rows with reasons reads what the grammar reads.
-use Rattle.std.proofs.Common.{◌≡◌, ◌∙◌, ap, ℕ, Bool, true, false, List, [], ◌∷◌, Option, Some, None, Result, Ok, Err, refl, not, nat_eq, if◌then◌else◌}
+use Rattle.std.proofs.Common.{◌≡◌, ◌∙◌, ℕ, Bool, true, false, List, [], ◌∷◌, Option, Some, None, Result, Ok, refl, not, nat_eq, if◌then◌else◌}
 use Rattle.std.specs.Result.{result_ok}
 use Rattle.dw_base.specs.Numbers.{◌>>=◌, bytes_at, number_at}
 use Rattle.dw_base.specs.Leb128.{uleb_at, uleb16_at, sleb_at}
 use Rattle.dw_base.specs.Forms.{Operand, Kind, Empty, Fixed, Uleb, Sleb, Block, UlebBlock, Zeroed, Indirect, kind_of, text_at, direct_at, indirect_at, kind_at, form_at, implicit_const}
-use Rattle.dw_base.specs.Abbreviations.{Specification, Shape, Declaration, shape_of_code}
-use Rattle.dw_base.specs.Entries.{ReadAttribute, ReadEntry, Mark, Open, attributes_at, mark_at}
+use Rattle.dw_base.specs.Abbreviations.{Specification, Declaration, shape_of_code}
+use Rattle.dw_base.specs.Entries.{ReadAttribute, ReadEntry, Mark, attributes_at, mark_at}
 use Rattle.dw_base.specs.declared.common.Encoding.{Encoding}
 use Rattle.dw_read.specs.Reasons.{◌=>>◌, or_refuse, bytes_read, number_read, uleb_read, uleb16_read, sleb_read, text_read}
 use Rattle.dw_read.specs.FormReasons.{unknown_form, direct_read, indirect_read, kind_read, form_read, attribute_read, attributes_read, mark_read}

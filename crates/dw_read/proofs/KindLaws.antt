@@ -1,5 +1,5 @@
 -- Forms, by their layouts.
-use Rattle.std.proofs.Common.{◌≡◌, ◌∙◌, sym, ap, subst, ℕ, ◌<◌, List, Option, Some, None, refl, arith}
+use Rattle.std.proofs.Common.{◌≡◌, ◌∙◌, sym, ap, ℕ, ◌<◌, Some, None, refl, arith}
 use borrow.Author.Tests.{ne_eqb}
 use Rattle.dw_base.specs.Forms.{Kind, kinds, kind_among, kind_of}
 use Rattle.dw_base.specs.declared.common.Encoding.{Encoding}

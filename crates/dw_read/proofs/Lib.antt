@@ -12,6 +12,7 @@ pub mod Reasoned
 pub mod Chain
 pub mod Items
 pub mod Declared
+pub mod Shorter
 pub mod Indexed
 pub mod TableLaws
 pub mod HeaderRead

@@ -1,7 +1,7 @@
 -- Operands and their forms, from what was read of them.
-use Rattle.std.proofs.Common.{◌≡◌, ◌∙◌, sym, ap, subst, ℕ, ◌^◌, ◌<◌, ◌≤◌, Bool, true, false, List, Option, Some, None, Ok, Err, Result, ℤ, refl, arith, nat_eq, if◌then◌else◌}
+use Rattle.std.proofs.Common.{◌≡◌, ◌∙◌, sym, ap, subst, ℕ, Bool, List, Option, Some, None, Ok, Err, Result, ℤ, refl}
 use Rattle.std.proofs.lemmas.Bool.{ne_eqb, eq-eqb}
-use Rattle.dw_base.specs.Forms.{Operand, Absent, Number, Signed, Bytes, Text, Kind, Empty, Fixed, Uleb, Sleb, Block, UlebBlock, Zeroed, Indirect, kind_of, implicit_const}
+use Rattle.dw_base.specs.Forms.{Operand, Absent, Number, Signed, Bytes, Text, Kind, kind_of, implicit_const}
 use Rattle.dw_base.specs.declared.common.Encoding.{Encoding}
 use Rattle.dw_base.specs.declared.constants.TheConstants.{DW_FORM_indirect}
 use Rattle.dw_read.specs.Reasons.{◌=>>◌, bytes_read, number_read, uleb_read, uleb16_read, sleb_read, text_read}

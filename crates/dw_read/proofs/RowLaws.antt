@@ -1,9 +1,8 @@
 -- Rows, from their codes and their attributes.
-use Rattle.std.proofs.Common.{◌≡◌, ◌∙◌, sym, ap, subst, ℕ, ◌<◌, ◌≤◌, length, ⊎_elim, Bool, List, Option, Some, None, Ok, Err, ◌⊎◌, inl, inr, refl}
+use Rattle.std.proofs.Common.{◌≡◌, ◌∙◌, sym, ap, subst, ℕ, ◌<◌, ◌≤◌, length, ⊎_elim, Bool, List, Some, None, Ok, Err, ◌⊎◌, inl, inr, refl}
 use borrow.Author.Tests.{ne_eqb}
 use Rattle.std.proofs.lemmas.Bool.{cases_lt}
 use Rattle.dw_base.specs.Numbers.{bytes_at}
-use Rattle.dw_base.specs.Leb128.{uleb_at}
 use Rattle.dw_base.specs.Abbreviations.{Specification, Shape, Declaration, shape_of_code}
 use Rattle.dw_base.specs.Entries.{ReadAttribute, ReadEntry, Mark, Open, Null, attributes_at, mark_at}
 use Rattle.dw_base.specs.declared.common.Encoding.{Encoding}
@@ -14,7 +13,7 @@ use Rattle.dw_read.specs.FormReasons.{attributes_read, mark_read}
 use Rattle.dw_read.specs.Rows.{NoCode}
 use Rattle.dw_read.specs.declared.error.ReadError.{ReadError}
 use Rattle.dw_read.specs.declared.error.ReadError.TheVariants.{NoMemory, UnknownAbbreviation}
-use Rattle.dw_read.proofs.Laws.{refuses, uleb_law}
+use Rattle.dw_read.proofs.Laws.{refuses}
 use Rattle.dw_read.proofs.Reasoned.{enough}
 use Rattle.dw_read.proofs.Chain.{took, went, went_then, went_order, reads_of}
 use Rattle.dw_read.proofs.FormLaws.{attributes_law, mark_law}

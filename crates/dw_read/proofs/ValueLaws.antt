@@ -4,7 +4,7 @@ use Rattle.std.proofs.lemmas.Bool.{lt-ltb, le-ltb}
 use Rattle.dw_base.specs.Forms.{Operand, Absent, Signed, Bytes, Text}
 use Rattle.dw_base.specs.Entries.{ReadAttribute}
 use Rattle.dw_base.specs.declared.common.Encoding.{Encoding}
-use Rattle.dw_read.specs.Values.{Value, row_among, index_rows, index_value, number_rows, number_value, place_rows, place_value, is_among, old_place_names, is_old_place_name, expression_names, is_expression_name, lookup, byte_rows, wide_rows, wide_or, byte_value, typed_value, is_old_place, raw_by, raw_value_of, absent_value, block_value}
+use Rattle.dw_read.specs.Values.{Value, row_among, index_rows, index_value, number_rows, number_value, place_rows, place_value, is_among, old_place_names, is_old_place_name, expression_names, is_expression_name, lookup, byte_rows, wide_rows, byte_value, typed_value, is_old_place, raw_by, raw_value_of, absent_value, block_value}
 use Rattle.dw_read.specs.declared.value.AttributeValue.TheVariants.{Udata, SecOffset, Sdata, String}
 
 pub index_is : (form k n : ℕ) (v : Value) → form ≡ k → row_among (λ m. Udata (m % 2 ^ 64)) k index_rows n ≡ v → v ≡ index_value form n

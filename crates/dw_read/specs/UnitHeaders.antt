@@ -43,9 +43,9 @@ pub record PassesUnit {R E : Type 0} (reading : R → Reading) (old new : UnitHe
 abbrev pub IsOver : {R E : Type 0} → (R → Reading) → UnitHeadersIter R E → Type 0
 IsOver reading w = (w.has_failed ≡ true) ⊎ (length (left (reading w.input)) ≡ 0)
 
--- the grammar reads no header, for this reason, and the walk ends where it stands
+-- the walk wasn't over; the grammar reads no header, for this reason, and the walk ends where it stands
 pub record HeaderRefused {R E : Type 0} (reading : R → Reading) (old new : UnitHeadersIter R E) (e : ReadError) : Type 0 where
-  pub not_over : old.has_failed ≡ false
+  pub not_over : IsOver reading old → ⊥
   pub kept : new ≡ record old { has_failed = true }
   pub none : header_at (reading old.input).is_big (left (reading old.input)) ≡ None
   pub reason : header_read (reading old.input).is_big (left (reading old.input)) ≡ Err e

@@ -1,4 +1,4 @@
-use Rattle.std.proofs.Common.{sym, refl, ◌∷◌, ◌++◌, [], map, get_or, None, List}
+use Rattle.std.proofs.Common.{sym, refl, ◌∷◌, ◌++◌, [], map, get_or, None}
 use Rattle.std.proofs.lemmas.Result.{err_from_is_err_and}
 use Rattle.std.proofs.lemmas.List.{get_or-map, length-map}
 use Rattle.dw_read.specs.Attributes.{attribute_of}

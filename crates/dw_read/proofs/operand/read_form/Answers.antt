@@ -1,7 +1,6 @@
-use Rattle.std.proofs.Common.{◌≡◌, ◌∙◌, sym, ap, subst, ℕ, Ok, Err}
+use Rattle.std.proofs.Common.{◌∙◌, sym, ℕ}
 use Rattle.std.proofs.lemmas.Result.{err_from_is_err_and}
 use Rattle.dw_base.specs.Forms.{Operand}
-use Rattle.dw_read.specs.Reading.{left}
 use Rattle.dw_read.specs.Kinds.{kind_in_grammar}
 use Rattle.dw_read.specs.FormReasons.{direct_read, indirect_read, form_read}
 use Rattle.dw_read.proofs.Chain.{took, went}

@@ -1,4 +1,4 @@
-use Rattle.std.proofs.Common.{◌≡◌, ◌∙◌, sym, ap, subst, Err, refl}
+use Rattle.std.proofs.Common.{◌≡◌, ◌∙◌, sym, ap, subst, length, true, false, ⊎_elim, Err, refl}
 use Rattle.std.specs.Result.{result_ok}
 use Rattle.dw_read.specs.Reading.{Reading, left}
 use Rattle.dw_read.specs.Headers.{header_read}
@@ -22,7 +22,7 @@ returns-in-Err g c =
     let old : Reading = g.R.Reader.reading c.args.self.now.input in
     let e : header_read old.is_big (left old) ≡ Err c.in-Err.error = subst (λ (r : Reading). header_read r.is_big (left r) ≡ Err c.in-Err.error) c.duplicate-after.ensures c.in-Err.ensures.err in
     record {
-      not_over = c.if-self.false;
+      not_over = ⊎_elim (λ (f : c.args.self.now.has_failed ≡ true). let t : c.args.self.now.has_failed ≡ false = c.if-self.false in cc) (λ (z : length (left old) ≡ 0). c.if-len-eq0.false (c.len.ensures ∙ z));
       kept = refl;
       none = sym (header_law old.is_big (left old)) ∙ ap result_ok e;
       reason = e;
