@@ -1,3 +1,5 @@
+mod bases;
+
 use crate::{Dwarf, Unit, UnitRef};
 use dw_base::constants::*;
 use dw_base::{DebugStrOffset, LittleEndian, UnitOffset};
@@ -8,14 +10,14 @@ use dw_read::{
 use std::alloc::Global;
 use std::test::Fail;
 
-type Little<'a> = EndianSlice<'a, LittleEndian>;
+pub(crate) type Little<'a> = EndianSlice<'a, LittleEndian>;
 
-fn section(bytes: &[u8]) -> Little<'_> {
+pub(crate) fn section(bytes: &[u8]) -> Little<'_> {
     EndianSlice::new(bytes, LittleEndian)
 }
 
 /// Sections of which all but five are empty.
-fn sections<'a>(
+pub(crate) fn sections<'a>(
     info: &'a [u8],
     abbrev: &'a [u8],
     strings: &'a [u8],
@@ -37,7 +39,7 @@ fn sections<'a>(
     }
 }
 
-fn first<'a>(alloc: Global, dwarf: &Dwarf<Little<'a>>) -> ReadResult<Unit<Little<'a>>> {
+pub(crate) fn first<'a>(alloc: Global, dwarf: &Dwarf<Little<'a>>) -> ReadResult<Unit<Little<'a>>> {
     let Some(header) = dwarf.units().next()? else {
         return Err(ReadError::UnexpectedEof);
     };
