@@ -1,3 +1,5 @@
 pub mod LookupLaws
 pub mod RootLaws
 pub mod UnitLaws
+mod EndLaws
+pub mod WalkLaws

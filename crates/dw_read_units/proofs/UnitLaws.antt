@@ -1,8 +1,8 @@
 -- A unit's root and its fields.
-use Rattle.std.proofs.Common.{◌≡◌, ◌∙◌, sym, ap, subst, ℕ, List, [], ◌∷◌, map, All, Bool, Option, Some, None, refl}
+use Rattle.std.proofs.Common.{◌≡◌, ◌∙◌, ap, subst, ℕ, List, [], ◌∷◌, map, All, Some, refl}
 use Rattle.std.proofs.lemmas.List.Elements.{All-head, All-tail}
 use Rattle.dw_base.specs.Abbreviations.{Declaration}
-use Rattle.dw_base.specs.Entries.{ReadAttribute, ReadEntry, Mark, mark_at}
+use Rattle.dw_base.specs.Entries.{ReadEntry, Mark, mark_at}
 use Rattle.dw_base.specs.declared.common.Encoding.{Encoding}
 use Rattle.dw_read.specs.Reading.{Reading, left}
 use Rattle.dw_read.specs.Attributes.{attribute_of}

@@ -6,3 +6,4 @@ pub mod RootFields
 pub mod Texts
 pub mod UnitReads
 pub mod Begins
+pub mod Walks

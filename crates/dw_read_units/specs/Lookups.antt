@@ -1,5 +1,5 @@
 -- What stands at offsets of sections, and what indices lead to (DWARF 5, 7.26 to 7.29).
-use Rattle.std.specs.Prelude.{◌≡◌, ◌⊎◌, ℕ, ◌+◌, ◌*◌, ◌^◌, ◌≤◌, List, drop, Bool, Some, None, Err}
+use Rattle.std.specs.Prelude.{◌≡◌, ◌⊎◌, ℕ, ◌+◌, ◌*◌, ◌^◌, ◌≤◌, List, drop, Some, None, Err}
 use Rattle.dw_base.specs.Numbers.{Parser, number_at}
 use Rattle.dw_read.specs.Reading.{Reading, Read, left}
 use Rattle.dw_read.specs.Reasons.{number_read}

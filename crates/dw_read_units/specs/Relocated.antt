@@ -1,5 +1,5 @@
 -- What a split unit takes over from its skeleton.
-use Rattle.std.specs.Prelude.{ℕ, nat_lt, if◌then◌else◌}
+use Rattle.std.specs.Prelude.{nat_lt, if◌then◌else◌}
 use Rattle.dw_read_units.specs.declared.dwarf.Unit.{Unit as ReadUnit}
 
 -- the address of the lists' offsets and the base of indexed addresses, and below version 5 that of range lists

@@ -1,5 +1,5 @@
 -- What reading a unit answers.
-use Rattle.std.specs.Prelude.{◌≡◌, ◌⊎◌, ℕ, List, map, All, Some, Err}
+use Rattle.std.specs.Prelude.{◌≡◌, ◌⊎◌, ℕ, List, map, All, Some}
 use Rattle.dw_base.specs.Abbreviations.{Declaration, table_at}
 use Rattle.dw_base.specs.declared.constants.TheConstants.{DW_AT_low_pc, DW_AT_name, DW_AT_comp_dir}
 use Rattle.dw_base.specs.Entries.{ReadEntry, Mark, Open, Null, mark_at}

@@ -1,7 +1,6 @@
 -- Units with the sections of their file.
-use Rattle.std.specs.Prelude.{ℕ, nat_lt, if◌then◌else◌}
+use Rattle.std.specs.Prelude.{ℕ}
 use Rattle.dw_base.specs.Numbers.{word_of}
-use Rattle.dw_read_units.specs.declared.dwarf.Unit.{Unit as ReadUnit}
 use Rattle.dw_read_units.specs.declared.unit_ref.UnitRef.{UnitRef}
 
 -- the bytes of a unit's words and addresses

@@ -1,5 +1,4 @@
-use Rattle.std.proofs.Common.{◌∙◌, ap, length, arith}
-use Rattle.dw_read.specs.Reading.{left}
+use Rattle.std.proofs.Common.{arith}
 use Rattle.dw_read.proofs.Reasoned.{enough}
 use Rattle.dw_read_units.proofs.LookupLaws.{from_passed}
 use Rattle.dw_read_units.proofs.lookup.section_from.Goals as goal

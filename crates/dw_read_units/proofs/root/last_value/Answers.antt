@@ -1,4 +1,3 @@
-use Rattle.std.proofs.Common.{refl}
 use Rattle.dw_read_units.specs.Roots.{named_in, last_value}
 use Rattle.dw_read_units.proofs.RootLaws.{later_step, later_end}
 use Rattle.dw_read_units.proofs.root.last_value.Goals as goal

@@ -1,0 +1,3 @@
+mod RowWalk
+mod UnitParts
+mod UnitWalk

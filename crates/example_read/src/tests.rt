@@ -1,0 +1,6 @@
+mod cuts;
+mod fixture;
+mod flips;
+mod forms;
+mod names;
+mod trees;
