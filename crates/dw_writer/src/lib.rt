@@ -9,16 +9,10 @@ mod fixup;
 mod leb128;
 mod number;
 mod pointer;
-#[cfg(test)]
-mod pointer_tests;
 mod reloc_vec;
 mod relocate;
 mod section;
 mod sections;
-#[cfg(test)]
-mod tests;
-#[cfg(test)]
-mod vector_tests;
 mod writer;
 
 pub use bytes::Bytes;

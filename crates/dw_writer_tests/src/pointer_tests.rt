@@ -1,12 +1,12 @@
 //! Pointers of call frame tables over plain and relocating vectors.
 
-use crate::{EndianVec, RelocVec, Relocation, RelocationTarget, Writer};
 use dw_base::constants::{
     DW_EH_PE_absptr, DW_EH_PE_pcrel, DW_EH_PE_sdata2, DW_EH_PE_sdata4, DW_EH_PE_sdata8,
     DW_EH_PE_sleb128, DW_EH_PE_textrel, DW_EH_PE_udata2, DW_EH_PE_udata4, DW_EH_PE_udata8,
     DW_EH_PE_uleb128,
 };
 use dw_base::{Address, DwEhPe, Error, Result, RunTimeEndian};
+use dw_writer::{EndianVec, RelocVec, Relocation, RelocationTarget, Writer};
 use std::process::Abort;
 use std::test::Fail;
 

@@ -1,64 +1,69 @@
 ghost use Rattle.std.specs.Prelude.{◌≡◌, IfOk};
 
-use crate::{Bytes, DebugInfo, DebugInfoFixup, EndianVec, FixupList, Section, Sections, Writer};
 use dw_base::{
     Address, BigEndian, DebugInfoOffset, Error, Format, LittleEndian, Result, RunTimeEndian,
     SectionId, UnitEntryId, UnitId,
+};
+use dw_writer::{
+    Bytes, DebugInfo, DebugInfoFixup, EndianVec, FixupList, Section, Sections, Writer,
 };
 use std::alloc::{AllocError, Global};
 use std::process::Abort;
 use std::test::Fail;
 
-/// One number of each width, through the bound.
-fn write_numbers<W: Writer>(w: &mut W) -> Result<()> {
+/// Numbers of one width each, through the bound.
+fn write_fixed<W: Writer>(w: &mut W) -> Result<()> {
     w.write_u8(0x01)?;
     w.write_u16(0x0203)?;
     w.write_u32(0x0405_0607)?;
-    w.write_u64(0x0809_0a0b_0c0d_0e0f)?;
+    w.write_u64(0x0809_0a0b_0c0d_0e0f)
+}
+
+/// Numbers with their widths.
+fn write_by_width<W: Writer>(w: &mut W) -> Result<()> {
     w.write_udata(0x1011, 2)?;
     w.write_sdata(-2, 4)
 }
 
 #[test]
-fn puts_numbers_in_its_order(rt: HostRuntime) -> std::result::Result<(), Fail> {
-    let mut big = EndianVec::new(rt.alloc(), BigEndian);
-    write_numbers(&mut big)?;
-    assert_eq!(rt;
-        big.slice(),
-        [
-            0x01, 0x02, 0x03, 0x04, 0x05, 0x06, 0x07, 0x08, 0x09, 0x0a, 0x0b, 0x0c, 0x0d, 0x0e,
-            0x0f, 0x10, 0x11, 0xff, 0xff, 0xff, 0xfe,
-        ]
-        .as_slice()
-    );
-    let mut little = EndianVec::new(rt.alloc(), LittleEndian);
-    write_numbers(&mut little)?;
-    assert_eq!(rt;
-        little.slice(),
-        [
-            0x01, 0x03, 0x02, 0x07, 0x06, 0x05, 0x04, 0x0f, 0x0e, 0x0d, 0x0c, 0x0b, 0x0a, 0x09,
-            0x08, 0x11, 0x10, 0xfe, 0xff, 0xff, 0xff,
-        ]
-        .as_slice()
-    );
+fn puts_numbers_in_big_order(rt: HostRuntime) -> std::result::Result<(), Fail> {
+    let mut w = EndianVec::new(rt.alloc(), BigEndian);
+    write_fixed(&mut w)?;
+    write_by_width(&mut w)?;
+    let bytes = [
+        0x01, 0x02, 0x03, 0x04, 0x05, 0x06, 0x07, 0x08, 0x09, 0x0a, 0x0b, 0x0c, 0x0d, 0x0e, 0x0f,
+        0x10, 0x11, 0xff, 0xff, 0xff, 0xfe,
+    ];
+    assert!(rt; w.slice() == bytes.as_slice());
     Ok(())
 }
 
 #[test]
+fn puts_numbers_in_little_order(rt: HostRuntime) -> std::result::Result<(), Fail> {
+    let mut w = EndianVec::new(rt.alloc(), LittleEndian);
+    write_fixed(&mut w)?;
+    write_by_width(&mut w)?;
+    let bytes = [
+        0x01, 0x03, 0x02, 0x07, 0x06, 0x05, 0x04, 0x0f, 0x0e, 0x0d, 0x0c, 0x0b, 0x0a, 0x09, 0x08,
+        0x11, 0x10, 0xfe, 0xff, 0xff, 0xff,
+    ];
+    assert!(rt; w.slice() == bytes.as_slice());
+    Ok(())
+}
+
+/// What a vector of an order holds of a number of sixteen bytes.
+fn of_sixteen(alloc: Global, order: RunTimeEndian) -> Result<EndianVec<RunTimeEndian>> {
+    let mut w = EndianVec::new(alloc, order);
+    w.write_u128(0x0001_0203_0405_0607_0809_0a0b_0c0d_0e0f)?;
+    Ok(w)
+}
+
+#[test]
 fn puts_sixteen_bytes_in_its_order(rt: HostRuntime) -> std::result::Result<(), Fail> {
-    let val = 0x0001_0203_0405_0607_0809_0a0b_0c0d_0e0f;
-    let mut w = EndianVec::new(rt.alloc(), RunTimeEndian::Big);
-    w.write_u128(val)?;
-    assert_eq!(rt;
-        w.slice(),
-        [0, 1, 2, 3, 4, 5, 6, 7, 8, 9, 10, 11, 12, 13, 14, 15].as_slice()
-    );
-    let mut w = EndianVec::new(rt.alloc(), RunTimeEndian::Little);
-    w.write_u128(val)?;
-    assert_eq!(rt;
-        w.slice(),
-        [15, 14, 13, 12, 11, 10, 9, 8, 7, 6, 5, 4, 3, 2, 1, 0].as_slice()
-    );
+    let big = [0, 1, 2, 3, 4, 5, 6, 7, 8, 9, 10, 11, 12, 13, 14, 15];
+    let little = [15, 14, 13, 12, 11, 10, 9, 8, 7, 6, 5, 4, 3, 2, 1, 0];
+    assert!(rt; of_sixteen(rt.alloc(), RunTimeEndian::Big)?.slice() == big.as_slice());
+    assert!(rt; of_sixteen(rt.alloc(), RunTimeEndian::Little)?.slice() == little.as_slice());
     Ok(())
 }
 
@@ -69,21 +74,19 @@ fn puts_leb128(rt: HostRuntime) -> std::result::Result<(), Fail> {
     for val in [2, 127, 128, 129, 12857, 624485] {
         w.write_uleb128(val)?;
     }
-    assert_eq!(rt;
-        w.slice(),
-        [
-            0x02, 0x7f, 0x80, 0x01, 0x81, 0x01, 0xb9, 0x64, 0xe5, 0x8e, 0x26,
-        ]
-        .as_slice()
-    );
+    let bytes = b"\x02\x7f\x80\x01\x81\x01\xb9\x64\xe5\x8e\x26";
+    assert!(rt; w.slice() == bytes.as_slice());
+    Ok(())
+}
+
+#[test]
+fn puts_signed_leb128(rt: HostRuntime) -> std::result::Result<(), Fail> {
     let mut w = EndianVec::new(rt.alloc(), LittleEndian);
     for val in [2, -2, 127, -127, 128, -128] {
         w.write_sleb128(val)?;
     }
-    assert_eq!(rt;
-        w.slice(),
-        [0x02, 0x7e, 0xff, 0x00, 0x81, 0x7f, 0x80, 0x01, 0x80, 0x7f,].as_slice()
-    );
+    let bytes = b"\x02\x7e\xff\x00\x81\x7f\x80\x01\x80\x7f";
+    assert!(rt; w.slice() == bytes.as_slice());
     Ok(())
 }
 
@@ -92,14 +95,8 @@ fn puts_the_longest_leb128(rt: HostRuntime) -> std::result::Result<(), Fail> {
     let mut w = EndianVec::new(rt.alloc(), LittleEndian);
     w.write_uleb128(u64::MAX)?;
     w.write_sleb128(i64::MIN)?;
-    assert_eq!(rt;
-        w.slice(),
-        [
-            0xff, 0xff, 0xff, 0xff, 0xff, 0xff, 0xff, 0xff, 0xff, 0x01, 0x80, 0x80, 0x80, 0x80,
-            0x80, 0x80, 0x80, 0x80, 0x80, 0x7f,
-        ]
-        .as_slice()
-    );
+    let bytes = b"\xff\xff\xff\xff\xff\xff\xff\xff\xff\x01\x80\x80\x80\x80\x80\x80\x80\x80\x80\x7f";
+    assert!(rt; w.slice() == bytes.as_slice());
     Ok(())
 }
 
@@ -115,13 +112,8 @@ fn fills_a_length_in(rt: HostRuntime) -> std::result::Result<(), Fail> {
     let mut w = EndianVec::new(rt.alloc(), BigEndian);
     write_with_length(&mut w, Format::Dwarf32)?;
     write_with_length(&mut w, Format::Dwarf64)?;
-    assert_eq!(rt;
-        w.into_vec().as_slice(),
-        [
-            0, 0, 0, 2, 0x68, 0x69, 0xff, 0xff, 0xff, 0xff, 0, 0, 0, 0, 0, 0, 0, 2, 0x68, 0x69,
-        ]
-        .as_slice()
-    );
+    let bytes = b"\0\0\0\x02hi\xff\xff\xff\xff\0\0\0\0\0\0\0\x02hi";
+    assert!(rt; w.into_vec().as_slice() == bytes.as_slice());
     Ok(())
 }
 
@@ -133,46 +125,92 @@ fn copy_of<W: Writer + Clone>(w: &W) -> std::result::Result<W, AllocError>
     w.clone()
 }
 
-#[test]
-fn puts_offsets_and_addresses_as_they_are(rt: HostRuntime) -> std::result::Result<(), Fail> {
-    let mut w = EndianVec::new(rt.alloc(), LittleEndian);
+/// An address and an offset.
+fn write_places<W: Writer>(w: &mut W) -> Result<()> {
     w.write_address(Address::Constant(0x1234), 8)?;
-    w.write_offset(0x56, SectionId::DebugStr, 4)?;
-    let copy = copy_of(&w)?;
+    w.write_offset(0x56, SectionId::DebugStr, 4)
+}
+
+/// Another offset and other numbers over them.
+fn patch_places<W: Writer>(w: &mut W) -> Result<()> {
     w.write_offset_at(8, 0x78, SectionId::DebugStr, 4)?;
     w.write_udata_at(0, 0x9abc, 2)?;
     w.write_u16_at(2, 0x0102)?;
-    w.write_u8_at(4, 0x03)?;
-    assert_eq!(rt;
-        copy.slice(),
-        [0x34, 0x12, 0, 0, 0, 0, 0, 0, 0x56, 0, 0, 0].as_slice()
-    );
-    assert_eq!(rt;
-        w.slice(),
-        [0xbc, 0x9a, 2, 1, 3, 0, 0, 0, 0x78, 0, 0, 0].as_slice()
-    );
+    w.write_u8_at(4, 0x03)
+}
+
+#[test]
+fn puts_offsets_and_addresses_as_they_are(rt: HostRuntime) -> std::result::Result<(), Fail> {
+    let mut w = EndianVec::new(rt.alloc(), LittleEndian);
+    write_places(&mut w)?;
+    let copy = copy_of(&w)?;
+    patch_places(&mut w)?;
+    assert!(rt; copy.slice() == b"\x34\x12\0\0\0\0\0\0\x56\0\0\0".as_slice());
+    assert!(rt; w.slice() == b"\xbc\x9a\x02\x01\x03\0\0\0\x78\0\0\0".as_slice());
+    Ok(())
+}
+
+/// A vector of no bytes.
+fn new_vector(alloc: Global) -> EndianVec<LittleEndian> {
+    EndianVec::new(alloc, LittleEndian)
+}
+
+#[test]
+fn refuses_widths_and_numbers(rt: HostRuntime) -> std::result::Result<(), Fail> {
+    for (number, size, why) in [
+        (0, 3, Error::UnsupportedWordSize(3)),
+        (256, 1, Error::ValueTooLarge),
+    ] {
+        let mut w = new_vector(rt.alloc());
+        assert!(rt;
+            w.write_udata(number, size) == Err(why) && w.len() == 0,
+            "at {number}"
+        );
+    }
     Ok(())
 }
 
 #[test]
-fn refuses_what_does_not_fit(rt: HostRuntime) -> std::result::Result<(), Fail> {
-    let mut w = EndianVec::new(rt.alloc(), LittleEndian);
+fn refuses_signed_numbers(rt: HostRuntime) -> std::result::Result<(), Fail> {
+    for number in [128, -129] {
+        let mut w = new_vector(rt.alloc());
+        let answer = w.write_sdata(number, 1);
+        assert!(rt;
+            answer == Err(Error::ValueTooLarge) && w.len() == 0,
+            "at {number}"
+        );
+    }
+    Ok(())
+}
+
+#[test]
+fn refuses_symbols(rt: HostRuntime) -> std::result::Result<(), Fail> {
     let symbol = Address::Symbol {
         symbol: 0,
         addend: 0,
     };
-    assert_eq!(rt; w.write_udata(0, 3), Err(Error::UnsupportedWordSize(3)));
-    assert_eq!(rt; w.write_udata(256, 1), Err(Error::ValueTooLarge));
-    assert_eq!(rt; w.write_sdata(128, 1), Err(Error::ValueTooLarge));
-    assert_eq!(rt; w.write_sdata(-129, 1), Err(Error::ValueTooLarge));
-    assert_eq!(rt; w.write_address(symbol, 8), Err(Error::InvalidAddress));
-    assert_eq!(rt; w.len(), 0);
+    let mut w = new_vector(rt.alloc());
+    assert!(rt; w.write_address(symbol, 8) == Err(Error::InvalidAddress) && w.len() == 0);
+    Ok(())
+}
+
+#[test]
+fn refuses_patches_past_the_end(rt: HostRuntime) -> std::result::Result<(), Fail> {
+    let mut w = new_vector(rt.alloc());
     w.write_u32(0)?;
-    assert_eq!(rt; w.write_u16_at(5, 1), Err(Error::OffsetOutOfBounds));
-    assert_eq!(rt; w.write_u16_at(3, 1), Err(Error::LengthOutOfBounds));
-    let too_long = w.write_initial_length_at(0, 0xffff_fff0, Format::Dwarf32);
-    assert_eq!(rt; too_long, Err(Error::InitialLengthOverflow));
-    assert_eq!(rt; w.slice(), [0, 0, 0, 0].as_slice());
+    assert!(rt; w.write_u16_at(5, 1) == Err(Error::OffsetOutOfBounds));
+    assert!(rt; w.write_u16_at(3, 1) == Err(Error::LengthOutOfBounds));
+    assert!(rt; w.slice() == b"\0\0\0\0".as_slice());
+    Ok(())
+}
+
+#[test]
+fn refuses_a_length_that_is_an_escape(rt: HostRuntime) -> std::result::Result<(), Fail> {
+    let mut w = new_vector(rt.alloc());
+    w.write_u32(0)?;
+    let answer = w.write_initial_length_at(0, 0xffff_fff0, Format::Dwarf32);
+    assert!(rt; answer == Err(Error::InitialLengthOverflow));
+    assert!(rt; w.slice() == b"\0\0\0\0".as_slice());
     Ok(())
 }
 
@@ -183,8 +221,8 @@ fn clones_bytes_and_order(rt: HostRuntime) -> std::result::Result<(), Fail> {
     let mut copy = w.clone()?;
     w.write_u8(0xff)?;
     copy.write_u16(0x0304)?;
-    assert_eq!(rt; copy.slice(), [1, 2, 3, 4].as_slice());
-    assert_eq!(rt; w.slice(), [1, 2, 0xff].as_slice());
+    assert!(rt; copy.slice() == b"\x01\x02\x03\x04".as_slice());
+    assert!(rt; w.slice() == b"\x01\x02\xff".as_slice());
     Ok(())
 }
 
@@ -408,52 +446,58 @@ fn tells_each_section_by_its_type(rt: HostRuntime) -> std::result::Result<(), Fa
 
 #[test]
 fn tells_a_section_by_its_type(rt: HostRuntime) -> std::result::Result<(), Fail> {
-    let mut info = DebugInfo::from(EndianVec::new(rt.alloc(), LittleEndian));
-    assert_eq!(rt; info.offset(), DebugInfoOffset(0));
-    info.section_mut().write(b"abc")?;
-    assert_eq!(rt; info.offset(), DebugInfoOffset(3));
-    assert_eq!(rt; info.section().slice(), b"abc".as_slice());
-    assert_eq!(rt; info.id(), SectionId::DebugInfo);
-    assert_eq!(rt; info.name(), ".debug_info");
+    let info = DebugInfo::from(EndianVec::new(rt.alloc(), LittleEndian));
+    assert!(rt; info.id() == SectionId::DebugInfo && info.name() == ".debug_info");
     Ok(())
+}
+
+#[test]
+fn tells_where_a_section_ends(rt: HostRuntime) -> std::result::Result<(), Fail> {
+    let mut info = DebugInfo::from(EndianVec::new(rt.alloc(), LittleEndian));
+    assert!(rt; info.offset() == DebugInfoOffset(0));
+    info.section_mut().write(b"abc")?;
+    assert!(rt; info.offset() == DebugInfoOffset(3));
+    assert!(rt; info.section().slice() == b"abc".as_slice());
+    Ok(())
+}
+
+/// Two fixups of an entry, at 11 and 15.
+fn two_fixups(alloc: Global) -> Result<FixupList> {
+    let mut list = FixupList::new(alloc);
+    list.push(fixup_at(11))?;
+    list.push(fixup_at(15))?;
+    Ok(list)
 }
 
 #[test]
 fn lists_fixups(rt: HostRuntime) -> std::result::Result<(), Fail> {
-    let first = DebugInfoFixup {
-        offset: 11,
-        size: 4,
-        unit: UnitId::new(0),
-        entry: UnitEntryId::new(2),
-    };
-    let second = DebugInfoFixup {
-        offset: 15,
-        ..first
-    };
-    let mut list = FixupList::new(rt.alloc());
-    list.push(first)?;
-    list.push(second)?;
-    assert_eq!(rt; list.len(), 2);
-    assert_eq!(rt; list.get(0), Some(first));
-    assert_eq!(rt; list.get(1), Some(second));
-    assert_eq!(rt; list.get(2), None);
-    list.clear();
-    assert!(rt; list.is_empty());
-    assert_eq!(rt; list.get(0), None);
+    let list = two_fixups(rt.alloc())?;
+    assert!(rt; list.len() == 2 && list.get(2).is_none());
+    assert!(rt; list.get(0) == Some(fixup_at(11)) && list.get(1) == Some(fixup_at(15)));
     Ok(())
 }
 
 #[test]
-fn owns_bytes(rt: HostRuntime) -> std::result::Result<(), Fail> {
+fn clears_fixups(rt: HostRuntime) -> std::result::Result<(), Fail> {
+    let mut list = two_fixups(rt.alloc())?;
+    list.clear();
+    assert!(rt; list.is_empty() && list.get(0).is_none());
+    Ok(())
+}
+
+#[test]
+fn copies_bytes(rt: HostRuntime) -> std::result::Result<(), Fail> {
     let bytes = Bytes::new(rt.alloc(), b"abc")?;
     let copy = bytes.try_clone()?;
-    assert_eq!(rt; copy, bytes);
-    assert_eq!(rt; copy.slice(), b"abc".as_slice());
-    assert_eq!(rt; copy.len(), 3);
-    assert!(rt; !copy.is_empty());
-    assert_eq!(rt; bytes.into_vec().as_slice(), b"abc".as_slice());
+    assert!(rt; copy == bytes && copy.slice() == b"abc".as_slice());
+    assert!(rt; bytes.into_vec().as_slice() == b"abc".as_slice());
+    Ok(())
+}
+
+#[test]
+fn tells_how_many_bytes_there_are(rt: HostRuntime) -> std::result::Result<(), Fail> {
+    let bytes = Bytes::new(rt.alloc(), b"abc")?;
     let none = Bytes::from(Vec::new(rt.alloc()));
-    assert!(rt; none.is_empty());
-    assert!(rt; none != copy);
+    assert!(rt; bytes.len() == 3 && !bytes.is_empty() && none.is_empty() && none != bytes);
     Ok(())
 }
