@@ -16,3 +16,7 @@ pub mod HeaderSteps
 pub mod OrderSteps
 pub mod ProgramSteps
 pub mod ReaderLaws
+pub mod EntryTextLaws
+pub mod TableLaws
+pub mod TablesAgain
+pub mod NameSteps

@@ -11,22 +11,24 @@ use Rattle.dw_base.specs.declared.common.Format.TheVariants.{Dwarf32, Dwarf64}
 use Rattle.dw_base.specs.declared.common.LineEncoding.{LineEncoding}
 use Rattle.dw_writer.specs.SignedNumbers.{twos_complement}
 use Rattle.dw_writer.specs.Texts.{Text, followed}
-use Rattle.dw_writer.specs.Meaning.{Layout, Meaning, Model, Appends, resolved}
+use Rattle.dw_writer.specs.Meaning.{Layout, Meaning, Model, IsTidy, Appends, resolved}
 use Rattle.dw_writer.proofs.Laws.{followed_assoc, resolved-wide}
 use Rattle.dw_line.specs.Accepted.{is_line_version}
-use Rattle.dw_line.specs.Headers.{version_bytes, flag_byte, parameters_bytes, tables_text, header_length, header_size, header_text}
+use Rattle.dw_line.specs.Headers.{version_bytes, flag_byte, parameters_bytes, tables_text, header_length, header_text}
 use Rattle.dw_line.specs.LineMachine.{LineHeader}
-use Rattle.dw_line.specs.LineReader.{parameters_at, widths_size, line_program_at, line_rows_at, ShowsSequences}
+use Rattle.dw_line.specs.LineReader.{parameters_at, address_size_at, ReadProgram, line_program_at, line_rows_at, line_tables_at, ShowsSequences, ShowsTables}
+use Rattle.dw_line.specs.LineTables.{byte_at}
 use Rattle.dw_line.specs.LineRows.{signed_byte, standard_operand_counts, written_header}
-use Rattle.dw_line.specs.Instructions.{rows_of, IsWrittenHeader}
+use Rattle.dw_line.specs.Instructions.{IsWrittenHeader}
 use Rattle.dw_line.specs.Parts.{texts}
-use Rattle.dw_line.specs.ProgramTexts.{ProgramValue, IsLineEncoding, open_sequence, open_sequences, program_sequences, open_text, sequences_text, program_length, program_size, contents_text, program_text}
+use Rattle.dw_line.specs.ProgramTexts.{ProgramValue, IsLineEncoding, HeaderIsWide, open_sequence, open_sequences, program_sequences, open_text, sequences_text, program_length, program_size, contents_text, program_text}
 use Rattle.dw_line.specs.Programs.{ended, built_model, ended_text}
 use Rattle.dw_line.specs.RowTexts.{where_needed}
 use Rattle.dw_line.specs.SequenceTexts.{AreBuilt}
 use Rattle.dw_line.proofs.HeaderSteps.{length-version}
 use Rattle.dw_line.proofs.LineRowsSteps.{le_of}
 use Rattle.dw_line.proofs.SequenceLaws.{followed_parts, text-rows}
+use Rattle.dw_line.proofs.TablesAgain.{HaveTables, tables-again}
 
 followed-nothing : (t : Text) → followed t (Some []) ≡ t
 unfolding followed
@@ -84,10 +86,17 @@ fits-length : (format : Format) (n : ℕ) → IsTrue (length_fits format n) → 
 fits-length Dwarf32 n h = grind (arith, nat_tests)
 fits-length Dwarf64 n h = h
 
-widths-length : (e : Encoding) → length (where_needed (nat_le 5 e.version) (e.address_size ∷ 0 ∷ [])) ≡ widths_size e.version
-widths-length e = by (nat_le 5 e.version)
+-- the encoding as it is read
+abbrev read_encoding : Encoding → Encoding
+read_encoding e = record { address_size = if nat_le 5 e.version then e.address_size else 0; format = e.format; version = e.version }
+
+address_size-again : (e : Encoding) (rest : List ℕ) → address_size_at e.version (where_needed (nat_le 5 e.version) (e.address_size ∷ 0 ∷ []) ++ rest) ≡ Some ((read_encoding e).address_size, rest)
+address_size-again e rest = by (nat_le 5 e.version)
   where
-    by : (b : Bool) → length (where_needed b (e.address_size ∷ 0 ∷ [])) ≡ (if b then 2 else 0)
+    by : (b : Bool) →
+        ◌≡◌ {A = Option (ℕ × List ℕ)}
+        (if b then (byte_at (where_needed b (e.address_size ∷ 0 ∷ []) ++ rest) >>= λ address. byte_at address.1 >>= λ segment. Some (address.0, segment.1)) else Some (0, where_needed b (e.address_size ∷ 0 ∷ []) ++ rest))
+        (Some (if b then e.address_size else 0, rest))
     by true = refl
     by false = refl
 
@@ -95,10 +104,11 @@ widths-length e = by (nat_le 5 e.version)
 abbrev contents_of : Bool → Encoding → LineEncoding → ℕ → List ℕ → List ℕ → List ℕ
 contents_of big e le k tables instructions = (version_bytes big e ++ (num big (word_of e.format) k ++ (parameters_bytes e.version le ++ tables))) ++ instructions
 
--- a program's bytes are read as its parameters and its instructions
+-- a program's bytes are read as its parts
 program-again : (big : Bool) (e : Encoding) (le : LineEncoding) (n k : ℕ) (tables instructions more : List ℕ) → IsLineEncoding le → IsTrue (is_line_version e.version) →
     IsTrue (length_fits e.format n) → IsTrue (length_fits e.format k) → length (parameters_bytes e.version le ++ tables) ≡ k → length (contents_of big e le k tables instructions) ≡ n →
-    line_program_at big (escape_of e.format ++ (num big (word_of e.format) n ++ (contents_of big e le k tables instructions ++ more))) ≡ Some (written_header big le, instructions)
+    line_program_at big (escape_of e.format ++ (num big (word_of e.format) n ++ (contents_of big e le k tables instructions ++ more)))
+    ≡ Some (record { encoding = read_encoding e; header = written_header big le; tables = tables; instructions = instructions })
 unfolding line_program_at
 program-again big e le n k tables instructions more is version fits_n fits_k long whole =
     let w : ℕ = word_of e.format in
@@ -110,23 +120,26 @@ program-again big e le n k tables instructions more is version fits_n fits_k lon
     let parts = and_parts (nat_le 2 e.version) (nat_le e.version 5) version in
     let known : e.version ≤ 5 = le_of e.version 5 parts.1 in
     let low : e.version < 256 ^ 2 = omega arith in
-    let rest : Option (LineHeader × List ℕ) = bytes_at (widths_size e.version) after >>= λ a. number_at big w a.1 >>= λ size. bytes_at size.0 size.1 >>= λ h. parameters_at big e.version h.0 >>= λ p. Some (p.0, h.1) in
+    let rest : Option ReadProgram = address_size_at e.version after >>= λ a. number_at big w a.1 >>= λ size. bytes_at size.0 size.1 >>= λ h. parameters_at big e.version h.0 >>= λ p.
+    Some (record { encoding = record { address_size = a.0; format = e.format; version = e.version }; header = p.0; tables = p.1; instructions = h.1 }) in
     bind_is _ ((e.format, n), contents ++ more) _ (initial_length-again big e.format n (contents ++ more) fits_n)
     ∙ bind_is _ (contents, more) _ (bytes_at_is n contents more whole)
     ∙ bind_is _ (e.version, after) _ (ap (number_at big 2) inner ∙ number-again big 2 e.version after low)
     ∙ ap (λ (b : Bool). when b rest) version
-    ∙ bind_is _ (widths, num big w k ++ (header ++ instructions)) _ (bytes_at_is (widths_size e.version) widths (num big w k ++ (header ++ instructions)) (widths-length e))
+    ∙ bind_is _ ((read_encoding e).address_size, num big w k ++ (header ++ instructions)) _ (address_size-again e (num big w k ++ (header ++ instructions)))
     ∙ bind_is _ (k, header ++ instructions) _ (number-fits-again big w k (header ++ instructions) (fits-length e.format k fits_k))
     ∙ bind_is _ (header, instructions) _ (bytes_at_is k header instructions long)
     ∙ bind_is _ (written_header big le, tables) _ (after_minimum big (nat_le 4 e.version) le tables is.operations e.version refl)
 
 -- a header's text in its parts
-record IsHeader (big : Bool) (e : Encoding) (le : LineEncoding) (k : ℕ) (xs : List ℕ) : Type 0 where
+record IsHeader (big : Bool) (e : Encoding) (le : LineEncoding) (k : ℕ) (text : Text) (xs : List ℕ) : Type 0 where
   tables : List ℕ
+  told : text ≡ Some tables
   bytes : xs ≡ version_bytes big e ++ (num big (word_of e.format) k ++ (parameters_bytes e.version le ++ tables))
 
 header_parts : (strings line_strings : List (List ℕ)) (p : ProgramValue) (big : Bool) (l : Layout) (xs : List ℕ) → header_text strings line_strings p.encoding p.line_encoding p.directories p.files big l ≡ Some xs →
-    IsHeader big p.encoding p.line_encoding (header_length p.encoding p.line_encoding p.directories p.files) xs
+    IsHeader big p.encoding p.line_encoding (header_length p.encoding p.line_encoding p.directories p.files)
+    (tables_text (word_of p.encoding.format) strings line_strings (nat_le p.encoding.version 4) p.directories p.files big l) xs
 header_parts strings line_strings p big l xs h =
     let e = p.encoding in
     let w = word_of e.format in
@@ -140,16 +153,31 @@ header_parts strings line_strings p big l xs h =
     let three : parameters_bytes e.version p.line_encoding ≡ c.0 = cc in
     record {
       tables = c.1;
+      told = c.3;
       bytes = a.4 ∙ ap₂ (λ x y. x ++ y) (sym one) (b.4 ∙ ap₂ (λ x y. x ++ y) (sym two) (c.4 ∙ ap (λ x. x ++ c.1) (sym three)));
     }
 
--- the machine shows what was built, once the program is told
-pub shows_sequences : {a b : Meaning} (strings line_strings : List (List ℕ)) (p : ProgramValue) → IsLineEncoding p.line_encoding → IsTrue (is_line_version p.encoding.version) → p.encoding.address_size < 256 →
-    IsTrue (length_fits p.encoding.format (program_length p)) → IsTrue (length_fits p.encoding.format (header_length p.encoding p.line_encoding p.directories p.files)) →
-    ((l : Layout) (xs : List ℕ) → header_text strings line_strings p.encoding p.line_encoding p.directories p.files a.is_big l ≡ Some xs → length xs ≡ header_size p.encoding p.line_encoding p.directories p.files) →
-    AreBuilt (written_header a.is_big p.line_encoding) (program_sequences p) → Appends a b (program_size p) (program_text strings line_strings p) → ShowsSequences a b (program_sequences p)
-unfolding line_rows_at
-shows_sequences {a} {b} strings line_strings p is version narrow fits_n fits_k wide built added tidy l bytes more e =
+-- A program that was added, in a layout in which it is told: the texts of its tables and of its sequences, and what is read of it.
+record IsAdded (strings line_strings : List (List ℕ)) (p : ProgramValue) (big : Bool) (l : Layout) (section : List ℕ) (place : ℕ) : Type 0 where
+  tables : List ℕ
+  instructions : List ℕ
+  told_tables : tables_text (word_of p.encoding.format) strings line_strings (nat_le p.encoding.version 4) p.directories p.files big l ≡ Some tables
+  told_sequences : texts (built_model p.encoding p.line_encoding) (program_sequences p) big l ≡ Some instructions
+  read : line_program_at big (drop place section)
+      ≡ Some (record { encoding = read_encoding p.encoding; header = written_header big p.line_encoding; tables = tables; instructions = instructions })
+
+-- what is asked of a program for that
+pub record CanBeRead (strings line_strings : List (List ℕ)) (big : Bool) (p : ProgramValue) : Type 0 where
+  pub parameters : IsLineEncoding p.line_encoding
+  pub version : IsTrue (is_line_version p.encoding.version)
+  pub narrow : p.encoding.address_size < 256
+  pub program_fits : IsTrue (length_fits p.encoding.format (program_length p))
+  pub header_fits : IsTrue (length_fits p.encoding.format (header_length p.encoding p.line_encoding p.directories p.files))
+  pub wide : HeaderIsWide strings line_strings big p
+
+program_added : {a b : Meaning} (strings line_strings : List (List ℕ)) (p : ProgramValue) → CanBeRead strings line_strings a.is_big p → Appends a b (program_size p) (program_text strings line_strings p) →
+    IsTidy a → (l : Layout) (bytes more : List ℕ) → resolved l b ≡ Some bytes → IsAdded strings line_strings p a.is_big l (bytes ++ more) a.size
+program_added {a} {b} strings line_strings p can added tidy l bytes more e =
     let big : Bool = a.is_big in
     let enc = p.encoding in
     let w : ℕ = word_of enc.format in
@@ -169,7 +197,7 @@ shows_sequences {a} {b} strings line_strings p is version narrow fits_n fits_k w
     let long : length (parameters_bytes enc.version p.line_encoding ++ header.tables) ≡ k =
     omega (
       arith,
-      wide l c.0 c.2,
+      can.wide l c.0 c.2,
       ap length header.bytes,
       length-append (version_bytes big enc) (num big w k ++ (parameters_bytes enc.version p.line_encoding ++ header.tables)),
       length-version big enc,
@@ -181,11 +209,32 @@ shows_sequences {a} {b} strings line_strings p is version narrow fits_n fits_k w
     let start : drop a.size (bytes ++ more) ≡ escape_of enc.format ++ (num big w n ++ (h.1 ++ more)) =
     ap (λ xs. drop a.size (xs ++ more)) f.4 ∙ ap (drop a.size) (append_assoc f.0 f.1 more) ∙ ap (λ j. drop j (f.0 ++ (f.1 ++ more))) (sym size) ∙ drop-append_seam f.0 (f.1 ++ more)
     ∙ ap (λ xs. xs ++ more) whole ∙ append_assoc (escape_of enc.format) (num big w n ++ h.1) more ∙ ap (λ xs. escape_of enc.format ++ xs) (append_assoc (num big w n) h.1 more) in
-    let told : texts (built_model enc p.line_encoding) (program_sequences p) big l ≡ Some c.1 = all-text p big l ∙ c.3 in
-    let written : IsWrittenHeader (written_header big p.line_encoding) = record { opcode_base = refl; minimum_length = is.positive } in
-    ap (λ xs. line_program_at big xs >>= λ q. rows_of q.0 q.1) (start ∙ ap (λ xs. escape_of enc.format ++ (num big w n ++ (xs ++ more))) text)
-    ∙ bind_is _ (written_header big p.line_encoding, c.1) _ (program-again big enc p.line_encoding n k header.tables c.1 more is version fits_n fits_k long (sym (ap length text) ∙ all))
-    ∙ text-rows (written_header big p.line_encoding) enc.address_size l (program_sequences p) c.1 written narrow built told
+    record {
+      tables = header.tables;
+      instructions = c.1;
+      told_tables = header.told;
+      told_sequences = all-text p big l ∙ c.3;
+      read = ap (line_program_at big) (start ∙ ap (λ xs. escape_of enc.format ++ (num big w n ++ (xs ++ more))) text)
+          ∙ program-again big enc p.line_encoding n k header.tables c.1 more can.parameters can.version can.program_fits can.header_fits long (sym (ap length text) ∙ all);
+    }
+
+-- the machine shows what was built, once the program is told
+pub shows_sequences : {a b : Meaning} (strings line_strings : List (List ℕ)) (p : ProgramValue) → CanBeRead strings line_strings a.is_big p → AreBuilt (written_header a.is_big p.line_encoding) (program_sequences p) →
+    Appends a b (program_size p) (program_text strings line_strings p) → ShowsSequences a b (program_sequences p)
+unfolding line_rows_at
+shows_sequences {a} {b} strings line_strings p can built added tidy l bytes more e =
+    let big : Bool = a.is_big in
+    let q = program_added strings line_strings p can added tidy l bytes more e in
+    let written : IsWrittenHeader (written_header big p.line_encoding) = record { opcode_base = refl; minimum_length = can.parameters.positive } in
+    bind_is _ _ _ q.read ∙ text-rows (written_header big p.line_encoding) p.encoding.address_size l (program_sequences p) q.instructions written can.narrow built q.told_sequences
+
+-- and a reader finds the directories and files
+pub shows_tables : {a b : Meaning} (strings line_strings : List (List ℕ)) (p : ProgramValue) → CanBeRead strings line_strings a.is_big p → HaveTables p.encoding.version p.directories p.files →
+    Appends a b (program_size p) (program_text strings line_strings p) → ShowsTables a b strings line_strings p.encoding.version p.directories p.files
+unfolding line_tables_at
+shows_tables {a} {b} strings line_strings p can have added tidy l bytes more e =
+    let q = program_added strings line_strings p can added tidy l bytes more e in
+    bind_is _ _ _ q.read ∙ bind_is _ _ (λ t. Some t.0) (tables-again a.is_big (read_encoding p.encoding) strings line_strings l p.directories p.files q.tables have q.told_tables)
 
 pub narrow_of : (w : ℕ) → IsTrue (is_width w) → w < 256
 narrow_of w h = grind (arith, nat_tests)

@@ -33,7 +33,7 @@ fits_if true true bytes xs e = (refl, cc)
 fits_if true false bytes xs e = absurd (none-some _ e)
 fits_if false b bytes xs e = absurd (none-some _ e)
 
-num_parts : (big : Bool) (w n : ℕ) (xs : List ℕ) → num_text big w n ≡ Some xs → IsTrue (fits w n) × (xs ≡ num big w n)
+pub num_parts : (big : Bool) (w n : ℕ) (xs : List ℕ) → num_text big w n ≡ Some xs → IsTrue (fits w n) × (xs ≡ num big w n)
 unfolding num_text
 num_parts big w n xs e = fits_if (is_width w) (fits w n) (num big w n) xs e
 

@@ -15,4 +15,5 @@ pub mod Accepted
 pub mod ProgramTexts
 pub mod LinePrograms
 pub mod Lends
+pub mod LineTables
 pub mod LineReader

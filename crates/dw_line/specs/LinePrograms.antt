@@ -1,7 +1,6 @@
 -- What a line program shows: nothing, or its parts, and the next row.
-use Rattle.std.specs.Prelude.{ℕ, Bool, true, false, List, [], length, Option, Some, None, IfSome, ⊤}
+use Rattle.std.specs.Prelude.{ℕ, Bool, true, false, List, [], length, Option, Some, None, IfSome}
 use Rattle.std.specs.Option.{option_map, option_map_or}
-use Rattle.dw_base.specs.Spellable.{IsText}
 use Rattle.dw_base.specs.declared.address.Address.{Address}
 use Rattle.dw_base.specs.declared.common.Encoding.{Encoding}
 use Rattle.dw_base.specs.declared.common.Format.TheVariants.{Dwarf32}
@@ -11,11 +10,11 @@ use Rattle.dw_base.specs.declared.error.Error.TheVariants.{IncompatibleLineProgr
 use Rattle.std.specs.Prelude.{negsuc}
 use Rattle.dw_writer.specs.Meaning.{Model}
 use Rattle.dw_line.specs.LineRows.{first_line_row, last_offset}
+use Rattle.dw_line.specs.Names.{IsName}
 use Rattle.dw_line.specs.ProgramTexts.{ProgramValue, with_begin, with_row, program_sequences, program_size, program_text, program_fails}
 use Rattle.dw_line.specs.SequenceTexts.{BuiltSequence}
 use Rattle.dw_line.specs.declared.line_string.FileInfo.{FileInfo}
 use Rattle.dw_line.specs.declared.line_string.LineString.{LineString}
-use Rattle.dw_line.specs.declared.line_string.LineString.TheVariants.{String, StringRef, LineStringRef}
 use Rattle.dw_line.specs.declared.file.FileEntry.{FileEntry}
 use Rattle.dw_line.specs.declared.row.LineRow.{LineRow}
 
@@ -64,13 +63,7 @@ abbrev pub sequences_of : Option ProgramValue → List BuiltSequence
 sequences_of None = []
 sequences_of (Some p) = program_sequences p
 
--- a name can be written: it has no zero byte
-abbrev pub IsName : LineString → Type 0
-IsName (String s) = IsText s
-IsName (StringRef i) = ⊤
-IsName (LineStringRef i) = ⊤
-
--- and so does the text of a file
+-- the text of a file can be written
 abbrev pub IsInfo : Option FileInfo → Type 0
 IsInfo info = IfSome info (λ i. IfSome i.source IsName)
 

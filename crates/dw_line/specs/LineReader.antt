@@ -1,17 +1,17 @@
--- A line program in its section: what its header tells the machine, and its rows (DWARF 5, 6.2.4 and 6.2.5). The header's tables
--- of directories and files are passed over by the header's own length.
-use Rattle.std.specs.Prelude.{◌≡◌, ℕ, ◌-◌, Bool, not, ◌==◌, nat_le, List, [], ◌∷◌, ◌++◌, drop, Option, Some, None, if◌then◌else◌}
+-- A line program in its section: what its header tells the machine, its tables of directories and files, and its rows (DWARF 5,
+-- 6.2.4 and 6.2.5). Instructions begin where the header's own length says that it ends.
+use Rattle.std.specs.Prelude.{◌≡◌, ℕ, ◌-◌, Bool, not, ◌==◌, nat_le, List, ◌++◌, drop, Option, Some, if◌then◌else◌}
 use Rattle.dw_base.specs.Numbers.{Parser, ◌>>=◌, when, bytes_at, number_at, initial_length_at, word_of}
+use Rattle.dw_base.specs.declared.common.Encoding.{Encoding}
 use Rattle.dw_writer.specs.Meaning.{Layout, Meaning, IsTidy, resolved}
 use Rattle.dw_line.specs.Accepted.{is_line_version}
 use Rattle.dw_line.specs.LineMachine.{LineHeader, Shown}
 use Rattle.dw_line.specs.LineRows.{signed_byte}
+use Rattle.dw_line.specs.LineTables.{LineTables, byte_at, tables_at, tables_read}
 use Rattle.dw_line.specs.Instructions.{rows_of}
 use Rattle.dw_line.specs.SequenceTexts.{BuiltSequence, built_rows}
-
-abbrev pub byte_at : Parser ℕ
-byte_at [] = None
-byte_at (b ∷ bs) = Some (b, bs)
+use Rattle.dw_line.specs.declared.line_string.LineString.{LineString}
+use Rattle.dw_line.specs.declared.file.FileEntry.{FileEntry}
 
 -- the operations of an instruction, which are told from version 4 on
 abbrev pub operations_at : ℕ → Parser ℕ
@@ -37,23 +37,49 @@ parameters_at big version bytes =
     ))
 
 -- in version 5 the bytes of an address and of a segment's number stand before the header's length
-abbrev pub widths_size : ℕ → ℕ
-widths_size version = if nat_le 5 version then 2 else 0
+abbrev pub address_size_at : ℕ → Parser ℕ
+address_size_at version bytes =
+    if nat_le 5 version then (byte_at bytes >>= λ address. byte_at address.1 >>= λ segment. Some (address.0, segment.1))
+    else Some (0, bytes)
 
--- the parameters of the program that begins there, and its instructions
-unfoldable pub line_program_at : Bool → List ℕ → Option (LineHeader × List ℕ)
+-- a program in its parts: up to version 4 it doesn't tell how wide addresses are
+pub record ReadProgram : Type 0 where
+  pub encoding : Encoding
+  pub header : LineHeader
+  pub tables : List ℕ
+  pub instructions : List ℕ
+
+-- the program that begins there
+unfoldable pub line_program_at : Bool → List ℕ → Option ReadProgram
 line_program_at big bytes =
     initial_length_at big bytes >>= λ start. bytes_at start.0.1 start.1 >>= λ program. number_at big 2 program.0 >>= λ version.
     when (is_line_version version.0)
-    (bytes_at (widths_size version.0) version.1 >>= λ widths. number_at big (word_of start.0.0) widths.1 >>= λ size.
-    bytes_at size.0 size.1 >>= λ header. parameters_at big version.0 header.0 >>= λ h. Some (h.0, header.1))
+    (address_size_at version.0 version.1 >>= λ width. number_at big (word_of start.0.0) width.1 >>= λ size.
+    bytes_at size.0 size.1 >>= λ header. parameters_at big version.0 header.0 >>= λ h. Some (
+    record {
+      encoding = record { address_size = width.0; format = start.0.0; version = version.0 };
+      header = h.0;
+      tables = h.1;
+      instructions = header.1;
+    }
+    ))
 
 -- the rows, and the ends of sequences, of the program at a place of a section
 unfoldable pub line_rows_at : Bool → List ℕ → ℕ → Option (List Shown)
-line_rows_at big section place = line_program_at big (drop place section) >>= λ p. rows_of p.0 p.1
+line_rows_at big section place = line_program_at big (drop place section) >>= λ p. rows_of p.header p.instructions
+
+-- its directories and files
+unfoldable pub line_tables_at : Bool → List ℕ → ℕ → Option LineTables
+line_tables_at big section place = line_program_at big (drop place section) >>= λ p. tables_at big p.encoding p.tables >>= λ t. Some t.0
 
 -- The program that was added at the end shows these sequences, in each layout in which the bytes are told, and whatever follows.
 abbrev pub ShowsSequences : Meaning → Meaning → List BuiltSequence → Type 0
 ShowsSequences old new sequences =
     IsTidy old → (l : Layout) (bytes more : List ℕ) → resolved l new ≡ Some bytes →
     line_rows_at old.is_big (bytes ++ more) old.size ≡ built_rows l sequences
+
+-- It has these directories and files, which name strings of these tables.
+abbrev pub ShowsTables : Meaning → Meaning → List (List ℕ) → List (List ℕ) → ℕ → List LineString → List FileEntry → Type 0
+ShowsTables old new strings line_strings version directories files =
+    IsTidy old → (l : Layout) (bytes more : List ℕ) → resolved l new ≡ Some bytes →
+    line_tables_at old.is_big (bytes ++ more) old.size ≡ Some (tables_read strings line_strings l version directories files)

@@ -1,5 +1,6 @@
 -- The names of directories and files, and the texts of files, in a line program's header (DWARF 5, 6.2.4 and 6.2.4.1).
-use Rattle.std.specs.Prelude.{ℕ, Bool, false, not, nat_lt, List, length, Some, None}
+use Rattle.std.specs.Prelude.{◌≢◌, ⊤, [], ℕ, Bool, false, not, nat_lt, List, length, Some, None}
+use Rattle.dw_base.specs.Spellable.{IsText}
 use Rattle.dw_base.specs.declared.constants.TheConstants.{DW_FORM_string, DW_FORM_strp, DW_FORM_line_strp}
 use Rattle.dw_base.specs.declared.section_id.SectionId.TheVariants.{DebugStr, DebugLineStr}
 use Rattle.dw_base.specs.declared.error.Error.{Error}
@@ -11,6 +12,16 @@ use Rattle.dw_strings.specs.Strings.{closed, string_place}
 use Rattle.dw_line.specs.declared.line_string.LineString.{LineString}
 use Rattle.dw_line.specs.declared.line_string.LineString.TheVariants.{String, StringRef, LineStringRef}
 use Rattle.dw_line.specs.declared.line_string.FileInfo.{FileInfo}
+
+-- a name can be written: it has no zero byte
+abbrev pub IsName : LineString → Type 0
+IsName (String s) = IsText s
+IsName (StringRef i) = ⊤
+IsName (LineStringRef i) = ⊤
+
+-- it isn't the empty name, which closes a list up to version 4
+abbrev pub IsFull : LineString → Type 0
+IsFull s = s ≢ String []
 
 -- string, strp and line_strp (DWARF 5, 7.5.6)
 abbrev pub form_of : LineString → ℕ

@@ -1,5 +1,5 @@
 -- What is written for a line program, and why it is refused (DWARF 5, 6.2).
-use Rattle.std.specs.Prelude.{◌≡◌, ℕ, ◌+◌, ◌<◌, Bool, true, false, ◌||◌, List, [], ◌∷◌, ◌++◌, map, length, Option, Some, None, pos, ◌≤ℤ◌, IsTrue}
+use Rattle.std.specs.Prelude.{◌≡◌, ℕ, ◌+◌, ◌^◌, ◌<◌, ◌≤◌, All, drop, unwrap_or, Bool, true, false, ◌||◌, List, [], ◌∷◌, ◌++◌, map, length, Option, Some, None, pos, ◌≤ℤ◌, IsTrue}
 use Rattle.std.specs.List.{list_all, list_any, position_or_len}
 use Rattle.indexmap.specs.IndexSet.{insert_key, replace_key}
 use Rattle.dw_base.specs.Numbers.{num, word_of, escape_of}
@@ -8,14 +8,15 @@ use Rattle.dw_base.specs.declared.common.Encoding.{Encoding}
 use Rattle.dw_base.specs.declared.common.LineEncoding.{LineEncoding}
 use Rattle.dw_base.specs.declared.error.Error.{Error}
 use Rattle.dw_base.specs.declared.ids.DirectoryId.{DirectoryId}
-use Rattle.dw_writer.specs.Texts.{followed}
+use Rattle.dw_writer.specs.Texts.{followed, zeros}
 use Rattle.dw_writer.specs.Meaning.{Layout, Model}
 use Rattle.dw_line.specs.Accepted.{encoding_fails, forms_fail}
 use Rattle.dw_line.specs.FileEqual.{file_eq}
+use Rattle.dw_line.specs.Files.{source_of}
 use Rattle.dw_line.specs.Headers.{header_size, header_text, header_fails, length_fails}
 use Rattle.dw_line.specs.LineRows.{built_sequence, are_in_order}
 use Rattle.dw_line.specs.LineStrings.{line_string_eq}
-use Rattle.dw_line.specs.Names.{no_info}
+use Rattle.dw_line.specs.Names.{IsName, IsFull, no_info}
 use Rattle.dw_line.specs.Parts.{sizes, texts}
 use Rattle.dw_line.specs.Programs.{SequenceValue, is_in_order, ended, built_size, built_model, built_fails, ended_size, ended_text, ended_fails}
 use Rattle.dw_line.specs.SequenceTexts.{BuiltSequence}
@@ -45,10 +46,23 @@ pub record IsLineEncoding (e : LineEncoding) : Type 0 where
   pub positive : 0 < e.minimum_instruction_length
   pub base : e.line_base ≤ℤ pos 0
 
--- what every program keeps
-pub record IsProgram (line_encoding : LineEncoding) (directories : List LineString) (sequences : List SequenceValue) (rows : List LineRow) : Type 0 where
+-- the name and the text of a file can be written, and its numbers lie in their types; a checksum has sixteen bytes
+pub record IsFile (version : ℕ) (f : FileEntry) : Type 0 where
+  pub name : IsName f.name
+  pub full : version ≤ 4 → IsFull f.name
+  pub source : IsName (source_of f)
+  pub directory : f.directory.0 < 2 ^ 64
+  pub timestamp : f.info.timestamp < 2 ^ 64
+  pub size : f.info.size < 2 ^ 64
+  pub md5 : length (unwrap_or f.info.md5 (zeros 16)) ≡ 16
+
+-- what every program keeps; up to version 4 an empty name would close a list
+pub record IsProgram (version : ℕ) (line_encoding : LineEncoding) (directories : List LineString) (files : List FileEntry) (sequences : List SequenceValue) (rows : List LineRow) : Type 0 where
   pub encoding : IsLineEncoding line_encoding
   pub rooted : 0 < length directories
+  pub names : All IsName directories
+  pub listed : version ≤ 4 → All IsFull (drop 1 directories)
+  pub told : All (IsFile version) files
   pub ordered : IsTrue (list_all (is_in_order line_encoding.minimum_instruction_length) sequences)
   pub unended : IsTrue (are_in_order line_encoding.minimum_instruction_length 0 rows)
 

@@ -1,6 +1,6 @@
 //! What is asked of a program before a byte of it is written.
 
-ghost use Rattle.std.specs.Prelude.{◌≡◌, ◌<◌, nat_le, length, OnOk, IfErr, IsTrue, IsFalse};
+ghost use Rattle.std.specs.Prelude.{◌≡◌, ◌<◌, ◌≤◌, nat_le, length, OnOk, IfErr, IsTrue, IsFalse};
 ghost use Rattle.std.specs.List.{list_all, list_any};
 ghost use Rattle.dw_base.specs.Numbers.{is_width};
 ghost use Rattle.dw_base.specs.declared.error.Error.{Error as AnError};
@@ -128,6 +128,8 @@ pub(crate) fn check_forms(
     files: &[FileEntry],
 ) -> Result<()>
     requires { 0 < length directories.now }
+    ensures few_directories { length directories.now ≤ usize.MAX }
+    ensures few_files { length files.now ≤ usize.MAX }
     ensures sound { OnOk result
         ((e : AnError) → IsFalse (forms_fail version directories.now files.now e)) }
     ensures err { IfErr result (λ e. IsTrue (forms_fail version directories.now files.now e)) }

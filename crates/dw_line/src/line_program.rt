@@ -6,10 +6,10 @@ ghost use Rattle.dw_base.specs.declared.error.Error.TheVariants.{NoMemory};
 ghost use Rattle.dw_writer.specs.Meaning.{IsTidy, IsSameWriter, Appends};
 ghost use Rattle.dw_writer.specs.Causes.{BytesRefused};
 ghost use Rattle.dw_line.specs.Lends.{LendsRow};
-ghost use Rattle.dw_line.specs.LineReader.{ShowsSequences};
-ghost use Rattle.dw_line.specs.LinePrograms.{no_line_program, encoding_of, line_encoding_of, is_in_sequence, directories_of, files_of, file_count_of, last_offset_of, sequences_of, IsName, IsInfo, changed, begun, generated, line_program_size, line_program_text, line_program_fails};
+ghost use Rattle.dw_line.specs.LineReader.{ShowsSequences, ShowsTables};
+ghost use Rattle.dw_line.specs.LinePrograms.{no_line_program, encoding_of, line_encoding_of, is_in_sequence, directories_of, files_of, file_count_of, last_offset_of, sequences_of, IsInfo, changed, begun, generated, line_program_size, line_program_text, line_program_fails};
 ghost use Rattle.dw_line.specs.LineRows.{first_line_row};
-ghost use Rattle.dw_line.specs.Names.{no_info};
+ghost use Rattle.dw_line.specs.Names.{no_info, IsName};
 ghost use Rattle.dw_line.specs.Parts.{KeepsFront, NoCause, Refused};
 ghost use Rattle.dw_line.specs.ProgramTexts.{directory_index, with_directory, entry_of, file_index, with_file, with_end};
 ghost use Rattle.dw_line.specs.declared.line_string.LineString.TheVariants.{String};
@@ -289,11 +289,11 @@ impl LineProgram {
         }
     }
 
-    /// Writes the program for a unit of an encoding, and returns its place. Refused before a byte is
-    /// written as `IncompatibleLineProgramEncoding` where there is no program or its encoding isn't
-    /// the unit's, as `UnsupportedVersion` and `UnsupportedWordSize` where it has no spelling, as
-    /// `NeedVersion` for checksums and texts below version 5, and as `LineStringFormMismatch` for
-    /// names of different forms.
+    /// Writes the program for a unit of an encoding, and returns its place. Refused before a byte
+    /// is written as `IncompatibleLineProgramEncoding` where there is no program or its encoding
+    /// isn't the unit's, as `UnsupportedVersion` and `UnsupportedWordSize` where it has no spelling,
+    /// as `NeedVersion` for checksums and texts below version 5, and as `LineStringFormMismatch`
+    /// for names of different forms.
     pub fn write<W: Writer>(
         &self,
         w: &mut DebugLine<W>,
@@ -309,6 +309,11 @@ impl LineProgram {
         ensures rows { OnOk result
             (ShowsSequences (W.meaning w.old.0) (W.meaning w.new.0)
             (sequences_of self.now.program)) }
+        // It finds the directories and files, whose names are strings of these tables.
+        ensures tables { OnOk result
+            (ShowsTables (W.meaning w.old.0) (W.meaning w.new.0) strings.now line_strings.now
+            (encoding_of self.now.program).version (directories_of self.now.program)
+            (files_of self.now.program)) }
         ensures sound { OnOk result
             (NoCause (line_program_fails strings.now line_strings.now
             (W.meaning w.old.0).is_plain encoding self.now)) }

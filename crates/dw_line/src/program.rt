@@ -1,16 +1,18 @@
 //! The parts of a program that there is.
 
-ghost use Rattle.std.specs.Prelude.{◌≡◌, ◌<◌, ◌≤◌, ◌%◌, ◌≤ℤ◌, pos, [], length, All, OnOk, OnErr, IfOk, IfErr, IsTrue, IsFalse};
+ghost use Rattle.std.specs.Prelude.{◌≡◌, ◌<◌, ◌≤◌, ◌%◌, ◌≤ℤ◌, pos, [], length, All, OnOk, OnErr, IfOk, IfErr, IfSome, IsTrue, IsFalse};
 ghost use Rattle.dw_base.specs.Numbers.{is_width};
 ghost use Rattle.dw_base.specs.declared.error.Error.{Error as AnError};
 ghost use Rattle.dw_base.specs.declared.error.Error.TheVariants.{NoMemory};
 ghost use Rattle.dw_writer.specs.Meaning.{IsTidy, IsSameWriter, Appends};
+ghost use Rattle.indexmap.specs.IndexSet.{insert_key, replace_key};
+ghost use Rattle.dw_line.specs.FileEqual.{file_eq};
 ghost use Rattle.dw_line.specs.LineRows.{last_offset, written_header};
 ghost use Rattle.dw_line.specs.SequenceTexts.{AreBuilt};
 ghost use Rattle.dw_line.specs.Parts.{KeepsFront, Refused};
-ghost use Rattle.dw_line.specs.ProgramTexts.{minimum_length, IsLineEncoding, directory_index, with_directory, file_index, entry_of, with_file, with_begin, with_row, with_end, program_sequences, sequences_size, sequences_text, sequences_fail, program_length, program_size, contents_text, contents_fail, program_text, program_fails, HeaderIsWide};
-ghost use Rattle.dw_line.specs.LineReader.{ShowsSequences};
-ghost use Rattle.dw_line.specs.Names.{no_info};
+ghost use Rattle.dw_line.specs.ProgramTexts.{minimum_length, IsFile, IsLineEncoding, directory_index, with_directory, file_index, entry_of, with_file, with_begin, with_row, with_end, program_sequences, sequences_size, sequences_text, sequences_fail, program_length, program_size, contents_text, contents_fail, program_text, program_fails, HeaderIsWide};
+ghost use Rattle.dw_line.specs.LineReader.{ShowsSequences, ShowsTables};
+ghost use Rattle.dw_line.specs.Names.{no_info, IsName, IsFull};
 
 use crate::accept::{check_encoding, check_forms};
 use crate::file::FileEntry;
@@ -57,8 +59,8 @@ impl Model for Program {
       rows = p.rows.items;
     } };
 
-    ghost invariant = { λ p. IsProgram p.line_encoding p.directories.keys p.sequences.items
-        p.rows.items };
+    ghost invariant = { λ p. IsProgram p.encoding.version p.line_encoding p.directories.keys
+        p.files.keys p.sequences.items p.rows.items };
 }
 
 impl Program {
@@ -71,7 +73,8 @@ impl Program {
         line_encoding: LineEncoding,
         working_dir: LineString,
     ) -> Result<Program>
-        requires { IsLineEncoding line_encoding }
+        requires parameters { IsLineEncoding line_encoding }
+        requires name { IsName working_dir }
         ensures ok { IfOk result (λ p. p ≡ record {
           encoding = encoding;
           line_encoding = line_encoding;
@@ -145,6 +148,8 @@ impl Program {
     }
 
     pub(crate) fn add_directory(&mut self, directory: LineString) -> Result<DirectoryId>
+        requires name { IsName directory }
+        requires full { self.old.encoding.version ≤ 4 → IsFull directory }
         ensures id { IfOk result (λ id. id.0 ≡ directory_index self.old.directories directory) }
         ensures ok { OnOk result (self.new ≡ with_directory directory self.old) }
         ensures err { IfErr result (λ e. e ≡ NoMemory) }
@@ -160,6 +165,9 @@ impl Program {
         directory: DirectoryId,
         info: Option<FileInfo>,
     ) -> Result<FileId>
+        requires name { IsName name }
+        requires full { self.old.encoding.version ≤ 4 → IsFull name }
+        requires text { IfSome info (λ i. IfSome i.source IsName) }
         ensures id { IfOk result
             (λ id. id.0 ≡ file_index self.old.files (entry_of name directory no_info)) }
         ensures ok { OnOk result (self.new ≡ with_file name directory info self.old) }
@@ -167,17 +175,35 @@ impl Program {
         ensures kept { OnErr result (self.new ≡ self.old) }
     {
         match info {
-            Some(info) => {
-                let entry = FileEntry::new(name, directory, info);
-                let (index, _) = self.files.replace_full(entry)?;
-                Ok(FileId::new(index))
-            }
-            None => {
-                let entry = FileEntry::new(name, directory, FileInfo::none());
-                let (index, _) = self.files.insert_full(entry)?;
-                Ok(FileId::new(index))
-            }
+            Some(info) => self.replace_file(FileEntry::new(name, directory, info)),
+            None => self.keep_file(FileEntry::new(name, directory, FileInfo::none())),
         }
+    }
+
+    /// The id of a file, which takes the place of one that is the same.
+    fn replace_file(&mut self, file: FileEntry) -> Result<FileId>
+        requires { IsFile self.old.encoding.version file }
+        ensures id { IfOk result (λ id. id.0 ≡ file_index self.old.files file) }
+        ensures ok { OnOk result
+            (self.new ≡ record self.old { files = replace_key file_eq self.old.files file }) }
+        ensures err { IfErr result (λ e. e ≡ NoMemory) }
+        ensures kept { OnErr result (self.new ≡ self.old) }
+    {
+        let (index, _) = self.files.replace_full(file)?;
+        Ok(FileId::new(index))
+    }
+
+    /// The id of a file, which is added if none is the same.
+    fn keep_file(&mut self, file: FileEntry) -> Result<FileId>
+        requires { IsFile self.old.encoding.version file }
+        ensures id { IfOk result (λ id. id.0 ≡ file_index self.old.files file) }
+        ensures ok { OnOk result
+            (self.new ≡ record self.old { files = insert_key file_eq self.old.files file }) }
+        ensures err { IfErr result (λ e. e ≡ NoMemory) }
+        ensures kept { OnErr result (self.new ≡ self.old) }
+    {
+        let (index, _) = self.files.insert_full(file)?;
+        Ok(FileId::new(index))
     }
 
     pub(crate) fn begin_sequence(&mut self, address: Option<Address>)
@@ -307,6 +333,9 @@ impl Program {
             (W.meaning w.old).is_plain unit self.now e)) }
         ensures rows { OnOk result
             (ShowsSequences (W.meaning w.old) (W.meaning w.new) (program_sequences self.now)) }
+        ensures tables { OnOk result
+            (ShowsTables (W.meaning w.old) (W.meaning w.new) strings.now line_strings.now
+            self.now.encoding.version self.now.directories self.now.files) }
         ensures err { IfErr result
             (Refused (W.meaning w.old) (W.meaning w.new)
             (program_fails strings.now line_strings.now (W.meaning w.old).is_plain unit self.now)) }

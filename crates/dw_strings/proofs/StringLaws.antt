@@ -13,7 +13,7 @@ use Rattle.dw_base.specs.Spellable.{IsText}
 use Rattle.dw_base.proofs.NumberLaws.{bind_is}
 use Rattle.dw_strings.specs.Strings.{is_same_string, closed, string_bytes, string_place, string_at, AllDiffer}
 
-text-again : (t rest : List ℕ) → IsText t → text_at (t ++ 0 ∷ rest) ≡ Some (t, rest)
+pub text-again : (t rest : List ℕ) → IsText t → text_at (t ++ 0 ∷ rest) ≡ Some (t, rest)
 unfolding text_at
 text-again [] rest h = refl
 text-again (zero ∷ t) rest h = absurd (omega (arith, All-head (λ b. 0 < b) zero t h))

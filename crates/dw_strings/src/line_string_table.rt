@@ -13,8 +13,8 @@ use dw_writer::{DebugLineStr, Writer};
 use std::alloc::Global;
 use std::marker::Model;
 
-/// The strings of `.debug_line_str`, which line programs and values name by their ids. Equal strings
-/// are kept once, and ids and offsets stay as strings are added.
+/// The strings of `.debug_line_str`, which line programs and values name by their ids. Equal
+/// strings are kept once, and ids and offsets stay as strings are added.
 ///
 /// ```
 /// let mut strings = LineStringTable::new(alloc);

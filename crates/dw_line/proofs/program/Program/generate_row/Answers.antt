@@ -12,4 +12,4 @@ invariant_of-self-2 c =
     ap (λ p. c.args.row.address_offset % p.line_encoding.minimum_instruction_length) v ∙ c.requires.multiple in
     let more : IsTrue (are_in_order c.self.inside.line_encoding.minimum_instruction_length 0 (c.self.inside.rows.items ++ c.args.row ∷ [])) =
     order_more c.self.inside.line_encoding.minimum_instruction_length 0 c.self.inside.rows.items c.args.row c.self.invariant.unended behind multiple small in
-    record { encoding = c.self.invariant.encoding; rooted = c.self.invariant.rooted; ordered = c.self.invariant.ordered; unended = rw c.in_ok-push.ensures.items more }
+    record { encoding = c.self.invariant.encoding; rooted = c.self.invariant.rooted; names = c.self.invariant.names; listed = c.self.invariant.listed; told = c.self.invariant.told; ordered = c.self.invariant.ordered; unended = rw c.in_ok-push.ensures.items more }

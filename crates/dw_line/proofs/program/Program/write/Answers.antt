@@ -1,4 +1,5 @@
-use Rattle.std.proofs.Common.{◌≡◌, ◌≤◌, ap, subst, Bool, ◌+◌, ◌-◌, ◌||◌, length, IsTrue, arith}
+use Rattle.std.specs.List.{list_any}
+use Rattle.std.proofs.Common.{◌≡◌, ◌≤◌, ◌&&◌, not, false, IsFalse, ap, subst, Bool, ◌+◌, ◌-◌, ◌||◌, nat_le, length, IsTrue, arith}
 use Rattle.std.specs.Prelude.{◌++◌}
 use Rattle.std.proofs.lemmas.Bool.{or_left, or_right}
 use Rattle.std.proofs.lemmas.Result.{err_from_is_err_and}
@@ -9,13 +10,14 @@ use Rattle.dw_writer.specs.Meaning.{Adds, Replaces}
 use Rattle.dw_base.specs.Numbers.{is_width, length_fits}
 use Rattle.dw_base.specs.declared.error.Error.TheVariants as errors
 use Rattle.dw_writer.proofs.Outcomes.{OnOk-map}
-use Rattle.dw_line.specs.Accepted.{is_line_version, encoding_fails, forms_fail}
+use Rattle.dw_line.specs.Accepted.{is_line_version, is_new_file, encoding_fails, forms_agree, forms_fail}
 use Rattle.dw_line.specs.Headers.{header_length, length_fails}
 use Rattle.dw_line.specs.ProgramTexts.{IsLineEncoding, HeaderIsWide, program_sequences, program_length, contents_fail, program_fails}
 use Rattle.dw_line.specs.LineRows.{written_header}
 use Rattle.dw_line.specs.SequenceTexts.{AreBuilt}
 use Rattle.dw_line.proofs.PartSteps.{refused_after, or_false, not_false, OnOk-both}
-use Rattle.dw_line.proofs.ReaderLaws.{narrow_of, shows_sequences}
+use Rattle.dw_line.proofs.ReaderLaws.{CanBeRead, narrow_of, shows_sequences, shows_tables}
+use Rattle.dw_line.proofs.TablesAgain.{HaveTables, new_files}
 use Rattle.dw_line.proofs.HeaderSteps.{first_filled}
 use Rattle.dw_writer.proofs.Steps.{Adds-appends}
 use Rattle.dw_line.proofs.FrontSteps.{Front-none, Front-then, Adds-front, AddsSome-front, Front-patched}
@@ -56,16 +58,52 @@ returns-clause-rows g c =
     let a = g.W.Writer.meaning c.args.w.now in
     let order = c.in_ok-place.ensures.same.order in
     let long : c.len.result - c.len-start.result ≡ program_length p = omega (arith, c.len.ensures, c.len-start.ensures, c.in_ok-write_contents.ensures.ok.size) in
-    let is : IsLineEncoding p.line_encoding = subst (λ q. IsLineEncoding q.line_encoding) c.self.view_is c.self.invariant.encoding in
+    let parameters : IsLineEncoding p.line_encoding = subst (λ q. IsLineEncoding q.line_encoding) c.self.view_is c.self.invariant.encoding in
     let version : IsTrue (is_line_version p.encoding.version) = subst (λ q. IsTrue (is_line_version q.encoding.version)) c.self.view_is c.in_ok-check_encoding.ensures.version in
     let narrow = narrow_of p.encoding.address_size (subst (λ q. IsTrue (is_width q.encoding.address_size)) c.self.view_is c.in_ok-check_encoding.ensures.width) in
     let none = c.in_ok-write_contents.ensures.sound errors.InitialLengthOverflow in
     let header : IsTrue (length_fits p.encoding.format (header_length p.encoding p.line_encoding p.directories p.files)) = not_false _ (or_false _ _ (or_false _ _ none)) in
     let wide : HeaderIsWide ss ls a.is_big p = subst (λ k. HeaderIsWide ss ls k p) order c.in_ok-write_contents.ensures.wide in
-    let built : AreBuilt (written_header a.is_big p.line_encoding) (program_sequences p) = subst (λ k. AreBuilt (written_header k p.line_encoding) (program_sequences p)) order c.in_ok-write_contents.ensures.built in
     let fits = rw long at c.write_initial_length_at.ensures.fits in
+    let can = λ (fit : IsTrue (length_fits p.encoding.format (program_length p))). (let is : CanBeRead ss ls a.is_big p = record { parameters = parameters; version = version; narrow = narrow; program_fits = fit; header_fits = header; wide = wide } in is) in
+    let to = subst (λ q. IsTrue (length_fits q.encoding.format (program_length p))) c.self.view_is in
+    let built : AreBuilt (written_header a.is_big p.line_encoding) (program_sequences p) = subst (λ k. AreBuilt (written_header k p.line_encoding) (program_sequences p)) order c.in_ok-write_contents.ensures.built in
+    OnOk-both c.write_initial_length_at.result fits (returns-clause-ok g c) (λ fit added. shows_sequences ss ls p (can (to fit)) built added)
+
+pub returns-clause-tables : goal.returns-clause-tables
+returns-clause-tables g c =
+    let p = c.args.self.now in
+    let ss = c.args.strings.now in
+    let ls = c.args.line_strings.now in
+    let a = g.W.Writer.meaning c.args.w.now in
+    let order = c.in_ok-place.ensures.same.order in
+    let long : c.len.result - c.len-start.result ≡ program_length p = omega (arith, c.len.ensures, c.len-start.ensures, c.in_ok-write_contents.ensures.ok.size) in
+    let parameters : IsLineEncoding p.line_encoding = subst (λ q. IsLineEncoding q.line_encoding) c.self.view_is c.self.invariant.encoding in
+    let version : IsTrue (is_line_version p.encoding.version) = subst (λ q. IsTrue (is_line_version q.encoding.version)) c.self.view_is c.in_ok-check_encoding.ensures.version in
+    let narrow = narrow_of p.encoding.address_size (subst (λ q. IsTrue (is_width q.encoding.address_size)) c.self.view_is c.in_ok-check_encoding.ensures.width) in
+    let none = c.in_ok-write_contents.ensures.sound errors.InitialLengthOverflow in
+    let header : IsTrue (length_fits p.encoding.format (header_length p.encoding p.line_encoding p.directories p.files)) = not_false _ (or_false _ _ (or_false _ _ none)) in
+    let wide : HeaderIsWide ss ls a.is_big p = subst (λ k. HeaderIsWide ss ls k p) order c.in_ok-write_contents.ensures.wide in
+    let fits = rw long at c.write_initial_length_at.ensures.fits in
+    let can = λ (fit : IsTrue (length_fits p.encoding.format (program_length p))). (let is : CanBeRead ss ls a.is_big p = record { parameters = parameters; version = version; narrow = narrow; program_fits = fit; header_fits = header; wide = wide } in is) in
+    let to = subst (λ q. IsTrue (length_fits q.encoding.format (program_length p))) c.self.view_is in
+    let inside = c.self.inside in
+    let fails = forms_fail inside.encoding.version inside.directories.keys inside.files.keys in
+    let forms : (e : Error) → IsFalse (fails e) = rw (c.as_slice-directories.ensures.keys, c.as_slice-files.ensures.keys) at c.in_ok-check_forms.ensures.sound in
+    let agree = forms_agree (nat_le inside.encoding.version 4) inside.directories.keys inside.files.keys in
+    let mismatch : IsFalse (not agree) = forms errors.LineStringFormMismatch in
+    let none_new : (nat_le inside.encoding.version 4 && list_any is_new_file inside.files.keys) ≡ false = forms (errors.NeedVersion 5) in
+    let have : HaveTables inside.encoding.version inside.directories.keys inside.files.keys = record {
+      names = c.self.invariant.names;
+      listed = c.self.invariant.listed;
+      told = c.self.invariant.told;
+      agree = not_false agree mismatch;
+      old = λ is. new_files inside.files.keys (nat_le inside.encoding.version 4) is none_new;
+      few_directories = omega (arith, c.in_ok-check_forms.ensures.few_directories, ap length c.as_slice-directories.ensures.keys);
+      few_files = omega (arith, c.in_ok-check_forms.ensures.few_files, ap length c.as_slice-files.ensures.keys);
+    } in
     OnOk-both c.write_initial_length_at.result fits (returns-clause-ok g c)
-    (λ fit added. shows_sequences ss ls p is version narrow (subst (λ q. IsTrue (length_fits q.encoding.format (program_length p))) c.self.view_is fit) header wide built added)
+    (λ fit added. shows_tables ss ls p (can (to fit)) (subst (λ q. HaveTables q.encoding.version q.directories q.files) c.self.view_is have) added)
 
 pub returns-in_err-check_encoding-clause-front : goal.returns-in_err-check_encoding-clause-front
 returns-in_err-check_encoding-clause-front g c = λ tidy. Front-none _
