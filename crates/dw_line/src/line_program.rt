@@ -291,9 +291,9 @@ impl LineProgram {
 
     /// Writes the program for a unit of an encoding, and returns its place. Refused before a byte
     /// is written as `IncompatibleLineProgramEncoding` where there is no program or its encoding
-    /// isn't the unit's, as `UnsupportedVersion` and `UnsupportedWordSize` where it has no spelling,
-    /// as `NeedVersion` for checksums and texts below version 5, and as `LineStringFormMismatch`
-    /// for names of different forms.
+    /// isn't the unit's, as `UnsupportedVersion` and `UnsupportedWordSize` where it has no
+    /// spelling, as `NeedVersion` for checksums and texts below version 5, and as
+    /// `LineStringFormMismatch` for names of different forms.
     pub fn write<W: Writer>(
         &self,
         w: &mut DebugLine<W>,
