@@ -63,7 +63,7 @@ const ALIKE: [(&str, &str, Operand); 24] = [
 
 /// The kinds whose form or operand hangs on the version or the format: the versions from which and
 /// to which a row holds, its format, and the same as above.
-const VARYING: [(usize, usize, usize, &str, &str, Operand); 24] = [
+const VARYING: [(usize, usize, usize, &str, &str, Operand); 30] = [
     // In version 5 DW_FORM_implicit_const has its number in the declaration; before, DW_FORM_sdata
     // has it in the entry.
     (2, 4, 32, "implicit_const -128", "0d", Bytes("807f")),
@@ -82,6 +82,14 @@ const VARYING: [(usize, usize, usize, &str, &str, Operand); 24] = [
     (2, 4, 64, "unit_ref 0", "14", Number(8, 23)),
     (5, 5, 32, "unit_ref 0", "13", Number(4, 12)),
     (5, 5, 64, "unit_ref 0", "14", Number(8, 24)),
+    // DW_FORM_ref_addr counts from the begin of .debug_info, where the unit is the first. In version
+    // 2 it has as many bytes as an address, from version 3 on as many as an offset.
+    (2, 2, 32, "info_ref 0:0", "10", Number(8, 11)),
+    (2, 2, 64, "info_ref 0:0", "10", Number(8, 23)),
+    (3, 4, 32, "info_ref 0:0", "10", Number(4, 11)),
+    (3, 4, 64, "info_ref 0:0", "10", Number(8, 23)),
+    (5, 5, 32, "info_ref 0:0", "10", Number(4, 12)),
+    (5, 5, 64, "info_ref 0:0", "10", Number(8, 24)),
     // DW_FORM_ref_sup4 and ref_sup8.
     (2, 5, 32, "info_ref_sup 0x1234", "1c", Number(4, 0x1234)),
     (2, 5, 64, "info_ref_sup 0x1234", "24", Number(8, 0x1234)),
@@ -257,19 +265,19 @@ fn check_refusal(
     Ok(())
 }
 
-/// Builds a unit for each of the 31 kinds.
+/// Builds a unit for each of the 32 kinds.
 fn check_kinds(rt: &impl Abort, alloc: Global, head: UnitHead) -> Result<(), Fail> {
     for (value, form, operand) in ALIKE {
         check_value(rt, alloc, head, value, form, operand)?;
     }
-    let mut varying = 0;
+    let mut varying = 0u8;
     for (from, to, format, value, form, operand) in VARYING {
         if from <= head.version && head.version <= to && head.format == format {
             check_value(rt, alloc, head, value, form, operand)?;
-            varying += 1;
+            varying = varying.saturating_add(1);
         }
     }
-    assert_eq!(rt; varying, 7, "at {head:?}");
+    assert_eq!(rt; varying, 8, "at {head:?}");
     Ok(())
 }
 
