@@ -8,7 +8,7 @@ use Rattle.dw_base.specs.Numbers.{◌>>=◌, is_width, fits}
 use Rattle.dw_base.specs.declared.error.Error.{Error}
 use Rattle.dw_base.specs.declared.error.Error.TheVariants as errors
 use Rattle.dw_base.specs.declared.section_id.SectionId.TheVariants.{DebugInfo}
-use Rattle.dw_writer.specs.Texts.{Text, num_text, followed, patched}
+use Rattle.dw_writer.specs.Texts.{Text, num_text, patched}
 use Rattle.dw_writer.specs.Meaning.{Meaning, Layout, IsSameWriter, IsTidy, Patches, resolved, start_of}
 use Rattle.dw_writer.specs.SectionTexts.{offset_text}
 use Rattle.dw_writer.specs.Drafts.{Info, moved, shifted, started, hole_text, hole_model, filled, AreBetween, HaveWidths, AreClear}

@@ -1,22 +1,20 @@
 -- Units that are pending, one behind another, and what filling their references in makes of them.
-use Rattle.std.specs.Prelude.{◌≡◌, ◌≢◌, ℕ, suc, zero, ◌+◌, Bool, true, false, List, [], ◌∷◌, ◌++◌, length, Option, Some, None, ◌==◌, refl, IsFalse, if◌then◌else◌}
-use Rattle.std.proofs.Common.{sym, ◌∙◌, ap, subst, arith, append-nil, append_assoc, add-zero, length-append}
-use Rattle.std.proofs.lemmas.Bool.{ne_eqb, eq-eqb}
+use Rattle.std.specs.Prelude.{◌≡◌, ℕ, suc, ◌+◌, Bool, true, false, List, [], ◌∷◌, ◌++◌, length, Option, Some, None, ◌==◌, refl, IsFalse, if◌then◌else◌}
+use Rattle.std.proofs.Common.{sym, ◌∙◌, ap, subst, arith, append-nil, append_assoc, length-append}
 use Rattle.dw_base.specs.declared.error.Error.{Error}
 use Rattle.dw_base.specs.declared.section_id.SectionId.TheVariants.{DebugInfo}
 use Rattle.dw_writer.specs.Texts.{followed}
-use Rattle.dw_writer.specs.Meaning.{Meaning, Layout, IsTidy, Adds, resolved, start_of}
+use Rattle.dw_writer.specs.Meaning.{Meaning, IsTidy, Adds, resolved, start_of}
 use Rattle.dw_writer.specs.declared.sections.Sections.{Sections}
-use Rattle.dw_writer.specs.declared.fixup.DebugInfoFixup.{DebugInfoFixup}
-use Rattle.dw_writer.specs.Drafts.{Draft, Info, no_draft, then_draft, shifted, started, open_text, filled, AreBetween, HaveWidths, AreClear, Drafts}
+use Rattle.dw_writer.specs.Drafts.{Info, then_draft, shifted, started, open_text, filled, AreBetween, HaveWidths, AreClear}
 use Rattle.dw_writer.proofs.DraftLaws.{nothing-then, then-nothing, then-assoc, filled-behind, between-from, widths-shifted}
 use Rattle.dw_writer.proofs.Laws.{resolved-wide}
 use Rattle.dw_writer.proofs.Parts.{Adds-none}
 use Rattle.dw_writer.proofs.Steps.{IsSameWriter-trans, Adds-then}
 use Rattle.dw_writer.proofs.WriteLaws.{Drafts-nothing, Drafts-then, Drafts-is, between-place}
-use Rattle.dw_unit.specs.Built.{Numbered, Starts, table_size, at_zero}
+use Rattle.dw_unit.specs.Built.{Numbered, Starts, at_zero}
 use Rattle.dw_unit.specs.Filled.{Fills}
-use Rattle.dw_unit.specs.Pending.{Kept, draft_of, past_kept, units_draft, tables_of, kept_offsets, kept_at, Stands, AreInRow, starts_of, IsThereFilled, PendsTree, PendsUnit, Pending, ExtendsPending, AddsUnits}
+use Rattle.dw_unit.specs.Pending.{Kept, draft_of, past_kept, units_draft, tables_of, kept_offsets, kept_at, AreInRow, starts_of, IsThereFilled, PendsTree, PendsUnit, Pending, ExtendsPending, AddsUnits}
 use Rattle.dw_unit.specs.Places.{Offsets, OffsetsValue}
 use Rattle.dw_unit.specs.UnitFaults.{holes_fail}
 use Rattle.dw_unit.specs.UnitValue.{UnitValue}

@@ -1,16 +1,15 @@
 -- Tables none of whose units was written before, and units that can be written where they stand.
-use Rattle.std.specs.Prelude.{◌≡◌, ◌⊎◌, ℕ, suc, zero, ◌+◌, Bool, true, false, List, [], ◌∷◌, map, length, Option, Some, None, ◌==◌, refl, slice_get, All, if◌then◌else◌}
+use Rattle.std.specs.Prelude.{◌≡◌, ◌⊎◌, ℕ, suc, zero, Bool, true, false, List, [], ◌∷◌, map, None, refl, All, if◌then◌else◌}
 use Rattle.std.proofs.Common.{sym, ◌∙◌, ap, subst, inl, inr}
 use Rattle.std.proofs.Math.Path.{fun_ext}
 use Rattle.std.proofs.lemmas.List.Elements.{All-head, All-tail}
 use Rattle.std.specs.Option.{option_map}
-use Rattle.dw_base.specs.Numbers.{◌>>=◌}
 use Rattle.dw_base.specs.declared.error.Error.{Error}
 use Rattle.dw_unit.specs.Built.{Numbered, Starts, numbered_from}
-use Rattle.dw_unit.specs.Causes.{UnitFails, UnitsFail}
-use Rattle.dw_unit.specs.Pending.{Kept, past_kept, offsets_at, info_at, info_of, kept_at, KeepPlaces, Stands, AreInRow}
+use Rattle.dw_unit.specs.Causes.{UnitsFail}
+use Rattle.dw_unit.specs.Pending.{Kept, past_kept, info_at, info_of, KeepPlaces, Stands, AreInRow}
 use Rattle.dw_unit.specs.Places.{Placement, info_from, offsets_in}
-use Rattle.dw_unit.specs.UnitValue.{UnitValue, offsets_of}
+use Rattle.dw_unit.specs.UnitValue.{UnitValue}
 use Rattle.dw_unit.specs.Valid.{IsWritableAt, AreWritable}
 use Rattle.dw_unit.specs.Whole.{settled}
 use Rattle.dw_unit.specs.Written.{to_write_from, past_table}

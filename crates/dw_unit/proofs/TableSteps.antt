@@ -1,5 +1,5 @@
 -- The units of a table, written one after another.
-use Rattle.std.specs.Prelude.{◌≡◌, ◌⊎◌, ℕ, suc, zero, ◌+◌, ◌≤◌, ◌<◌, Bool, true, false, List, [], ◌∷◌, ◌++◌, length, Option, Some, None, ◌==◌, refl, slice_get, slice_set, slice_index_or, All, if◌then◌else◌}
+use Rattle.std.specs.Prelude.{◌≡◌, ◌⊎◌, ℕ, suc, zero, ◌+◌, ◌≤◌, ◌<◌, Bool, true, false, List, [], ◌∷◌, ◌++◌, length, Option, Some, None, refl, slice_get, slice_set, slice_index_or, All, if◌then◌else◌}
 use Rattle.std.proofs.Common.{sym, ◌∙◌, ap, subst, arith, append-nil, append_assoc, length-append, inl, inr}
 use Rattle.std.proofs.lemmas.Bool.{cases_eq, eq-eqb, ne_eqb}
 use Rattle.std.proofs.lemmas.List.Elements.{All-head, All-tail}
@@ -7,13 +7,13 @@ use Rattle.dw_base.specs.Numbers.{◌>>=◌}
 use Rattle.dw_base.specs.declared.error.Error.{Error}
 use Rattle.dw_unit.specs.Built.{Numbered, table_size}
 use Rattle.dw_unit.specs.Causes.{UnitFails, UnitsFail}
-use Rattle.dw_unit.specs.Pending.{Kept, kept_offsets, kept_at, tables_of, offsets_at, KeepPlaces}
+use Rattle.dw_unit.specs.Pending.{Kept, kept_offsets, kept_at, offsets_at, KeepPlaces}
 use Rattle.std.specs.Option.{option_map}
 use Rattle.dw_unit.specs.Places.{Offsets, offsets_in}
 use Rattle.dw_unit.specs.UnitValue.{UnitValue, offsets_of}
 use Rattle.dw_unit.specs.Valid.{IsWritableAt, AreWritable}
-use Rattle.dw_unit.specs.Whole.{settled, marked_written, written, AreWritten, AreStopped, IsRefused, tree_table}
-use Rattle.dw_unit.specs.Written.{to_write_from, to_write, past_table}
+use Rattle.dw_unit.specs.Whole.{settled, marked_written, written, AreWritten, AreStopped, IsRefused}
+use Rattle.dw_unit.specs.Written.{to_write_from, past_table}
 use Rattle.dw_unit.proofs.PendingSteps.{kept_other, kept_last}
 
 -- A table of which some units were gone through: what they were, what they are, and the others.

@@ -1,8 +1,7 @@
 -- What writing the units of a table comes to.
-use Rattle.std.specs.Prelude.{◌≡◌, ◌⊎◌, ℕ, ◌+◌, ◌≤◌, ◌<◌, Bool, true, false, List, [], ◌∷◌, ◌++◌, length, Some, None, refl, slice_set, slice_index_or, IsFalse, IsTrue}
+use Rattle.std.specs.Prelude.{◌≡◌, ◌⊎◌, ℕ, ◌+◌, ◌≤◌, ◌<◌, true, false, List, [], ◌∷◌, ◌++◌, length, Some, refl, slice_set, slice_index_or, IsFalse}
 use Rattle.std.proofs.Common.{sym, ◌∙◌, ap, subst, arith, append-nil, append_assoc, length-append, inl, inr}
 use Rattle.dw_base.specs.declared.error.Error.{Error}
-use Rattle.dw_base.specs.declared.error.Error.TheVariants as errors
 use Rattle.dw_base.specs.declared.section_id.SectionId.{SectionId}
 use Rattle.dw_base.specs.declared.section_id.SectionId.TheVariants.{DebugAbbrev, DebugInfo}
 use Rattle.dw_writer.specs.Causes.{HasRisen}
@@ -14,15 +13,15 @@ use Rattle.dw_writer.specs.declared.sections.Sections.{Sections}
 use Rattle.dw_unit.specs.Built.{Numbered, table_size}
 use Rattle.dw_unit.specs.Causes.{Because, Refused, Is, UnitRefused, UnitFails, UnitsFail, ReferencesFail, UnitsRefused, RefusesAny}
 use Rattle.dw_unit.specs.Filled.{Fills, AreFillable}
-use Rattle.dw_unit.specs.Pending.{Kept, units_draft, tables_of, info_at, KeepPlaces, PendsUnit, Pending}
+use Rattle.dw_unit.specs.Pending.{Kept, tables_of, info_at, KeepPlaces, PendsUnit, Pending}
 use Rattle.dw_unit.specs.UnitFaults.{holes_fail}
 use Rattle.dw_unit.specs.UnitValue.{UnitValue}
 use Rattle.dw_unit.specs.Valid.{IsWritableAt, AreWritable}
-use Rattle.dw_unit.specs.Whole.{settled, marked_written, AreWritten, AreStopped, IsRefused, tree_table}
-use Rattle.dw_unit.specs.Written.{to_write, past_table, PendsUnits, CompletesPending, CompletesAny, WritesIfNew, KeepsOtherSections, AppendsUnits}
+use Rattle.dw_unit.specs.Whole.{settled, marked_written, AreWritten, AreStopped, IsRefused}
+use Rattle.dw_unit.specs.Written.{to_write, PendsUnits, CompletesPending, WritesIfNew, KeepsOtherSections}
 use Rattle.dw_unit.proofs.Faults.{because-map}
 use Rattle.dw_unit.proofs.PendingSteps.{pending_none, pending_one, pending_then, pending_between, pending_widths, pending_lead, row_length, units_added}
-use Rattle.dw_unit.proofs.TableSteps.{IsAt, next_is, none_gone, one_gone, all_gone, written_more, stopped_at, stopped_after, written_old, written_new, past_tables, past_more, past_old, past_new, writable_more, fails_at, to_write-old, to_write-new, keeps_more, offsets_new, offsets_marked}
+use Rattle.dw_unit.proofs.TableSteps.{IsAt, next_is, none_gone, one_gone, all_gone, written_more, stopped_at, written_old, written_new, past_tables, past_more, past_old, past_new, writable_more, fails_at, to_write-old, to_write-new, keeps_more, offsets_new, offsets_marked}
 
 -- what stays in two calls
 pub front_others : {W : Type 0} (old now new : Sections W) → KeepsOtherSections old now → KeepsOtherSections now new → KeepsOtherSections old new

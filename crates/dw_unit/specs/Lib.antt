@@ -16,4 +16,5 @@ pub mod Filled
 pub mod Valid
 pub mod Causes
 pub mod Written
+pub mod Alone
 pub mod TableLends

@@ -1,5 +1,5 @@
 -- A unit as it is written: settled, in preorder, with codes.
-use Rattle.std.specs.Prelude.{◌≡◌, ◌⊎◌, ℕ, Bool, true, false, Option, List, [], ◌∷◌, if◌then◌else◌}
+use Rattle.std.specs.Prelude.{◌≡◌, ◌⊎◌, ℕ, true, false, Option, List, [], ◌∷◌, if◌then◌else◌}
 use Rattle.dw_base.specs.Abbreviations.{Shape, Declaration}
 use Rattle.dw_base.specs.Spelling.{header_size, table_bytes}
 use Rattle.dw_base.specs.declared.common.Encoding.{Encoding}

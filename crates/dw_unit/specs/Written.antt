@@ -1,5 +1,5 @@
 -- What writing units adds to the sections.
-use Rattle.std.specs.Prelude.{◌≡◌, ◌⊎◌, ℕ, suc, ◌+◌, Bool, true, false, List, [], ◌∷◌, ◌++◌, length, IsFalse, if◌then◌else◌}
+use Rattle.std.specs.Prelude.{◌≡◌, ◌⊎◌, ℕ, suc, ◌+◌, true, false, List, [], ◌∷◌, ◌++◌, length, IsFalse, if◌then◌else◌}
 use Rattle.dw_writer.specs.Meaning.{Meaning, Adds}
 use Rattle.dw_writer.specs.Drafts.{Info}
 use Rattle.dw_base.specs.declared.error.Error.{Error}

@@ -17,6 +17,9 @@ mod shape;
 #[cfg(test)]
 mod tests;
 mod unit;
+mod unit_iter;
+#[cfg(test)]
+mod unit_iter_tests;
 mod unit_table;
 mod value;
 #[cfg(test)]
@@ -29,4 +32,5 @@ pub use entry_mut::EntryMut;
 pub use line_program::LineProgram;
 pub use offsets::UnitOffsets;
 pub use unit::Unit;
+pub use unit_iter::UnitIter;
 pub use unit_table::UnitTable;

@@ -12,7 +12,7 @@ use crate::entry_mut::EntryMut;
 use crate::header::check_encoding;
 use crate::line_program::LineProgram;
 use crate::offsets::UnitOffsets;
-use dw_base::{DwTag, Encoding, Format, Result, UnitEntryId};
+use dw_base::{DwTag, Encoding, Error, Format, Result, UnitEntryId};
 use dw_entries::{DebuggingInformationEntry, Entries};
 use dw_writer::{Sections, Writer};
 use std::alloc::Global;
@@ -240,8 +240,9 @@ impl Unit {
 }
 
 impl Unit {
-    ghost use Rattle.std.specs.Prelude.{◌⊎◌, ◌≤◌};
+    ghost use Rattle.std.specs.Prelude.{◌⊎◌, ◌≤◌, [], IsFalse};
     ghost use Rattle.dw_writer.specs.Sections.{fault_sum};
+    ghost use Rattle.dw_unit.specs.Alone.{has_info_reference, AppendsAlone, AloneRefused};
     ghost use Rattle.dw_unit.specs.Whole.{settled, marked_written};
     ghost use Rattle.dw_unit.specs.Valid.{IsWritableAt};
     ghost use Rattle.dw_unit.specs.Pending.{PendsUnit, ExtendsPending};
@@ -284,14 +285,75 @@ impl Unit {
         ensures others { KeepsOtherSections sections.old sections.new }
         ensures faults { fault_sum W.meaning sections.old ≤ fault_sum W.meaning sections.new }
     {
+        let offsets = self.write_open(sections)?;
+        self.mark_written(offsets);
+        Ok(())
+    }
+
+    /// Writes the unit as `write` does, as the only one of its file.
+    ///
+    /// Refused as `write` refuses it, and as `InvalidReference` where a reference names an entry by
+    /// its place in `.debug_info`, also one of this unit: a unit alone has no number by which such
+    /// a reference could name it.
+    pub fn write_alone<W: Writer>(&mut self, sections: &mut Sections<W>) -> Result<()>
+        requires unwritten { self.old.is_written ≡ false }
+        requires none_open { sections.old.debug_info_fixups ≡ [] }
+        ensures appends { OnOk result
+            (AppendsAlone W.meaning sections.old sections.new (settled self.old)
+            self.new.offsets) }
+        ensures alone { OnOk result (IsFalse (has_info_reference self.old)) }
+        ensures closed { OnOk result (sections.new.debug_info_fixups ≡ []) }
+        ensures writable { OnOk result
+            (IsWritableAt (W.meaning sections.old.debug_info.0).is_plain
+            (W.meaning sections.old.debug_abbrev.0).size self.old) }
+        ensures marked { OnOk result
+            (self.new ≡ marked_written self.new.offsets (settled self.old)) }
+
+        ensures err { IfErr result (AloneRefused W.meaning sections.old sections.new self.old) }
+        ensures kept { OnErr result ((self.new ≡ self.old) ⊎ (self.new ≡ settled self.old)) }
+
+        ensures others { KeepsOtherSections sections.old sections.new }
+        ensures faults { fault_sum W.meaning sections.old ≤ fault_sum W.meaning sections.new }
+    {
+        let offsets = self.write_open(sections)?;
+        if !sections.debug_info_fixups.is_empty() {
+            return Err(Error::InvalidReference);
+        }
+        self.mark_written(offsets);
+        Ok(())
+    }
+
+    /// Settles the unit and writes it with its table, without a mark, and answers where its entries
+    /// stand. Its references to entries by their place in `.debug_info` are left open.
+    fn write_open<W: Writer>(&mut self, sections: &mut Sections<W>) -> Result<UnitOffsets>
+        requires { self.old.is_written ≡ false }
+        ensures unit { IfOk result
+            (λ o. PendsUnit W.meaning sections.old sections.new (settled self.old) (Some o)) }
+        ensures writable { OnOk result
+            (IsWritableAt (W.meaning sections.old.debug_info.0).is_plain
+            (W.meaning sections.old.debug_abbrev.0).size self.old) }
+        ensures settled { OnOk result (self.new ≡ settled self.old) }
+
+        ensures err { IfErr result (UnitRefused W.meaning sections.old sections.new self.old) }
+        ensures kept { OnErr result ((self.new ≡ self.old) ⊎ (self.new ≡ settled self.old)) }
+
+        ensures others { KeepsOtherSections sections.old sections.new }
+        ensures faults { fault_sum W.meaning sections.old ≤ fault_sum W.meaning sections.new }
+    {
         check_encoding(self.encoding)?;
         self.settle()?;
         let start = sections.debug_info.0.len();
         let alloc = self.entries.allocator();
         let places = write_tree(alloc, self.encoding, self.entries.as_slice(), sections)?;
-        self.offsets = Some(UnitOffsets::of(start, places));
+        Ok(UnitOffsets::of(start, places))
+    }
+
+    /// Marks the unit written, with where its entries stand.
+    fn mark_written(&mut self, offsets: UnitOffsets)
+        ensures { self.new ≡ marked_written (Some offsets) self.old }
+    {
+        self.offsets = Some(offsets);
         self.is_written = true;
-        Ok(())
     }
 }
 

@@ -13,6 +13,7 @@ ghost use Rattle.dw_unit.specs.Written.{CompletesAny, PendsUnits, WritesIfNew, K
 
 use crate::references::fill;
 use crate::unit::Unit;
+use crate::unit_iter::UnitIter;
 use dw_base::{Result, UnitId};
 use dw_writer::{Sections, Writer};
 use std::alloc::Global;
@@ -31,6 +32,7 @@ impl Model for UnitTable {
 }
 
 impl UnitTable {
+    ghost use Rattle.dw_unit.specs.Built.{numbered};
     ghost use Rattle.dw_unit.specs.TableLends.{LendsUnit};
 
     /// No units.
@@ -84,6 +86,13 @@ impl UnitTable {
         ensures value { slice_get self.old id.0 ≡ Some result.now }
     {
         &mut self.units[id.index()]
+    }
+
+    /// The units with their ids, in order.
+    pub fn iter(&self) -> UnitIter<'_>
+        ensures { result ≡ numbered self.now }
+    {
+        UnitIter::new(self.units.as_slice())
     }
 
     /// Writes the units that aren't written yet, each behind what `.debug_info` and `.debug_abbrev`

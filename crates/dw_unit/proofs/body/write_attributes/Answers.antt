@@ -1,4 +1,4 @@
-use Rattle.std.proofs.Common.{◌≡◌, ◌<◌, List, [], length, refl, subst, arith, take}
+use Rattle.std.proofs.Common.{◌≡◌, ◌<◌, List, length, refl, subst, arith, take}
 use Rattle.std.proofs.lemmas.List.{take_all}
 use Rattle.std.specs.Prelude.{IsFalse, Bool}
 use Rattle.std.proofs.lemmas.List.Elements.{All-nil}

@@ -1,5 +1,5 @@
 use Rattle.std.proofs.Common.{take}
-use Rattle.std.specs.Prelude.{[], IsFalse}
+use Rattle.std.specs.Prelude.{IsFalse}
 use Rattle.dw_base.specs.declared.error.Error.{Error}
 use Rattle.dw_writer.specs.Drafts.{Drafts}
 use Rattle.dw_unit.specs.Pending.{AreRanged}

@@ -1,0 +1,187 @@
+-- Units that name no entry by its place in .debug_info have no open place.
+use Rattle.std.specs.Prelude.{◌≡◌, ℕ, Bool, true, false, not, ◌&&◌, ◌||◌, ◌==◌, nat_le, List, [], ◌∷◌, ◌++◌, length, Option, refl, IsTrue, IsFalse, if◌then◌else◌}
+use Rattle.std.specs.List.{list_any}
+use Rattle.std.proofs.Common.{sym, ◌∙◌, ap, subst, arith, inl}
+use Rattle.std.proofs.lemmas.Bool.{ne_eqb}
+use Rattle.dw_base.specs.Numbers.{word_of}
+use Rattle.dw_base.specs.Spelling.{header_size}
+use Rattle.dw_base.specs.Entries.{Mark, Open, Null}
+use Rattle.dw_base.specs.Abbreviations.{Shape}
+use Rattle.dw_base.specs.declared.address.DebugInfoRef.TheVariants as refs
+use Rattle.dw_base.specs.declared.common.Encoding.{Encoding}
+use Rattle.dw_base.specs.declared.error.Error.{Error}
+use Rattle.dw_writer.specs.Drafts.{Draft, no_draft, whole, then_draft, shifted}
+use Rattle.dw_writer.specs.Meaning.{Meaning}
+use Rattle.dw_writer.specs.declared.fixup.DebugInfoFixup.{DebugInfoFixup}
+use Rattle.dw_writer.specs.declared.sections.Sections.{Sections}
+use Rattle.dw_entries.specs.Content.{Nothing, Plain, SignedLeb, content_holes}
+use Rattle.dw_entries.specs.declared.attribute.Attribute.{Attribute}
+use Rattle.dw_entries.specs.declared.value.AttributeValue.{AttributeValue}
+use Rattle.dw_entries.specs.declared.value.AttributeValue.TheVariants as values
+use Rattle.dw_entries.specs.Entries.{EntryValue, entry_at, has_sibling}
+use Rattle.dw_entries.specs.Targets.{UnitTargets}
+use Rattle.dw_entries.specs.Tree.{preorder}
+use Rattle.dw_entries.specs.Values.{content_of}
+use Rattle.dw_unit.specs.Alone.{is_info_reference, some_info_reference, mark_refers, tree_refers, has_info_reference, only_unit, AppendsAlone, AloneFails, AloneRefused}
+use Rattle.dw_unit.specs.Causes.{UnitFails, UnitRefused}
+use Rattle.dw_unit.specs.Filled.{Fills}
+use Rattle.dw_unit.specs.Pending.{Kept, draft_of, units_draft, Pending, PendsUnit}
+use Rattle.dw_unit.specs.Coded.{code_at}
+use Rattle.dw_unit.specs.Places.{OffsetsValue, targets_of}
+use Rattle.dw_unit.specs.UnitText.{fitting_text, header_text, attribute_draft, attributes_draft, sibling_draft, code_draft, mark_draft, coded_draft, marks_draft, tree_draft}
+use Rattle.dw_unit.specs.UnitFaults.{holes_fail}
+use Rattle.dw_unit.specs.UnitValue.{UnitValue}
+use Rattle.dw_unit.specs.Whole.{settled, tree_shapes}
+use Rattle.dw_unit.proofs.Faults.{because-map}
+use Rattle.dw_unit.proofs.Filling.{fills_none, fills_all}
+use Rattle.dw_unit.proofs.PendingSteps.{pending_one, units_added}
+
+-- there is none
+abbrev no_hole : List DebugInfoFixup → Bool
+no_hole [] = true
+no_hole (h ∷ hs) = false
+
+no_hole-is : (hs : List DebugInfoFixup) → no_hole hs ≡ true → hs ≡ []
+no_hole-is [] h = refl
+no_hole-is (x ∷ hs) h = absurd (let k : false ≡ true = h in cc)
+
+no_hole-length : (hs : List DebugInfoFixup) → (length hs == 0) ≡ no_hole hs
+no_hole-length [] = refl
+no_hole-length (x ∷ hs) = ne_eqb (length (x ∷ hs)) 0 (λ e. absurd (omega (arith, e)))
+
+no_hole-append : (xs ys : List DebugInfoFixup) → no_hole (xs ++ ys) ≡ (no_hole xs && no_hole ys)
+no_hole-append [] ys = refl
+no_hole-append (x ∷ xs) ys = refl
+
+no_hole-shifted : (n : ℕ) (hs : List DebugInfoFixup) → no_hole (shifted n hs) ≡ no_hole hs
+no_hole-shifted n [] = refl
+no_hole-shifted n (h ∷ hs) = refl
+
+-- one draft after another has no hole where neither has
+no_hole-then : (d f : Draft) → no_hole (then_draft d f).holes ≡ (no_hole d.holes && no_hole f.holes)
+unfolding then_draft
+no_hole-then d f = no_hole-append d.holes (shifted d.size f.holes) ∙ ap (λ b. no_hole d.holes && b) (no_hole-shifted d.size f.holes)
+
+not_or : (a b : Bool) → (not a && not b) ≡ not (a || b)
+not_or true b = refl
+not_or false b = refl
+
+-- the references that are left open are those of the values
+value_holes : (e : Encoding) (v : AttributeValue) → no_hole (content_holes e (content_of e v)) ≡ not (is_info_reference v)
+value_holes e (values.ImplicitConst z) = by_version (e.version == 5)
+  where
+    by_version : (b : Bool) → no_hole (content_holes e (if b then Nothing else SignedLeb z)) ≡ true
+    by_version true = refl
+    by_version false = refl
+value_holes e values.FlagPresent = by_test (nat_le 4 e.version)
+  where
+    by_test : (b : Bool) → no_hole (content_holes e (if b then Nothing else Plain 1 1)) ≡ true
+    by_test true = refl
+    by_test false = refl
+value_holes e (values.DebugInfoRef (refs.Symbol s)) = refl
+value_holes e (values.DebugInfoRef (refs.Entry u i)) = refl
+value_holes e v = refl
+
+attributes_holes : (e : Encoding) (u : UnitTargets) (xs : List Attribute) → no_hole (attributes_draft e u xs).holes ≡ not (some_info_reference xs)
+attributes_holes e u [] = refl
+attributes_holes e u (a ∷ xs) =
+    no_hole-then (attribute_draft e u a) (attributes_draft e u xs)
+    ∙ ap (λ b. b && no_hole (attributes_draft e u xs).holes) (value_holes e a.value)
+    ∙ ap (λ b. not (is_info_reference a.value) && b) (attributes_holes e u xs)
+    ∙ not_or (is_info_reference a.value) (some_info_reference xs)
+
+sibling_holes : (e : Encoding) (past : ℕ) (x : EntryValue) → no_hole (sibling_draft e past x).holes ≡ true
+sibling_holes e past x = by_flag (has_sibling x)
+  where
+    by_flag : (b : Bool) → no_hole (if b then whole (word_of e.format) (fitting_text (word_of e.format) past) else no_draft).holes ≡ true
+    by_flag true = refl
+    by_flag false = refl
+
+mark_holes : (e : Encoding) (es : List EntryValue) (u : UnitTargets) (code : ℕ) (m : Mark ℕ) → no_hole (mark_draft e es u code m).holes ≡ not (mark_refers es m)
+mark_holes e es u code (Open i) =
+    let x = entry_at es i in
+    no_hole-then (code_draft code) (then_draft (sibling_draft e (u.past i) x) (attributes_draft e u x.attributes))
+    ∙ no_hole-then (sibling_draft e (u.past i) x) (attributes_draft e u x.attributes)
+    ∙ ap (λ b. b && no_hole (attributes_draft e u x.attributes).holes) (sibling_holes e (u.past i) x)
+    ∙ attributes_holes e u x.attributes
+mark_holes e es u code Null = refl
+
+marks_holes : (e : Encoding) (es : List EntryValue) (u : UnitTargets) (shapes : List Shape) (ms : List (Mark ℕ)) → no_hole (marks_draft e es u shapes ms).holes ≡ not (list_any (mark_refers es) ms)
+marks_holes e es u shapes [] = refl
+marks_holes e es u shapes (m ∷ ms) =
+    no_hole-then (coded_draft e es u shapes m) (marks_draft e es u shapes ms)
+    ∙ ap (λ b. b && no_hole (marks_draft e es u shapes ms).holes) (mark_holes e es u (code_at e es shapes m) m)
+    ∙ ap (λ b. not (mark_refers es m) && b) (marks_holes e es u shapes ms)
+    ∙ not_or (mark_refers es m) (list_any (mark_refers es) ms)
+
+-- A unit has no open place exactly where no value in its tree names an entry by its place in .debug_info.
+draft_holes : (e : Encoding) (es : List EntryValue) (k : Kept) → no_hole (draft_of e es k).holes ≡ not (tree_refers es)
+draft_holes e es k =
+    let body = tree_draft e es (targets_of k.places) in
+    no_hole-then (whole (header_size e) (header_text e k.starts.abbrevs body.size)) body ∙ marks_holes e es (targets_of k.places) (tree_shapes e es) (preorder es)
+
+not_false : (b : Bool) → true ≡ not b → IsFalse b
+not_false true h = absurd (let k : true ≡ false = h in cc)
+not_false false h = refl
+
+not_true : (b : Bool) → false ≡ not b → IsTrue b
+not_true true h = refl
+not_true false h = absurd (let k : false ≡ true = h in cc)
+
+only_holes : (u : UnitValue) (k : Kept) → no_hole (units_draft (only_unit u) (k ∷ [])).holes ≡ no_hole (draft_of u.encoding u.entries k).holes
+only_holes u k = no_hole-then (draft_of u.encoding u.entries k) no_draft ∙ by_test (no_hole (draft_of u.encoding u.entries k).holes)
+  where
+    by_test : (b : Bool) → (b && true) ≡ b
+    by_test true = refl
+    by_test false = refl
+
+module _ {W : Type 0} (meaning : W → Meaning) (old new : Sections W) (u : UnitValue) (offsets : Option OffsetsValue) (none : old.debug_info_fixups ≡ []) (p : PendsUnit meaning old new (settled u) offsets) where
+  abbrev es : List EntryValue
+  es = (settled u).entries
+
+  -- the fixups that there are after it are its own
+  own_fixups : no_hole new.debug_info_fixups ≡ no_hole (draft_of u.encoding es p.kept).holes
+  own_fixups =
+      let hs = (draft_of u.encoding es p.kept).holes in
+      let n = (meaning old.debug_info.0).size in
+      ap no_hole (p.tree.unit.fixups ∙ ap (λ xs. xs ++ shifted n hs) none) ∙ no_hole-shifted n hs
+
+  pub alone_fixups : (length new.debug_info_fixups == 0) ≡ not (has_info_reference u)
+  alone_fixups = no_hole-length new.debug_info_fixups ∙ own_fixups ∙ draft_holes u.encoding es p.kept
+
+  pub alone_closed : (length new.debug_info_fixups == 0) ≡ true → new.debug_info_fixups ≡ []
+  alone_closed h = no_hole-is new.debug_info_fixups (sym (no_hole-length new.debug_info_fixups) ∙ h)
+
+  pub alone_is : (length new.debug_info_fixups == 0) ≡ true → IsFalse (has_info_reference u)
+  alone_is h = not_false (has_info_reference u) (sym h ∙ alone_fixups)
+
+  pub alone_refers : (length new.debug_info_fixups == 0) ≡ false → IsTrue (has_info_reference u)
+  alone_refers h = not_true (has_info_reference u) (sym h ∙ alone_fixups)
+
+  pub alone_appends : (length new.debug_info_fixups == 0) ≡ true → AppendsAlone meaning old new (settled u) offsets
+  alone_appends h =
+      let us = only_unit (settled u) in
+      let ks = p.kept ∷ [] in
+      let pending : Pending meaning old new us ks = pending_one meaning 0 (settled u) old new p.kept p.tree in
+      let closed : (units_draft us ks).holes ≡ [] =
+      no_hole-is (units_draft us ks).holes (only_holes (settled u) p.kept ∙ sym own_fixups ∙ sym (no_hole-length new.debug_info_fixups) ∙ h)
+      in
+      let m = meaning new.debug_info.0 in
+      record {
+        kept = p.kept;
+        appends = λ info. record {
+          units = units_added meaning info old new m us ks none pending
+              (subst (λ hs. Fills m m info hs) (sym (alone_closed h)) (fills_all info [] 0 (omega arith) (omega arith) (fills_none m info [])))
+              (λ err. subst (λ hs. IsFalse (holes_fail info (meaning old.debug_info.0).is_plain hs err)) (sym closed) refl);
+          tables = pending.tables;
+        };
+        closed = closed;
+        offsets_are = p.offsets_are;
+      }
+
+-- why a unit is refused that is to stand alone
+pub alone_refused : {W : Type 0} (meaning : W → Meaning) (old new : Sections W) (u : UnitValue) (err : Error) → UnitRefused meaning old new u err → AloneRefused meaning old new u err
+alone_refused meaning old new u err h =
+    let table = (meaning old.debug_abbrev.0).size in
+    let plain = (meaning old.debug_info.0).is_plain in
+    because-map {p = UnitFails u table plain} {q = AloneFails u table plain} (λ r. r) (λ e k. inl k) err h

@@ -1,0 +1,34 @@
+use Rattle.std.proofs.Common.{◌∙◌, sym, ap, subst, Err}
+use Rattle.std.specs.Prelude.{IfErr, Some, slice_index}
+use Rattle.std.proofs.lemmas.Result.{err_from_is_err_and}
+use Rattle.dw_unit.specs.Causes.{UnitRefused}
+use Rattle.dw_unit.specs.Pending.{PendsTree, kept_in, starts_of}
+use Rattle.dw_unit.specs.Places.{Offsets, found, offsets_in}
+use Rattle.dw_unit.proofs.Settling.{of_settled, tree_refused}
+use Rattle.dw_unit.proofs.unit.Unit.write_open.Goals as goal
+
+pub returns-in_err-places-clause-err : goal.returns-in_err-places-clause-err
+returns-in_err-places-clause-err g c =
+    let old = c.args.sections.now in
+    let new = c.write_tree.new.sections in
+    let u = c.args.self.now in
+    let p = err_from_is_err_and c.from_residual-in_err-places.result c.from_residual-in_err-places.ensures.1 in
+    let is = c.self-2.view_is ∙ c.in_ok-settle.ensures.ok in
+    subst (λ r. IfErr r (UnitRefused g.W.Writer.meaning old new u)) (sym (p.1 ∙ ap Err p.2))
+    (tree_refused u _ _ (ap (λ w. w.encoding) is) (c.as_slice.ensures.value ∙ ap (λ w. w.entries) is) g.W.Writer.meaning old new c.in_err-places.field-0.0 c.in_err-places.ensures.err)
+
+pub returns-clause-unit : goal.returns-clause-unit
+returns-clause-unit g c =
+    let meaning = g.W.Writer.meaning in
+    let old = c.args.sections.now in
+    let new = c.write_tree.new.sections in
+    let is = c.self-2.view_is ∙ c.in_ok-settle.ensures.ok in
+    let places = c.in_ok-places.places in
+    let kept = kept_in (starts_of meaning old) places in
+    record {
+      kept = kept;
+      tree = of_settled c.args.self.now _ _ (ap (λ w. w.encoding) is) (c.as_slice.ensures.value ∙ ap (λ w. w.entries) is) (λ e es. PendsTree meaning old new e es kept) c.in_ok-places.ensures.unit;
+      offsets_are =
+          ap (λ o. Some (offsets_in o)) c.of.ensures
+          ∙ ap (λ n. let o : Offsets = record { start = n; place = found (slice_index places.places.items) } in Some o) c.len-start.ensures;
+    }

@@ -1,0 +1,64 @@
+//! The units of a table, one after another.
+
+ghost use Rattle.std.specs.Prelude.{◌≡◌};
+ghost use Rattle.std.specs.Iterator.{YieldsFirstBy, item_count};
+ghost use Rattle.dw_unit.specs.Built.{numbered};
+
+use crate::unit::Unit;
+use dw_base::UnitId;
+use std::iter::FusedIterator;
+use std::marker::Model;
+
+/// The units of a table with their ids, in order, seen as those that are still to come.
+///
+/// ```
+/// for (id, unit) in dwarf.units.iter() {
+///     println!(rt; "unit {} has {} entries", id.index(), unit.count())?;
+/// }
+/// ```
+#[derive(Drop)]
+pub struct UnitIter<'a> {
+    units: &'a [Unit],
+    // The index of the first of `units` in the table.
+    index: usize,
+}
+
+impl<'a> Model for UnitIter<'a> {
+    ghost use Rattle.std.specs.Prelude.{List, length, ◌+◌, ◌<◌, ◌^◌};
+    ghost use Rattle.dw_unit.specs.Built.{Numbered, numbered_from};
+
+    ghost Value = { List Numbered };
+
+    ghost view = { λ it. numbered_from it.index it.units.now };
+
+    // So each index is a number of its type.
+    ghost invariant = { λ it. it.index + length it.units.now < 2 ^ 64 };
+}
+
+impl<'a> UnitIter<'a> {
+    /// All of these units, the first of which has the index 0.
+    pub(crate) fn new(units: &'a [Unit]) -> UnitIter<'a>
+        ensures { result ≡ numbered units.now }
+    {
+        UnitIter { units, index: 0 }
+    }
+}
+
+impl<'a> Iterator for UnitIter<'a> {
+    type Item = (UnitId, &'a Unit);
+
+    ghost next_gives = { YieldsFirstBy (λ item. record { id = item.0.0; unit = item.1.now })
+        (λ rest. rest) };
+
+    ghost remaining = { item_count (λ rest. rest) };
+
+    fn next(&mut self) -> Option<(UnitId, &'a Unit)> {
+        let (unit, rest) = self.units.split_first()?;
+        let id = UnitId::new(self.index);
+        self.units = rest;
+        self.index += 1;
+        Some((id, unit))
+    }
+}
+
+impl<'a> FusedIterator for UnitIter<'a> {}
