@@ -1,5 +1,5 @@
 -- A Dwarf that can be written.
-use Rattle.std.specs.Prelude.{◌≡◌, ◌⊎◌, Bool, false, List, map, All, IsTrue}
+use Rattle.std.specs.Prelude.{◌≡◌, ◌⊎◌, Bool, false, List, [], ◌∷◌, map, All, IsTrue}
 use Rattle.dw_base.specs.declared.error.Error.{Error}
 use Rattle.dw_writer.specs.Contents.{Meaning}
 use Rattle.dw_writer.specs.Sections.{SomeHasRisen}
@@ -23,6 +23,10 @@ AreUnwritten d = All IsUnwritten d.units
 -- with the root's base types first in each unit
 abbrev pub settled_dwarf : Dwarf → Dwarf
 settled_dwarf d = record d { units = map settled d.units }
+
+-- of one unit
+abbrev pub dwarf_of : UnitValue → Dwarf
+dwarf_of u = record { units = u ∷ [] }
 
 -- A Dwarf can be written into writers that are plain or not, where its sections begin: every unit has a version and an address
 -- size, values, places and a length that have a spelling, and every reference across units leads to an entry of one of them,

@@ -3,6 +3,9 @@
 #![tactic(auto)]
 
 mod dwarf;
+mod dwarf_unit;
+#[cfg(test)]
+mod dwarf_unit_tests;
 #[cfg(test)]
 mod relocation_tests;
 #[cfg(test)]
@@ -16,7 +19,8 @@ pub use dw_base::{
 };
 pub use dw_unit::{
     AttrMut, Attribute, AttributeValue, AttributeWalk, AttrsMut, DebuggingInformationEntry,
-    EntryMut, LineProgram, Unit, UnitTable,
+    EntryMut, LineProgram, Unit, UnitIter, UnitTable,
 };
 pub use dw_writer::{Bytes, EndianVec, Section, Sections, Writer};
 pub use dwarf::Dwarf;
+pub use dwarf_unit::DwarfUnit;

@@ -1,0 +1,94 @@
+//! The DWARF of a file that has one unit.
+
+ghost use Rattle.std.specs.Prelude.{◌≡◌, ◌⊎◌, ◌≤◌, true, false, IfOk, OnOk, OnErr, IfErr, IsFalse};
+ghost use Rattle.dw_base.specs.declared.error.Error.TheVariants.{NoMemory};
+ghost use Rattle.dw_writer.specs.Sections.{SomeHasRisen, fault_sum, NoFixups};
+ghost use Rattle.dw_unit.specs.Alone.{has_info_reference, AppendsAlone, AloneRefused};
+ghost use Rattle.dw_unit.specs.UnitValue.{new_unit, no_line_program};
+ghost use Rattle.dw_unit.specs.Valid.{IsWritableAt};
+ghost use Rattle.dw_unit.specs.Whole.{settled, marked_written};
+ghost use Rattle.dw_unit.specs.Written.{KeepsOtherSections};
+ghost use Rattle.dw_dwarf.specs.Valid.{dwarf_of};
+ghost use Rattle.dw_dwarf.specs.Written.{AreNewPlain, AreNew, HoldsDwarf, ResolvesTo};
+
+use dw_base::{Encoding, Result};
+use dw_unit::{LineProgram, Unit};
+use dw_writer::{Sections, Writer};
+use std::alloc::Global;
+
+/// A `Dwarf` of one unit, without a table of units.
+///
+/// ```
+/// let mut dwarf = DwarfUnit::new(alloc, encoding)?;
+/// let root = dwarf.unit.root();
+/// dwarf.unit.add(root, DW_TAG_base_type)?;
+/// let mut sections = Sections::new(alloc, EndianVec::new(alloc, LittleEndian))?;
+/// dwarf.write(&mut sections)?;
+/// ```
+#[derive(Drop)]
+pub struct DwarfUnit {
+    /// The one unit of `.debug_info`.
+    pub unit: Unit,
+}
+
+impl DwarfUnit {
+    /// A unit that has its root alone, a `DW_TAG_compile_unit` without attributes, and no line
+    /// program.
+    pub fn new(alloc: Global, encoding: Encoding) -> Result<DwarfUnit>
+        ensures ok { IfOk result (λ d. d.unit ≡ new_unit encoding no_line_program) }
+        ensures err { IfErr result (λ e. e ≡ NoMemory) }
+    {
+        Ok(DwarfUnit {
+            unit: Unit::new(alloc, encoding, LineProgram::none())?,
+        })
+    }
+
+    /// Writes the unit with its abbreviation table behind what the two sections hold, and marks it
+    /// written. Over new sections they then hold exactly this unit, to their last byte (DWARF 5,
+    /// 7.5). The root's base types move before its other children.
+    ///
+    /// Refused as `Unit::write` refuses the unit, and as `InvalidReference` where a reference names
+    /// an entry by its place in `.debug_info`, also one of this unit. A refused unit is as it was,
+    /// or has its base types moved, and the two sections may have got some bytes.
+    pub fn write<W: Writer>(&mut self, sections: &mut Sections<W>) -> Result<()>
+        requires unwritten { self.old.unit.is_written ≡ false }
+        requires fixups { NoFixups sections.old }
+        // Over new plain sections, each in its own byte order: they are read back as the unit.
+        ensures built { OnOk result
+            (AreNewPlain W.meaning sections.old →
+            HoldsDwarf W.meaning sections.new (dwarf_of (settled self.old.unit))) }
+        // Over new sections of any kind: so they are once a linker has resolved them.
+        ensures resolves { OnOk result
+            (AreNew W.meaning sections.old →
+            ResolvesTo W.meaning sections.new (dwarf_of (settled self.old.unit))) }
+        // Over sections of any kind, behind whatever stands there.
+        ensures appends { OnOk result
+            (AppendsAlone W.meaning sections.old sections.new (settled self.old.unit)
+            self.new.unit.offsets) }
+        ensures emptied { OnOk result (NoFixups sections.new) }
+        ensures marked { OnOk result
+            (self.new.unit ≡ marked_written self.new.unit.offsets (settled self.old.unit)) }
+        ensures writable { OnOk result
+            (IsWritableAt (W.meaning sections.old.debug_info.0).is_plain
+            (W.meaning sections.old.debug_abbrev.0).size self.old.unit) }
+        ensures alone { OnOk result (IsFalse (has_info_reference self.old.unit)) }
+
+        ensures err { IfErr result
+            (AloneRefused W.meaning sections.old sections.new self.old.unit) }
+        ensures kept { OnErr result
+            ((self.new ≡ self.old)
+            ⊎ (self.new ≡ record self.old { unit = settled self.old.unit })) }
+        // A unit that can be written, without such references, is refused only for want of memory,
+        // or by a fault that was counted.
+        ensures complete { IsWritableAt (W.meaning sections.old.debug_info.0).is_plain
+            (W.meaning sections.old.debug_abbrev.0).size self.old.unit →
+            IsFalse (has_info_reference self.old.unit) →
+            (SomeHasRisen W.meaning sections.old sections.new → ⊥) →
+            IfErr result (λ e. e ≡ NoMemory) }
+
+        ensures others { KeepsOtherSections sections.old sections.new }
+        ensures faults { fault_sum W.meaning sections.old ≤ fault_sum W.meaning sections.new }
+    {
+        self.unit.write_alone(sections)
+    }
+}
