@@ -8,4 +8,6 @@ pub mod ScriptUnits
 pub mod Faulty
 pub mod Completeness
 pub mod Runs
+pub mod Made
 mod Worked
+pub mod Drafts

@@ -10,7 +10,7 @@ use Rattle.dwarf_build.specs.declared.status.Status.TheVariants.{Listed, Usage, 
 
 module _ (words : List (List ℕ)) (source_old source_new : Input) (sink_old : Intake) where
   -- the whole text was taken
-  whole_answers : (sink_new : Intake) (status : Status) (text : List ℕ) → Says words source_old.left status text → Reads source_old source_new status →
+  whole_answers : (sink_new : Intake) (status : Status) (text : List ℕ) → Says words source_old.left status text → Reads words source_old source_new status →
       sink_new.taken ≡ with_after sink_old.taken text → Answers words source_old source_new sink_old sink_new status
   whole_answers k Listed text says reads takes = (record { text = text; says = says; takes = takes }, reads)
   whole_answers k Usage text says reads takes = (record { text = text; says = says; takes = takes }, reads)
@@ -22,7 +22,7 @@ module _ (words : List (List ℕ)) (source_old source_new : Input) (sink_old : I
   whole_answers k NoMemory text says reads takes = absurd says
 
   -- an answer was printed, whole or in part
-  print_answers : (sink_new : Intake) (status result : Status) (text : List ℕ) → Says words source_old.left status text → Reads source_old source_new status →
+  print_answers : (sink_new : Intake) (status result : Status) (text : List ℕ) → Says words source_old.left status text → Reads words source_old source_new status →
       Prints status text sink_old sink_new result → Answers words source_old source_new sink_old sink_new result
   print_answers k status result text says reads (inl h) =
       subst (Answers words source_old source_new sink_old k) (sym h.0) (whole_answers k status text says reads h.1)
@@ -34,7 +34,7 @@ module _ (words : List (List ℕ)) (source_old source_new : Input) (sink_old : I
       stopped (inr s) =
           subst (Answers words source_old source_new sink_old k) (sym s) (inr (record { status = status; text = text; says = says; takes = h.0 }))
 
-  pub printed_answers : (sink_new told : Intake) (status result : Status) (text : List ℕ) (code : ℕ) → Says words source_old.left status text → Reads source_old source_new status →
+  pub printed_answers : (sink_new told : Intake) (status result : Status) (text : List ℕ) (code : ℕ) → Says words source_old.left status text → Reads words source_old source_new status →
       Prints status text sink_old sink_new result → told ≡ sink_new → code ≡ code_of result → RunAnswers words source_old source_new sink_old told code
   printed_answers k told status result text code says reads prints same coded =
       record {

@@ -1,9 +1,14 @@
--- Scripts, read on the definition.
-use Rattle.std.proofs.Common.{◌≡◌, [], ◌∷◌, true, Ok, codes, refl}
+-- Scripts and what is generated, read on the definitions.
+use Rattle.std.proofs.Common.{◌≡◌, [], ◌∷◌, true, Ok, Some, codes, refl}
 use Rattle.dw_script.specs.Lines.{parsed_line}
 use Rattle.dw_base.specs.declared.common.Format.TheVariants.{Dwarf32, Dwarf64}
 use Rattle.dw_base.specs.declared.endianity.RunTimeEndian.TheVariants.{Little}
 use Rattle.dw_unit.specs.UnitValue.{new_unit, no_line_program}
+use Rattle.dw_base.specs.declared.address.DebugInfoRef.TheVariants.{Entry}
+use Rattle.dw_entries.specs.Attributes.{named}
+use Rattle.dw_entries.specs.Entries.{blank_entry, new_root}
+use Rattle.dw_entries.specs.declared.value.AttributeValue.TheVariants.{Data1, Udata, UnitRef, DebugInfoRef}
+use Rattle.dwarf_build.specs.Generated.{generated}
 use Rattle.dwarf_build.specs.Script.{empty_script, script}
 
 -- no line at all
@@ -15,3 +20,19 @@ empty = refl
 second_unit : script (codes "unit 5 8 32\nunit 4 4 64") ≡ Ok (record { endian = Little; dwarf = record { units = new_unit (record { address_size = 8; format = Dwarf32; version = 5 }) no_line_program ∷ new_unit (record { address_size = 4; format = Dwarf64; version = 4 }) no_line_program ∷ [] }; has_begun = true })
 unfolding script parsed_line
 second_unit = refl
+
+-- no variable: the base type is the root's one child
+none_generated : (generated 0).units ≡ record (new_unit (record { address_size = 8; format = Dwarf32; version = 5 }) no_line_program) {
+  entries = record new_root { children = 1 ∷ [] } ∷ record (blank_entry 1) { parent = Some 0; tag = 36; attributes = named 11 (Data1 4) ∷ [] } ∷ [];
+  reserved = 2;
+} ∷ []
+none_generated = refl
+
+-- one variable, which names the root of its own unit
+one_generated : (generated 1).units ≡ record (new_unit (record { address_size = 8; format = Dwarf32; version = 5 }) no_line_program) {
+  entries =
+      record new_root { children = 2 ∷ 1 ∷ [] } ∷ record (blank_entry 1) { parent = Some 0; tag = 36; attributes = named 11 (Data1 4) ∷ [] }
+      ∷ record (blank_entry 2) { parent = Some 0; tag = 52; attributes = named 11 (Udata 0) ∷ named 73 (UnitRef (record { 0 = 1 })) ∷ named 71 (DebugInfoRef (Entry (record { 0 = 0 }) (record { 0 = 0 }))) ∷ [] } ∷ [];
+  reserved = 3;
+} ∷ []
+one_generated = refl

@@ -1,5 +1,5 @@
 -- What the program answers, by its status.
-use Rattle.std.specs.Prelude.{◌≡◌, ◌⊎◌, ℕ, ◌<◌, ◌≤◌, true, List, [], ◌∷◌, length, Option, Some, Ok, Err, codes}
+use Rattle.std.specs.Prelude.{◌≡◌, ◌⊎◌, ℕ, ◌+◌, ◌<◌, ◌≤◌, true, false, List, [], ◌∷◌, length, Option, Some, None, Ok, Err, codes, bytes_eq, if◌then◌else◌}
 use Rattle.dw_base.specs.Order.{is_big_of}
 use Rattle.dw_base.specs.declared.error.Error.{Error}
 use Rattle.dw_unit.specs.Built.{numbered, at_begin}
@@ -9,8 +9,10 @@ use Rattle.dw_dwarf.specs.Written.{SectionTexts, AreTextsOf}
 use Rattle.dw_dwarf.specs.declared.dwarf.Dwarf.{Dwarf}
 use Rattle.dw_base.specs.Faults.{HasRisen}
 use Rattle.dw_ends.specs.Ends.{Input, Intake, used_up, with_after, TakesPrefix}
+use Rattle.dw_script.specs.Numbers.{number_below}
+use Rattle.dwarf_build.specs.Generated.{generated}
 use Rattle.dwarf_build.specs.Script.{script}
-use Rattle.dwarf_build.specs.Texts.{usage_text, too_long_text, refusal_text, refused_text, sections_text}
+use Rattle.dwarf_build.specs.Texts.{usage_text, too_long_text, refusal_text, refused_text, sections_text, summary_text}
 use Rattle.dwarf_build.specs.declared.answer.Stop.{Stop}
 use Rattle.dwarf_build.specs.declared.answer.Stop.TheVariants as stop
 use Rattle.dwarf_build.specs.declared.status.Status.{Status}
@@ -18,11 +20,22 @@ use Rattle.dwarf_build.specs.declared.status.Status.TheVariants.{Listed, Usage, 
 use Rattle.dwarf_build.specs.declared.script.Script.{Script}
 use Rattle.dwarf_build.specs.declared.script.Refusal.{Refusal}
 
--- the words are the one command that there is
+-- the words are the command that reads a script
 abbrev pub IsBuild : List (List ℕ) → Type 0
 IsBuild words = words ≡ codes "build" ∷ []
 
--- words that are no command leave the source alone
+-- the most variables that `make` generates
+abbrev pub most_variables : ℕ
+most_variables = 1000000
+
+-- how many variables the words ask for, where they are `make` and a number as scripts spell them
+abbrev pub made_of : List (List ℕ) → Option ℕ
+made_of [] = None
+made_of (word ∷ []) = None
+made_of (word ∷ field ∷ []) = if bytes_eq word (codes "make") then number_below (most_variables + 1) field else None
+made_of (word ∷ field ∷ more ∷ words) = None
+
+-- words that don't ask for reading leave the source alone
 abbrev pub LeavesUnread : {S : Type 0} → List (List ℕ) → S → S → Type 0
 LeavesUnread words old new = (IsBuild words → ⊥) → new ≡ old
 
@@ -88,22 +101,35 @@ pub record SaysRead (left : Option (List ℕ)) (status : Status) (text : List �
   pub told : IfTold left (λ xs. bytes ≡ xs)
   pub says : SaysBuild bytes status text
 
+-- the summary of sections that are read as exactly what is generated for a number, with nothing in other sections
+pub record SaysMade (number : ℕ) (text : List ℕ) : Type 0 where
+  pub texts : SectionTexts
+  pub are : AreTextsOf false (settled_dwarf (generated number)) texts
+  pub says : text ≡ summary_text (generated number) texts
+
+-- the words ask for a number, and this is said of what is generated for it
+pub record MakesWords (words : List (List ℕ)) (text : List ℕ) : Type 0 where
+  pub number : ℕ
+  pub asked : made_of words ≡ Some number
+  pub says : SaysMade number text
+
 -- the text of a status for these words and this input; the others have none of their own
 abbrev pub Says : List (List ℕ) → Option (List ℕ) → Status → List ℕ → Type 0
-Says words left Usage text = (IsBuild words → ⊥) × (text ≡ usage_text)
+Says words left Usage text = (IsBuild words → ⊥) × (made_of words ≡ None) × (text ≡ usage_text)
+Says words left Listed text = (IsBuild words × SaysRead left Listed text) ⊎ MakesWords words text
 Says words left SourceFailed text = ⊥
 Says words left SinkFailed text = ⊥
 Says words left NoMemory text = ⊥
 Says words left TooLong text = IsBuild words × (text ≡ too_long_text) × IfTold left (λ bytes. longest_script < length bytes)
 Says words left status text = IsBuild words × SaysRead left status text
 
--- whether the source was read to its end where this is answered, or not at all
-abbrev pub Reads : Input → Input → Status → Type 0
-Reads old new Listed = new.left ≡ used_up old.left
-Reads old new ScriptRefused = new.left ≡ used_up old.left
-Reads old new WriteRefused = new.left ≡ used_up old.left
-Reads old new Usage = new ≡ old
-Reads old new _ = Unit {0}
+-- whether the source was read to its end where this is answered, or not at all; `make` doesn't read
+abbrev pub Reads : List (List ℕ) → Input → Input → Status → Type 0
+Reads words old new Listed = (IsBuild words → new.left ≡ used_up old.left) × ((IsBuild words → ⊥) → new ≡ old)
+Reads words old new ScriptRefused = new.left ≡ used_up old.left
+Reads words old new WriteRefused = new.left ≡ used_up old.left
+Reads words old new Usage = new ≡ old
+Reads words old new _ = Unit {0}
 
 -- the sink has taken a front of a text that some status has here, which may be none of it
 pub record TakesFront (words : List (List ℕ)) (left : Option (List ℕ)) (old new : Option (List ℕ)) : Type 0 where
@@ -128,7 +154,7 @@ abbrev pub Answers : List (List ℕ) → Input → Input → Intake → Intake �
 Answers words source_old source_new sink_old sink_new SourceFailed = IsBuild words × HasRisen source_old.faults source_new.faults × (sink_new ≡ sink_old)
 Answers words source_old source_new sink_old sink_new SinkFailed = HasRisen sink_old.faults sink_new.faults × TakesFront words source_old.left sink_old.taken sink_new.taken
 Answers words source_old source_new sink_old sink_new NoMemory = (sink_new ≡ sink_old) ⊎ TakesFront words source_old.left sink_old.taken sink_new.taken
-Answers words source_old source_new sink_old sink_new status = TakesText words source_old.left status sink_old.taken sink_new.taken × Reads source_old source_new status
+Answers words source_old source_new sink_old sink_new status = TakesText words source_old.left status sink_old.taken sink_new.taken × Reads words source_old source_new status
 
 -- an answer was printed: whole, or a front of it where the sink refused
 abbrev pub Prints : Status → List ℕ → Intake → Intake → Status → Type 0
@@ -158,3 +184,8 @@ ListsValid words source_old source_new sink_old sink_new code =
     (s : Script) → script bytes ≡ Ok s → IsValid true s.dwarf →
     (HasRisen source_old.faults source_new.faults → ⊥) → (HasRisen sink_old.faults sink_new.faults → ⊥) →
     (code ≡ 0) ⊎ (code ≡ 6)
+
+-- what is generated was written, or memory lacked, unless the sink failed
+abbrev pub MakesNumbers : List (List ℕ) → Intake → Intake → ℕ → Type 0
+MakesNumbers words sink_old sink_new code =
+    (n : ℕ) → made_of words ≡ Some n → (HasRisen sink_old.faults sink_new.faults → ⊥) → (code ≡ 0) ⊎ (code ≡ 6)

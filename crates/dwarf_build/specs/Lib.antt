@@ -1,4 +1,6 @@
 pub mod Script
+pub mod Generated
+pub mod Drafted
 pub mod Texts
 pub mod Listed
 pub mod Answers

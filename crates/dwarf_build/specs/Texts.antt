@@ -1,10 +1,11 @@
 -- The texts that are printed.
-use Rattle.std.specs.Prelude.{ℕ, Bool, List, [], ◌∷◌, ◌++◌, codes, decimal}
+use Rattle.std.specs.Prelude.{ℕ, Bool, List, [], ◌∷◌, ◌++◌, length, codes, decimal, sum, sum_by}
 use Rattle.dw_base.specs.SectionName.{section_name}
 use Rattle.dw_base.specs.declared.section_id.SectionId.TheVariants.{DebugAbbrev, DebugStr, DebugLineStr, DebugLine, DebugRanges, DebugRngLists, DebugLoc, DebugLocLists, DebugInfo, DebugFrame, EhFrame}
 use Rattle.dw_base.specs.ErrorName.{error_name}
 use Rattle.dw_base.specs.declared.error.Error.{Error}
 use Rattle.dw_dwarf.specs.Written.{SectionTexts}
+use Rattle.dw_dwarf.specs.declared.dwarf.Dwarf.{Dwarf}
 use Rattle.dw_ends.specs.Listing.{listing}
 use Rattle.dw_script.specs.Reasons.{reason_text}
 use Rattle.dwarf_build.specs.declared.script.Refusal.{Refusal}
@@ -36,3 +37,13 @@ named s =
 -- the listing of sections in a byte order
 abbrev pub sections_text : Bool → SectionTexts → List ℕ
 sections_text big s = listing big (named s)
+
+-- how many units and entries there are, how long .debug_info and .debug_abbrev are, and the sum of the bytes of the former
+abbrev pub counts_text : ℕ → ℕ → List ℕ → List ℕ → List ℕ
+counts_text units entries info abbrevs =
+    codes "units " ++ decimal units ++ codes " entries " ++ decimal entries ++ codes " info " ++ decimal (length info)
+    ++ codes " abbrev " ++ decimal (length abbrevs) ++ codes " sum " ++ decimal (sum info) ++ codes "\n"
+
+-- what `make` tells of what it wrote
+abbrev pub summary_text : Dwarf → SectionTexts → List ℕ
+summary_text d s = counts_text (length d.units) (sum_by (λ u. length u.entries) d.units) s.debug_info s.debug_abbrev

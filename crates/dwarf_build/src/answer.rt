@@ -1,18 +1,29 @@
 //! What the program answers: a status and the text that goes with it.
 
-ghost use Rattle.std.specs.Prelude.{◌≡◌, ◌≢◌, ◌≤◌, ◌↔◌, ◌∷◌, [], List, length, map, codes, Some, IsTrue, IfOk, IfErr, string_bytes};
+ghost use Rattle.std.specs.Prelude.{◌≡◌, ◌≢◌, ◌+◌, ◌≤◌, ◌↔◌, ◌∷◌, [], List, length, map, codes, Some, IsTrue, IfOk, IfErr, string_bytes};
 ghost use Rattle.dw_base.specs.declared.error.Error.TheVariants.{NoMemory};
-ghost use Rattle.dwarf_build.specs.Answers.{IsBuild, LeavesUnread, Says, SaysOf, SaysBuild, Reads, StopsFor};
+ghost use Rattle.dw_script.specs.Numbers.{number_below};
+ghost use Rattle.dwarf_build.specs.Answers.{IsBuild, LeavesUnread, Says, SaysOf, SaysBuild, SaysMade, Reads, StopsFor, made_of, most_variables};
 ghost use Rattle.dwarf_build.specs.Script.{AreOpen};
 ghost use Rattle.dwarf_build.specs.Texts.{refusal_text, refused_text};
 
 use crate::listing::list_sections;
+use crate::make::generate;
 use crate::script::{Refusal, SCRIPT_LIMIT, Script, ScriptError, read_script};
 use crate::status::Status;
-use dw_base::Error;
+use crate::summary::{Counts, summarize};
+use crate::write::write_new;
+use dw_base::{Error, RunTimeEndian};
 use dw_ends::{ReadAllError, Source, read_all};
-use dw_writer::{EndianVec, Sections};
+use dw_script::parse_u64;
+use dw_writer::Section;
 use std::alloc::{AllocError, Global};
+
+/// The most variables that `make` generates.
+const MOST_VARIABLES: u64 = 1_000_000;
+
+/// The commands.
+const USAGE: &[u8] = b"usage: build | convert | link | make N\n";
 
 /// A status and the text that goes with it.
 #[derive(Drop)]
@@ -45,6 +56,26 @@ fn is_build(words: &Vec<String>) -> bool
     match words.as_slice() {
         [word] => word.as_str() == "build",
         _ => false,
+    }
+}
+
+// How many variables the words ask for, where they are the command `make` and a number.
+fn count_to_make(words: &Vec<String>) -> Option<u64>
+    ensures { result ≡ made_of (map string_bytes words.now.items) }
+{
+    match words.as_slice() {
+        [word, field] if word.as_str() == "make" => variable_count(field.as_bytes()),
+        _ => None,
+    }
+}
+
+// The number that a field spells, if `make` generates as many variables.
+fn variable_count(field: &[u8]) -> Option<u64>
+    ensures { result ≡ number_below (most_variables + 1) field.now }
+{
+    match parse_u64(field) {
+        Some(count) if count <= MOST_VARIABLES => Some(count),
+        _ => None,
     }
 }
 
@@ -88,13 +119,8 @@ fn write_script(alloc: Global, mut script: Script) -> Result<Answer, AllocError>
     requires { AreOpen script.dwarf.units }
     ensures { IfOk result (λ a. SaysOf script a.status a.text.items) }
 {
-    let section = EndianVec::new(alloc, script.endian);
-    let mut sections = match Sections::new(alloc, section) {
-        Ok(sections) => sections,
-        Err(_) => return Err(AllocError),
-    };
-    match script.dwarf.write(&mut sections) {
-        Ok(()) => {
+    match write_new(alloc, script.endian, &mut script.dwarf) {
+        Ok(sections) => {
             let text = list_sections(alloc, script.endian, &sections)?;
             Ok(Answer {
                 status: Status::Listed,
@@ -117,11 +143,25 @@ fn build(alloc: Global, bytes: &[u8]) -> Result<Answer, AllocError>
     }
 }
 
+// Generates so many variables, writes them, and tells what was written.
+fn answer_make(alloc: Global, count: u64) -> Result<Answer, Error>
+    ensures { IfOk result (λ a. (a.status ≡ Status.Listed) × SaysMade count a.text.items) }
+{
+    let mut dwarf = generate(alloc, count)?;
+    let counts = Counts::of(&dwarf.units);
+    let sections = write_new(alloc, RunTimeEndian::Little, &mut dwarf)?;
+    let info = sections.debug_info.section().slice();
+    let abbrev = sections.debug_abbrev.section().slice();
+    let text = summarize(alloc, counts, info, abbrev)?;
+    Ok(answer_with(alloc, Status::Listed, text.as_bytes())?)
+}
+
 // What the command `build` answers to its input.
 fn answer_build<S: Source>(alloc: Global, source: &mut S) -> Result<Answer, Stop>
     ensures ok { IfOk result (λ a.
         Says (codes "build" ∷ []) (S.input source.old).left a.status a.text.items) }
-    ensures reads { IfOk result (λ a. Reads (S.input source.old) (S.input source.new) a.status) }
+    ensures reads { IfOk result (λ a. Reads (codes "build" ∷ [])
+        (S.input source.old) (S.input source.new) a.status) }
     ensures err { IfErr result (StopsFor (codes "build" ∷ [])
         (S.input source.old) (S.input source.new)) }
     ensures faults { (S.input source.old).faults ≤ (S.input source.new).faults }
@@ -142,15 +182,19 @@ pub fn answer_to<S: Source>(
 ) -> Result<Answer, Stop>
     ensures ok { IfOk result (λ a.
         Says (map string_bytes words.now.items) (S.input source.old).left a.status a.text.items) }
-    ensures reads { IfOk result (λ a. Reads (S.input source.old) (S.input source.new) a.status) }
+    ensures reads { IfOk result (λ a. Reads (map string_bytes words.now.items)
+        (S.input source.old) (S.input source.new) a.status) }
     ensures err { IfErr result (StopsFor (map string_bytes words.now.items)
         (S.input source.old) (S.input source.new)) }
     ensures unread { LeavesUnread (map string_bytes words.now.items) source.old source.new }
     ensures faults { (S.input source.old).faults ≤ (S.input source.new).faults }
 {
-    if !is_build(words) {
-        let text = b"usage: build | convert | link | make N\n";
-        return Ok(answer_with(alloc, Status::Usage, text)?);
+    if is_build(words) {
+        return answer_build(alloc, source);
     }
-    answer_build(alloc, source)
+    match count_to_make(words) {
+        // What is generated is valid, which tests show, so that writing it lacks memory at most.
+        Some(count) => answer_make(alloc, count).map_err(|_| Stop::NoMemory),
+        None => Ok(answer_with(alloc, Status::Usage, USAGE)?),
+    }
 }

@@ -1,14 +1,18 @@
-//! Builds DWARF from a script and prints the sections as a listing.
+//! Builds DWARF from a script, and lists it, or generates it, and tells how much it is.
 #![tactic(auto)]
 
 mod answer;
 mod entries;
 mod listing;
+mod make;
+#[cfg(test)]
+mod make_tests;
 #[cfg(test)]
 mod reference_tests;
 pub mod run;
 mod script;
 mod status;
+mod summary;
 #[cfg(test)]
 mod tests;
 #[cfg(test)]
@@ -17,6 +21,7 @@ mod tree_tests;
 mod units_tests;
 #[cfg(test)]
 mod value_tests;
+mod write;
 
 ghost use Rattle.std.specs.Prelude.{◌≡◌, ◌⊎◌, IfErr};
 

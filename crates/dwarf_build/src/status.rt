@@ -6,7 +6,7 @@ ghost use Rattle.dwarf_build.specs.Answers.{code_of};
 /// How the program ends.
 #[derive(Clone, Copy, Debug, PartialEq, Eq)]
 pub enum Status {
-    /// The sections were listed.
+    /// The sections were listed, or what they hold was summed up.
     Listed,
     /// The words aren't a command.
     Usage,

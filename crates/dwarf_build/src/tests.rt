@@ -41,7 +41,7 @@ const LISTING: &str = "order little
 .eh_frame 0
 ";
 
-fn owned(alloc: Global, words: &[&str]) -> Result<Vec<String>, AllocError> {
+pub(crate) fn owned(alloc: Global, words: &[&str]) -> Result<Vec<String>, AllocError> {
     let mut list = Vec::new(alloc);
     for word in words {
         list.push(String::from_str(alloc, word)?)?;
@@ -388,7 +388,7 @@ fn tells_the_usage_without_reading(rt: HostRuntime) -> Result<(), Fail> {
         &["link"],
         &["convert"],
         &["make"],
-        &["make", "5"],
+        &["make", "5", "5"],
     ];
     for row in rows {
         let words = owned(rt.alloc(), row)?;

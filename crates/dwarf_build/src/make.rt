@@ -1,0 +1,97 @@
+//! The input that `make` generates.
+
+ghost use Rattle.std.specs.Prelude.{◌≡◌, ◌≢◌, ◌+◌, ◌<◌, ◌≤◌, ◌^◌, false, length, OnOk, IfOk};
+ghost use Rattle.dw_entries.specs.Entries.{with_attribute};
+ghost use Rattle.dw_unit.specs.UnitValue.{with_entry};
+ghost use Rattle.dwarf_build.specs.Drafted.{with_variable};
+ghost use Rattle.dwarf_build.specs.Generated.{generated, generated_unit};
+
+use dw_base::constants::{
+    DW_AT_byte_size, DW_AT_sibling, DW_AT_specification, DW_AT_type, DW_TAG_base_type,
+    DW_TAG_variable,
+};
+use dw_base::{DebugInfoRef, DwAt, Encoding, Format, Result, UnitEntryId, UnitId};
+use dw_dwarf::Dwarf;
+use dw_unit::{AttributeValue, LineProgram, Unit};
+use std::alloc::Global;
+
+/// The most variables that a unit holds.
+const UNIT_VARIABLES: u64 = 1000;
+
+/// How the units are encoded.
+const ENCODING: Encoding = Encoding {
+    address_size: 8,
+    format: Format::Dwarf32,
+    version: 5,
+};
+
+/// Generates so many variables, a thousand a unit.
+pub fn generate(alloc: Global, count: u64) -> Result<Dwarf>
+    ensures { IfOk result (λ d. d ≡ generated count) }
+{
+    let mut dwarf = Dwarf::new(alloc);
+    for index in 0..count / UNIT_VARIABLES + 1 {
+        let from = index * UNIT_VARIABLES;
+        let unit = generate_unit(alloc, from, UNIT_VARIABLES.min(count - from))?;
+        dwarf.units.add(unit)?;
+    }
+    Ok(dwarf)
+}
+
+// Generates a unit of so many variables from a number on. Their base type is the root's last child,
+// so that they name an entry that stands behind them.
+fn generate_unit(alloc: Global, from: u64, count: u64) -> Result<Unit>
+    requires few { count ≤ 1000 }
+    requires numbered { from + count < 2 ^ 64 }
+    ensures { IfOk result (λ u. u ≡ generated_unit from count) }
+{
+    let mut unit = Unit::new(alloc, ENCODING, LineProgram::none())?;
+    let base_type = unit.reserve();
+    for index in 0..count {
+        add_variable(&mut unit, from + index, base_type)?;
+    }
+    let root = unit.root();
+    unit.add_reserved(base_type, root, DW_TAG_base_type)?;
+    set(
+        &mut unit,
+        base_type,
+        DW_AT_byte_size,
+        AttributeValue::Data1(4),
+    )?;
+    Ok(unit)
+}
+
+// Adds the variable of a number behind the root's other children.
+fn add_variable(unit: &mut Unit, number: u64, base_type: UnitEntryId) -> Result<()>
+    requires room { unit.old.reserved < usize.MAX }
+    requires rooted { 0 < unit.old.reserved }
+    requires not_freed { unit.old.is_freed ≡ false }
+    ensures { OnOk result (unit.new ≡ with_variable base_type.0 number unit.old) }
+{
+    let root = unit.root();
+    let id = unit.add(root, DW_TAG_variable)?;
+    set(unit, id, DW_AT_byte_size, AttributeValue::Udata(number))?;
+    set(unit, id, DW_AT_type, AttributeValue::UnitRef(base_type))?;
+    if number % 100 == 0 {
+        let first_root = DebugInfoRef::Entry(UnitId::new(0), UnitEntryId::new(0));
+        set(
+            unit,
+            id,
+            DW_AT_specification,
+            AttributeValue::DebugInfoRef(first_root),
+        )?;
+    }
+    Ok(())
+}
+
+// Gives an attribute of an entry a value.
+fn set(unit: &mut Unit, id: UnitEntryId, name: DwAt, value: AttributeValue) -> Result<()>
+    requires within { id.0 < length unit.old.entries }
+    requires named { name.0 ≢ 0 }
+    requires not_sibling { name ≢ DW_AT_sibling }
+    ensures ok { OnOk result
+        (unit.new ≡ with_entry unit.old id.0 (with_attribute name.0 value)) }
+    ensures count { OnOk result (length unit.new.entries ≡ length unit.old.entries) }
+{
+    unit.get_mut(id).set(name, value)
+}

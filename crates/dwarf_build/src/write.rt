@@ -1,0 +1,32 @@
+//! Writing over new sections.
+
+ghost use Rattle.std.specs.Prelude.{◌≡◌, ◌≢◌, true, IfOk, IfErr};
+ghost use Rattle.dw_base.specs.Order.{is_big_of};
+ghost use Rattle.dw_base.specs.declared.error.Error.TheVariants.{NoMemory};
+ghost use Rattle.dw_dwarf.specs.Valid.{AreUnwritten, IsValid, settled_dwarf};
+ghost use Rattle.dw_dwarf.specs.Written.{HoldsDwarf};
+ghost use Rattle.dwarf_build.specs.Answers.{HasFault};
+
+use dw_base::{Result, RunTimeEndian};
+use dw_dwarf::Dwarf;
+use dw_writer::{EndianVec, Sections, Writer};
+use std::alloc::Global;
+
+/// Writes into sections in memory that nothing was written into before.
+pub(crate) fn write_new(
+    alloc: Global,
+    endian: RunTimeEndian,
+    dwarf: &mut Dwarf,
+) -> Result<Sections<EndianVec<RunTimeEndian>>>
+    requires { AreUnwritten dwarf.old }
+    ensures valid { IfOk result (λ _. IsValid true dwarf.old) }
+    ensures order { IfOk result (λ s.
+        (⟦<EndianVec<RunTimeEndian> as Writer>⟧.meaning s.debug_info.0).is_big ≡ is_big_of endian) }
+    ensures holds { IfOk result (λ s.
+        HoldsDwarf ⟦<EndianVec<RunTimeEndian> as Writer>⟧.meaning s (settled_dwarf dwarf.old)) }
+    ensures err { IfErr result (λ e. e ≢ NoMemory → HasFault dwarf.old e) }
+{
+    let mut sections = Sections::new(alloc, EndianVec::new(alloc, endian))?;
+    dwarf.write(&mut sections)?;
+    Ok(sections)
+}
