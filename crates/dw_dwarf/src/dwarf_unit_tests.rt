@@ -1,5 +1,8 @@
 //! One unit alone, written into memory.
 
+ghost use Rattle.std.specs.Prelude.{IfOk};
+ghost use Rattle.dw_writer.specs.Sections.{NoFixups};
+
 use crate::DwarfUnit;
 use dw_base::constants::{DW_AT_type, DW_TAG_base_type};
 use dw_base::{DebugInfoRef, Encoding, Error, Format, LittleEndian, Result, UnitId};
@@ -15,7 +18,9 @@ const ENCODING: Encoding = Encoding {
     version: 5,
 };
 
-fn new_sections(alloc: Global) -> Result<Sections<EndianVec<LittleEndian>>> {
+fn new_sections(alloc: Global) -> Result<Sections<EndianVec<LittleEndian>>>
+    ensures { IfOk result NoFixups }
+{
     Sections::new(alloc, EndianVec::new(alloc, LittleEndian))
 }
 

@@ -76,15 +76,15 @@ fn unit_with_functions(alloc: Global) -> Result<(Unit, UnitEntryId, UnitEntryId)
     unit.get_mut(ROOT)
         .set(DW_AT_producer, string(alloc, b"root")?)?;
     let first = unit.add(ROOT, DW_TAG_subprogram)?;
+    let second = unit.add(ROOT, DW_TAG_subprogram)?;
+    let mut entry = unit.get_mut(second);
+    entry.set(DW_AT_name, string(alloc, b"tmp")?)?;
+    entry.set(DW_AT_name, string(alloc, b"child2")?)?;
     let mut entry = unit.get_mut(first);
     entry.set(DW_AT_name, string(alloc, b"tmp")?)?;
     if let Some(mut attribute) = entry.attrs_mut().next() {
         attribute.set(string(alloc, b"child1")?);
     }
-    let second = unit.add(ROOT, DW_TAG_subprogram)?;
-    let mut entry = unit.get_mut(second);
-    entry.set(DW_AT_name, string(alloc, b"tmp")?)?;
-    entry.set(DW_AT_name, string(alloc, b"child2")?)?;
     Ok((unit, first, second))
 }
 
@@ -94,6 +94,7 @@ fn a_function_answers_its_last_name(rt: HostRuntime) -> std::result::Result<(), 
     assert_eq!(rt; unit.count(), 3);
     assert_eq!(rt; (first.index(), second.index()), (1, 2));
     for (id, text) in [(first, b"child1"), (second, b"child2")] {
+        assert!(rt; id.index() < unit.count());
         let entry = unit.get(id);
         let name = string(rt.alloc(), text)?;
         assert_eq!(rt; entry.id(), id);

@@ -115,8 +115,12 @@ fn refers_through_a_hundred_units(rt: HostRuntime) -> Result<(), Fail> {
     let mut info = String::new(rt.alloc());
     let mut abbrev = String::new(rt.alloc());
     for unit in 0..100 {
-        let next = if unit == 99 { 0 } else { unit + 1 };
-        let place = 17 * next + 12;
+        // The next root stands 17 bytes behind this unit's, which stands at 17 * unit + 12.
+        let (next, place) = if unit == 99 {
+            (0, 12)
+        } else {
+            (unit + 1, 17u32.wrapping_mul(unit).wrapping_add(29))
+        };
         let table = 8 * unit;
         write!(
             lines,

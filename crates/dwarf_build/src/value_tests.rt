@@ -61,9 +61,11 @@ const ALIKE: [(&str, &str, Operand); 24] = [
     ("ordering 1", "0f", Bytes("01")),
 ];
 
-/// The kinds whose form or operand hangs on the version or the format: the versions from which and
-/// to which a row holds, its format, and the same as above.
-const VARYING: [(usize, usize, usize, &str, &str, Operand); 30] = [
+/// The versions from which and to which a row holds, its format, and what the rows above have.
+type Row = (usize, usize, usize, &'static str, &'static str, Operand);
+
+/// The kinds whose form or operand hangs on the version or the format.
+const VARYING: [Row; 30] = [
     // In version 5 DW_FORM_implicit_const has its number in the declaration; before, DW_FORM_sdata
     // has it in the entry.
     (2, 4, 32, "implicit_const -128", "0d", Bytes("807f")),
@@ -265,19 +267,31 @@ fn check_refusal(
     Ok(())
 }
 
-/// Builds a unit for each of the 32 kinds.
-fn check_kinds(rt: &impl Abort, alloc: Global, head: UnitHead) -> Result<(), Fail> {
+/// Builds a unit for the row where it is of this version and format, and counts it.
+fn check_row(rt: &impl Abort, alloc: Global, head: UnitHead, row: Row) -> Result<u8, Fail> {
+    let (from, to, format, value, form, operand) = row;
+    if head.version < from || to < head.version || head.format != format {
+        return Ok(0);
+    }
+    check_value(rt, alloc, head, value, form, operand)?;
+    Ok(1)
+}
+
+/// Builds a unit for each of the 24 kinds that are spelled alike.
+fn check_alike(rt: &impl Abort, alloc: Global, head: UnitHead) -> Result<(), Fail> {
     for (value, form, operand) in ALIKE {
         check_value(rt, alloc, head, value, form, operand)?;
     }
-    let mut varying = 0u8;
-    for (from, to, format, value, form, operand) in VARYING {
-        if from <= head.version && head.version <= to && head.format == format {
-            check_value(rt, alloc, head, value, form, operand)?;
-            varying = varying.saturating_add(1);
-        }
+    Ok(())
+}
+
+/// Builds a unit for each of the 8 other kinds.
+fn check_varying(rt: &impl Abort, alloc: Global, head: UnitHead) -> Result<(), Fail> {
+    let mut count = 0u8;
+    for row in VARYING {
+        count = count.saturating_add(check_row(rt, alloc, head, row)?);
     }
-    assert_eq!(rt; varying, 8, "at {head:?}");
+    assert_eq!(rt; count, 8, "at {head:?}");
     Ok(())
 }
 
@@ -291,7 +305,8 @@ fn spells_every_kind(rt: HostRuntime) -> Result<(), Fail> {
                 address_size: 8,
                 format,
             };
-            check_kinds(&rt, rt.alloc(), head)?;
+            check_alike(&rt, rt.alloc(), head)?;
+            check_varying(&rt, rt.alloc(), head)?;
         }
     }
     Ok(())
