@@ -1,6 +1,7 @@
 #!/usr/bin/env bash
-# Seconds and peak memory of `dwarf_build make` for so many variables, in units of a thousand that
-# name each other, from the words to the summary: 100,000 and 1,000,000, if not said otherwise.
+# Seconds and peak memory of `dwarf_build make` for so many variables, in units of a thousand, with
+# references to the root of the first, from the words to the summary: 100,000 and 1,000,000, if not
+# said otherwise.
 #
 #     benches/make.sh [VARIABLES ..]
 set -eu
