@@ -6,8 +6,8 @@ ghost use Rattle.dw_writer.specs.Causes.{IsNotMemory};
 ghost use Rattle.dw_writer.specs.Sections.{SomeHasRisen, fault_sum, NoFixups};
 ghost use Rattle.dw_unit.specs.Causes.{RefusesAny};
 ghost use Rattle.dw_unit.specs.Pending.{starts_of};
-ghost use Rattle.dw_unit.specs.Whole.{AreWritten, AreStopped};
-ghost use Rattle.dw_unit.specs.Written.{CompletesAny};
+ghost use Rattle.dw_unit.specs.Valid.{CanFollow};
+ghost use Rattle.dw_unit.specs.Written.{AreWritten, AreStopped, CompletesAny};
 ghost use Rattle.dw_dwarf.specs.Valid.{AreUnwritten, IsValid, IsValidAt, DwarfRefused, settled_dwarf};
 ghost use Rattle.dw_dwarf.specs.Written.{AreNewPlain, AreNew, HoldsDwarf, ResolvesTo, KeepsOthers};
 
@@ -72,7 +72,11 @@ impl Dwarf {
         ensures completes { OnOk result
             (CompletesAny W.meaning sections.old sections.new self.old.units self.new.units) }
         ensures emptied { OnOk result (NoFixups sections.new) }
-        ensures marked { OnOk result (AreWritten self.old.units self.new.units) }
+        // Each unit that wasn't written before keeps where its entries stand: in a row from where the
+        // sections ended.
+        ensures marked { OnOk result
+            (AreWritten (starts_of W.meaning sections.old) (starts_of W.meaning sections.new)
+            self.old.units self.new.units) }
         ensures valid { OnOk result
             (sections.old.debug_info_fixups ≡ [] → AreUnwritten self.old →
             IsValidAt (W.meaning sections.old.debug_info.0).is_plain
@@ -83,11 +87,16 @@ impl Dwarf {
             DwarfRefused W.meaning sections.old sections.new self.old e) }
         ensures refused { IfErr result
             (RefusesAny W.meaning sections.old sections.new self.old.units self.new.units) }
-        ensures stopped { OnErr result (AreStopped self.old.units self.new.units) }
+        ensures stopped { OnErr result
+            (AreStopped (starts_of W.meaning sections.old) self.old.units self.new.units) }
         // A valid Dwarf is refused over new sections only for want of memory, or by a fault that
         // was counted. What is valid hangs on whether symbols can be written.
         ensures complete { AreNew W.meaning sections.old → AreUnwritten self.old →
             IsValid (W.meaning sections.old.debug_info.0).is_plain self.old →
+            (SomeHasRisen W.meaning sections.old sections.new → ⊥) →
+            IfErr result (λ e. e ≡ NoMemory) }
+        // The same behind units that are pending.
+        ensures follows { CanFollow W.meaning sections.old self.old.units →
             (SomeHasRisen W.meaning sections.old sections.new → ⊥) →
             IfErr result (λ e. e ≡ NoMemory) }
         // Where every unit is written already, references are patched, and no memory is taken.

@@ -14,12 +14,12 @@ mod tests;
 mod unit_table_tests;
 
 pub use dw_base::{
-    BigEndian, DwAt, DwAte, DwForm, DwLang, DwTag, Encoding, Endianity, Error, Format,
-    LittleEndian, Result, RunTimeEndian, SectionId, UnitEntryId, UnitId, constants,
+    BigEndian, DebugInfoRef, DwAt, DwAte, DwForm, DwLang, DwTag, Encoding, Endianity, Error,
+    Format, LittleEndian, Result, RunTimeEndian, SectionId, UnitEntryId, UnitId, constants,
 };
 pub use dw_unit::{
     AttrMut, Attribute, AttributeValue, AttributeWalk, AttrsMut, DebuggingInformationEntry,
-    EntryMut, LineProgram, Unit, UnitIter, UnitTable,
+    EntryMut, LineProgram, Unit, UnitIter, UnitOffsets, UnitTable,
 };
 pub use dw_writer::{Bytes, EndianVec, Section, Sections, Writer};
 pub use dwarf::Dwarf;

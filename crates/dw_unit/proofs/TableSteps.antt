@@ -5,15 +5,15 @@ use Rattle.std.proofs.lemmas.Bool.{cases_eq, eq-eqb, ne_eqb}
 use Rattle.std.proofs.lemmas.List.Elements.{All-head, All-tail}
 use Rattle.dw_base.specs.Numbers.{◌>>=◌}
 use Rattle.dw_base.specs.declared.error.Error.{Error}
-use Rattle.dw_unit.specs.Built.{Numbered, table_size}
+use Rattle.dw_unit.specs.Built.{Numbered, Starts, table_size}
 use Rattle.dw_unit.specs.Causes.{UnitFails, UnitsFail}
-use Rattle.dw_unit.specs.Pending.{Kept, kept_offsets, kept_at, offsets_at, KeepPlaces}
+use Rattle.dw_unit.specs.Pending.{Kept, past_kept, kept_offsets, kept_at, offsets_at, KeepPlaces}
 use Rattle.std.specs.Option.{option_map}
 use Rattle.dw_unit.specs.Places.{Offsets, offsets_in}
 use Rattle.dw_unit.specs.UnitValue.{UnitValue, offsets_of}
 use Rattle.dw_unit.specs.Valid.{IsWritableAt, AreWritable}
-use Rattle.dw_unit.specs.Whole.{settled, marked_written, written, AreWritten, AreStopped, IsRefused}
-use Rattle.dw_unit.specs.Written.{to_write_from, past_table}
+use Rattle.dw_unit.specs.Whole.{settled, marked_written, IsRefused}
+use Rattle.dw_unit.specs.Written.{to_write_from, past_table, IsPassedOver, IsWrittenAt, AreWritten, AreStopped}
 use Rattle.dw_unit.proofs.PendingSteps.{kept_other, kept_last}
 
 -- A table of which some units were gone through: what they were, what they are, and the others.
@@ -68,30 +68,34 @@ all_gone us vs i before after rest h le =
 
 -- What they are
 
-pub written_more : (xs ys : List UnitValue) (u v : UnitValue) → AreWritten xs ys → v ≡ written v.offsets u → AreWritten (xs ++ u ∷ []) (ys ++ v ∷ [])
-written_more [] [] u v h k = (k, tt)
-written_more [] (y ∷ ys) u v h k = absurd h
-written_more (x ∷ xs) [] u v h k = absurd h
-written_more (x ∷ xs) (y ∷ ys) u v h k = (h.0, written_more xs ys u v h.1 k)
+pub passed_more : (at end : Starts) (xs ys : List UnitValue) (u v : UnitValue) → AreWritten at end xs ys → IsPassedOver u v → AreWritten at end (xs ++ u ∷ []) (ys ++ v ∷ [])
+passed_more at end [] [] u v h k = inl (k, h)
+passed_more at end [] (y ∷ ys) u v h k = absurd h
+passed_more at end (x ∷ xs) [] u v h k = absurd h
+passed_more at end (x ∷ xs) (y ∷ ys) u v (inl h) k = inl (h.0, passed_more at end xs ys u v h.1 k)
+passed_more at end (x ∷ xs) (y ∷ ys) u v (inr h) k = inr (h.0, passed_more (past_kept at (settled x) h.0.kept) end xs ys u v h.1 k)
 
-pub stopped_at : (xs ys : List UnitValue) (u v : UnitValue) (rest : List UnitValue) → AreWritten xs ys → IsRefused u v → AreStopped (xs ++ u ∷ rest) (ys ++ v ∷ rest)
-stopped_at [] [] u v rest h k = inr (k, refl)
-stopped_at [] (y ∷ ys) u v rest h k = absurd h
-stopped_at (x ∷ xs) [] u v rest h k = absurd h
-stopped_at (x ∷ xs) (y ∷ ys) u v rest h k = inl (h.0, stopped_at xs ys u v rest h.1 k)
+pub written_more : (at end : Starts) (xs ys : List UnitValue) (u v : UnitValue) → AreWritten at end xs ys → (w : IsWrittenAt end u v) → AreWritten at (past_kept end (settled u) w.kept) (xs ++ u ∷ []) (ys ++ v ∷ [])
+written_more at end [] [] u v h w = subst (λ s. (w : IsWrittenAt s u v) → AreWritten at (past_kept s (settled u) w.kept) (u ∷ []) (v ∷ [])) h (λ w. inr (w, refl)) w
+written_more at end [] (y ∷ ys) u v h w = absurd h
+written_more at end (x ∷ xs) [] u v h w = absurd h
+written_more at end (x ∷ xs) (y ∷ ys) u v (inl h) w = inl (h.0, written_more at end xs ys u v h.1 w)
+written_more at end (x ∷ xs) (y ∷ ys) u v (inr h) w = inr (h.0, written_more (past_kept at (settled x) h.0.kept) end xs ys u v h.1 w)
+
+pub stopped_at : (at end : Starts) (xs ys : List UnitValue) (u v : UnitValue) (rest : List UnitValue) → AreWritten at end xs ys → IsRefused u v → AreStopped at (xs ++ u ∷ rest) (ys ++ v ∷ rest)
+stopped_at at end [] [] u v rest h k = inr (inr (k, refl))
+stopped_at at end [] (y ∷ ys) u v rest h k = absurd h
+stopped_at at end (x ∷ xs) [] u v rest h k = absurd h
+stopped_at at end (x ∷ xs) (y ∷ ys) u v rest (inl h) k = inl (h.0, stopped_at at end xs ys u v rest h.1 k)
+stopped_at at end (x ∷ xs) (y ∷ ys) u v rest (inr h) k = inr (inl (h.0, stopped_at (past_kept at (settled x) h.0.kept) end xs ys u v rest h.1 k))
 
 -- where none was refused
-pub stopped_after : (us vs : List UnitValue) → AreWritten us vs → AreStopped us vs
-stopped_after [] [] h = tt
-stopped_after [] (v ∷ vs) h = absurd h
-stopped_after (u ∷ us) [] h = absurd h
-stopped_after (u ∷ us) (v ∷ vs) h = inl (h.0, stopped_after us vs h.1)
-
-pub written_old : (u v : UnitValue) → u.is_written ≡ true → v ≡ u → v ≡ written v.offsets u
-written_old u v old same = same ∙ sym (ap (λ (b : Bool). if b then u else marked_written v.offsets (settled u)) old)
-
-pub written_new : (u v : UnitValue) → u.is_written ≡ false → v ≡ marked_written v.offsets (settled u) → v ≡ written v.offsets u
-written_new u v new is = is ∙ sym (ap (λ (b : Bool). if b then u else marked_written v.offsets (settled u)) new)
+pub stopped_after : (at end : Starts) (us vs : List UnitValue) → AreWritten at end us vs → AreStopped at us vs
+stopped_after at end [] [] h = tt
+stopped_after at end [] (v ∷ vs) h = absurd h
+stopped_after at end (u ∷ us) [] h = absurd h
+stopped_after at end (u ∷ us) (v ∷ vs) (inl h) = inl (h.0, stopped_after at end us vs h.1)
+stopped_after at end (u ∷ us) (v ∷ vs) (inr h) = inr (inl (h.0, stopped_after (past_kept at (settled u) h.0.kept) end us vs h.1))
 
 -- Where their tables stand
 

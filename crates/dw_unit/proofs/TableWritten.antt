@@ -10,18 +10,18 @@ use Rattle.dw_writer.specs.Sections.{SomeHasRisen, section_of, fault_sum}
 use Rattle.dw_writer.proofs.FaultLaws.{HasRisen-from, SomeHasRisen-info}
 use Rattle.dw_writer.specs.Meaning.{Adds}
 use Rattle.dw_writer.specs.declared.sections.Sections.{Sections}
-use Rattle.dw_unit.specs.Built.{Numbered, table_size}
+use Rattle.dw_unit.specs.Built.{Numbered, Starts, table_size}
 use Rattle.dw_unit.specs.Causes.{Because, Refused, Is, UnitRefused, UnitFails, UnitsFail, ReferencesFail, UnitsRefused, RefusesAny}
 use Rattle.dw_unit.specs.Filled.{Fills, AreFillable}
-use Rattle.dw_unit.specs.Pending.{Kept, tables_of, info_at, KeepPlaces, PendsUnit, Pending}
+use Rattle.dw_unit.specs.Pending.{Kept, draft_of, past_kept, tables_of, info_at, starts_of, KeepPlaces, PendsTree, PendsUnit, Pending}
 use Rattle.dw_unit.specs.UnitFaults.{holes_fail}
 use Rattle.dw_unit.specs.UnitValue.{UnitValue}
 use Rattle.dw_unit.specs.Valid.{IsWritableAt, AreWritable}
-use Rattle.dw_unit.specs.Whole.{settled, marked_written, AreWritten, AreStopped, IsRefused}
-use Rattle.dw_unit.specs.Written.{to_write, PendsUnits, CompletesPending, WritesIfNew, KeepsOtherSections}
+use Rattle.dw_unit.specs.Whole.{settled, marked_written, IsRefused}
+use Rattle.dw_unit.specs.Written.{to_write, IsWrittenAt, AreWritten, AreStopped, PendsUnits, CompletesPending, WritesIfNew, KeepsOtherSections}
 use Rattle.dw_unit.proofs.Faults.{because-map}
 use Rattle.dw_unit.proofs.PendingSteps.{pending_none, pending_one, pending_then, pending_between, pending_widths, pending_lead, row_length, units_added}
-use Rattle.dw_unit.proofs.TableSteps.{IsAt, next_is, none_gone, one_gone, all_gone, written_more, stopped_at, written_old, written_new, past_tables, past_more, past_old, past_new, writable_more, fails_at, to_write-old, to_write-new, keeps_more, offsets_new, offsets_marked}
+use Rattle.dw_unit.proofs.TableSteps.{IsAt, next_is, none_gone, one_gone, all_gone, passed_more, written_more, stopped_at, past_tables, past_more, past_old, past_new, writable_more, fails_at, to_write-old, to_write-new, keeps_more, offsets_new, offsets_marked}
 
 -- what stays in two calls
 pub front_others : {W : Type 0} (old now new : Sections W) → KeepsOtherSections old now → KeepsOtherSections now new → KeepsOtherSections old new
@@ -48,7 +48,7 @@ pub record WritesFront {W : Type 0} (meaning : W → Meaning) (old now : Section
   pub after : List UnitValue
   pub rest : List UnitValue
   pub at : IsAt us vs i before after rest
-  pub written : AreWritten before after
+  pub written : AreWritten (starts_of meaning old) (starts_of meaning now) before after
   pub writable : AreWritable (meaning old.debug_info.0).is_plain (meaning old.debug_abbrev.0).size before
   pub kept : List Kept
   pub pending : Pending meaning old now (to_write before) kept
@@ -57,6 +57,12 @@ pub record WritesFront {W : Type 0} (meaning : W → Meaning) (old now : Section
   pub others : KeepsOtherSections old now
   pub faults : fault_sum meaning old ≤ fault_sum meaning now
 
+-- behind a unit that was added
+starts_past : {W : Type 0} (meaning : W → Meaning) (old new : Sections W) (u : UnitValue) (k : Kept) → PendsTree meaning old new u.encoding u.entries k → starts_of meaning new ≡ past_kept (starts_of meaning old) u k
+starts_past meaning old new u k p =
+    ap (λ n. let s : Starts = record { info = n; abbrevs = (meaning new.debug_abbrev.0).size } in s) p.unit.text.size
+    ∙ ap (λ n. let s : Starts = record { info = (meaning old.debug_info.0).size + (draft_of u.encoding u.entries k).size; abbrevs = n } in s) p.table.size
+
 module _ {W : Type 0} (meaning : W → Meaning) where
   pub front_none : (s : Sections W) (us : List UnitValue) → WritesFront meaning s s us us 0
   front_none s us = record {
@@ -64,7 +70,7 @@ module _ {W : Type 0} (meaning : W → Meaning) where
     after = [];
     rest = us;
     at = none_gone us;
-    written = tt;
+    written = refl;
     writable = tt;
     kept = [];
     pending = pending_none meaning s;
@@ -108,7 +114,7 @@ module _ {W : Type 0} (meaning : W → Meaning) where
           after = f.after ++ v ∷ [];
           rest = rest_is.0;
           at = gone;
-          written = written_more f.before f.after u v f.written (written_old u v old_mark same);
+          written = subst (λ s. AreWritten (starts_of meaning old) (starts_of meaning s) (f.before ++ u ∷ []) (f.after ++ v ∷ [])) (sym kept) (passed_more (starts_of meaning old) (starts_of meaning now) f.before f.after u v f.written (old_mark, same));
           writable = writable_then (inl old_mark);
           kept = f.kept;
           pending = subst (λ s. Pending meaning old s (to_write (f.before ++ u ∷ [])) f.kept) (sym kept) (subst (λ xs. Pending meaning old now xs f.kept) (sym none) f.pending);
@@ -130,12 +136,13 @@ module _ {W : Type 0} (meaning : W → Meaning) where
         let table : slice_set vs i v ≡ f.after ++ v ∷ rest_is.0 = gone.new_is ∙ append_assoc f.after (v ∷ []) rest_is.0 in
         let pending : Pending meaning old new (to_write f.before ++ w ∷ []) (f.kept ++ p.kept ∷ []) = pending_then meaning old now new (to_write f.before) (w ∷ []) f.kept (p.kept ∷ []) f.pending (pending_one meaning i (settled u) now new p.kept p.tree) in
         let rows : length (to_write f.before) ≡ length f.kept = row_length _ (to_write f.before) f.kept f.pending.in_row in
+        let here_written : IsWrittenAt (starts_of meaning now) u v = record { kept = p.kept; stands = p.tree.stands; unwritten = new_mark; marked = marked; offsets_are = p.offsets_are } in
         record {
           before = f.before ++ u ∷ [];
           after = f.after ++ v ∷ [];
           rest = rest_is.0;
           at = gone;
-          written = written_more f.before f.after u v f.written (written_new u v new_mark marked);
+          written = subst (λ s. AreWritten (starts_of meaning old) s (f.before ++ u ∷ []) (f.after ++ v ∷ [])) (sym (starts_past meaning now new (settled u) p.kept p.tree)) (written_more (starts_of meaning old) (starts_of meaning now) f.before f.after u v f.written here_written);
           writable = writable_then (inr can);
           kept = f.kept ++ p.kept ∷ [];
           pending = subst (λ xs. Pending meaning old new xs (f.kept ++ p.kept ∷ [])) (sym one) pending;
@@ -158,11 +165,11 @@ module _ {W : Type 0} (meaning : W → Meaning) where
     front_more (inr h) (inr can) = front_new h.0 h.1 h.2 can
 
     -- a unit that is refused
-    pub front_stopped : IsRefused u v → AreStopped us (slice_set vs i v)
+    pub front_stopped : IsRefused u v → AreStopped (starts_of meaning old) us (slice_set vs i v)
     front_stopped h =
         let gone = one_gone us vs i f.before f.after u v rest_is.0 here in
-        subst (AreStopped us) (sym (gone.new_is ∙ append_assoc f.after (v ∷ []) rest_is.0))
-        (subst (λ xs. AreStopped xs (f.after ++ v ∷ rest_is.0)) (sym here.old_is) (stopped_at f.before f.after u v rest_is.0 f.written h))
+        subst (AreStopped (starts_of meaning old) us) (sym (gone.new_is ∙ append_assoc f.after (v ∷ []) rest_is.0))
+        (subst (λ xs. AreStopped (starts_of meaning old) xs (f.after ++ v ∷ rest_is.0)) (sym here.old_is) (stopped_at (starts_of meaning old) (starts_of meaning now) f.before f.after u v rest_is.0 f.written h))
 
     pub front_refused : u.is_written ≡ false → (err : Error) → UnitRefused meaning now new u err →
         Because (SomeHasRisen meaning old new) (UnitsFail (meaning old.debug_info.0).is_plain (meaning old.debug_abbrev.0).size us) err
@@ -177,12 +184,12 @@ module _ {W : Type 0} (meaning : W → Meaning) where
 
 -- where all were gone through
 pub front_all : {W : Type 0} (meaning : W → Meaning) (old now : Sections W) (us vs : List UnitValue) (i : ℕ) → WritesFront meaning old now us vs i → length vs ≤ i →
-    PendsUnits meaning old now us vs × AreWritten us vs × AreWritable (meaning old.debug_info.0).is_plain (meaning old.debug_abbrev.0).size us
+    PendsUnits meaning old now us vs × AreWritten (starts_of meaning old) (starts_of meaning now) us vs × AreWritable (meaning old.debug_info.0).is_plain (meaning old.debug_abbrev.0).size us
 front_all meaning old now us vs i f le =
     let all = all_gone us vs i f.before f.after f.rest f.at le in
     let pends : PendsUnits meaning old now f.before vs = record { kept = f.kept; pending = f.pending; keeps = λ ws ks equal h. f.keeps ws ks equal (subst (λ xs. KeepPlaces xs ws ks) all.0 h) } in (
       subst (λ xs. PendsUnits meaning old now xs vs) all.0 pends,
-      subst (λ xs. AreWritten xs vs) all.0 (subst (AreWritten f.before) all.1 f.written),
+      subst (λ xs. AreWritten (starts_of meaning old) (starts_of meaning now) xs vs) all.0 (subst (AreWritten (starts_of meaning old) (starts_of meaning now) f.before) all.1 f.written),
       subst (AreWritable (meaning old.debug_info.0).is_plain (meaning old.debug_abbrev.0).size) all.0 f.writable,
     )
 

@@ -1,20 +1,22 @@
 -- Units that have a spelling.
-use Rattle.std.specs.Prelude.{◌≡◌, ◌⊎◌, ℕ, ◌+◌, ◌<◌, ◌^◌, List, [], ◌∷◌, Bool, true, IsTrue, IsFalse}
+use Rattle.std.specs.Prelude.{◌≡◌, ◌⊎◌, ℕ, ◌+◌, ◌<◌, ◌^◌, List, [], ◌∷◌, ◌++◌, Bool, true, IsTrue, IsFalse}
 use Rattle.dw_base.specs.Numbers.{length_fits, word_of}
 use Rattle.dw_base.specs.Spelling.{header_size}
 use Rattle.dw_base.specs.declared.common.Encoding.{Encoding}
 use Rattle.dw_base.specs.declared.error.Error.{Error}
 use Rattle.dw_writer.specs.Causes.{offset_fits}
+use Rattle.dw_writer.specs.Meaning.{Meaning}
+use Rattle.dw_writer.specs.declared.sections.Sections.{Sections}
 use Rattle.dw_entries.specs.Entries.{EntryValue}
 use Rattle.dw_entries.specs.Tree.{preorder}
 use Rattle.dw_unit.specs.Built.{Numbered, Starts}
-use Rattle.dw_unit.specs.Pending.{Kept, units_draft, info_of, AreInRow}
+use Rattle.dw_unit.specs.Pending.{Kept, units_draft, info_of, starts_of, AreInRow, KeepPlaces, Pending}
 use Rattle.dw_unit.specs.Places.{Placement, found}
 use Rattle.dw_unit.specs.UnitText.{unit_length}
 use Rattle.dw_unit.specs.Whole.{tree_size, settled, IsTreePlacement}
 use Rattle.dw_unit.specs.UnitFaults.{is_encodable, marks_fail, holes_fail}
 use Rattle.dw_unit.specs.UnitValue.{UnitValue}
-use Rattle.dw_unit.specs.Written.{past_table}
+use Rattle.dw_unit.specs.Written.{to_write, past_table}
 
 -- A tree can be written into a writer that is plain or not: its header and its length have a spelling, and where its entries
 -- stand no value has a fault.
@@ -45,3 +47,15 @@ pub record ReferencesLead (is_plain : Bool) (at : Starts) (us : List Numbered) :
   pub kept : List Kept
   pub in_row : AreInRow at us kept
   pub lead : (err : Error) → IsFalse (holes_fail (info_of us kept) is_plain (units_draft us kept).holes err)
+
+-- The units of a table can be written behind those that are pending, whose places the table keeps: each unit that isn't
+-- written yet can be, and every reference across all of them leads to an entry of one of them, whose place has room.
+pub record CanFollow {W : Type 0} (meaning : W → Meaning) (old : Sections W) (table : List UnitValue) : Type 0 where
+  pub before : Sections W
+  pub units : List Numbered
+  pub kept : List Kept
+  pub none_open : before.debug_info_fixups ≡ []
+  pub pending : Pending meaning before old units kept
+  pub keeps : KeepPlaces table units kept
+  pub writable : AreWritable (meaning old.debug_info.0).is_plain (meaning old.debug_abbrev.0).size table
+  pub references : ReferencesLead (meaning before.debug_info.0).is_plain (starts_of meaning before) (units ++ to_write table)

@@ -1,5 +1,5 @@
 -- A unit as it is written: settled, in preorder, with codes.
-use Rattle.std.specs.Prelude.{◌≡◌, ◌⊎◌, ℕ, true, false, Option, List, [], ◌∷◌, if◌then◌else◌}
+use Rattle.std.specs.Prelude.{◌≡◌, ◌⊎◌, ℕ, true, false, Option, List}
 use Rattle.dw_base.specs.Abbreviations.{Shape, Declaration}
 use Rattle.dw_base.specs.Spelling.{header_size, table_bytes}
 use Rattle.dw_base.specs.declared.common.Encoding.{Encoding}
@@ -43,25 +43,6 @@ settled u = record u { entries = settled_entries u.entries }
 abbrev pub marked_written : Option OffsetsValue → UnitValue → UnitValue
 marked_written offsets u = record u { is_written = true; offsets = offsets }
 
--- what writing makes of a unit: one that was written before stays
-abbrev pub written : Option OffsetsValue → UnitValue → UnitValue
-written offsets u = if u.is_written then u else marked_written offsets (settled u)
-
--- The units of a table once they were written: each that wasn't written before is settled, is marked and keeps places.
-abbrev pub AreWritten : List UnitValue → List UnitValue → Type 0
-AreWritten [] [] = Unit {0}
-AreWritten [] (v ∷ vs) = ⊥
-AreWritten (u ∷ us) [] = ⊥
-AreWritten (u ∷ us) (v ∷ vs) = (v ≡ written v.offsets u) × AreWritten us vs
-
 -- a unit that was refused
 abbrev pub IsRefused : UnitValue → UnitValue → Type 0
 IsRefused u v = (u.is_written ≡ false) × ((v ≡ u) ⊎ (v ≡ settled u))
-
--- The units of a table after a refusal: those before some unit were written, it is as it was or settled, and those behind it
--- are as they were. Where no unit was refused, a reference between them was.
-abbrev pub AreStopped : List UnitValue → List UnitValue → Type 0
-AreStopped [] [] = Unit {0}
-AreStopped [] (v ∷ vs) = ⊥
-AreStopped (u ∷ us) [] = ⊥
-AreStopped (u ∷ us) (v ∷ vs) = ((v ≡ written v.offsets u) × AreStopped us vs) ⊎ (IsRefused u v × (vs ≡ us))

@@ -1,14 +1,16 @@
 -- What writing units adds to the sections.
-use Rattle.std.specs.Prelude.{◌≡◌, ◌⊎◌, ℕ, suc, ◌+◌, true, false, List, [], ◌∷◌, ◌++◌, length, IsFalse, if◌then◌else◌}
+use Rattle.std.specs.Prelude.{◌≡◌, ◌⊎◌, ℕ, suc, ◌+◌, true, false, Option, Some, List, [], ◌∷◌, ◌++◌, length, IsFalse, if◌then◌else◌}
+use Rattle.std.specs.Option.{option_map}
 use Rattle.dw_writer.specs.Meaning.{Meaning, Adds}
 use Rattle.dw_writer.specs.Drafts.{Info}
 use Rattle.dw_base.specs.declared.error.Error.{Error}
 use Rattle.dw_writer.specs.declared.sections.Sections.{Sections}
-use Rattle.dw_unit.specs.Built.{Numbered, table_size}
-use Rattle.dw_unit.specs.Pending.{Kept, units_draft, tables_of, info_at, KeepPlaces, PendsUnit, Pending, AddsUnits}
+use Rattle.dw_unit.specs.Built.{Numbered, Starts, table_size}
+use Rattle.dw_unit.specs.Pending.{Kept, units_draft, past_kept, tables_of, info_at, kept_offsets, KeepPlaces, Stands, PendsUnit, Pending, AddsUnits}
+use Rattle.dw_unit.specs.Places.{offsets_in}
 use Rattle.dw_unit.specs.UnitFaults.{holes_fail}
 use Rattle.dw_unit.specs.UnitValue.{UnitValue}
-use Rattle.dw_unit.specs.Whole.{settled, marked_written}
+use Rattle.dw_unit.specs.Whole.{settled, marked_written, IsRefused}
 
 -- the units that aren't written yet, as they will be, each with its number
 abbrev pub to_write_from : ℕ → List UnitValue → List Numbered
@@ -58,3 +60,35 @@ WritesIfNew meaning old new u v =
 abbrev pub KeepsOtherSections : {W : Type 0} → Sections W → Sections W → Type 0
 KeepsOtherSections old new =
     new ≡ record old { debug_abbrev = new.debug_abbrev; debug_info = new.debug_info; debug_info_fixups = new.debug_info_fixups }
+
+-- a unit that was written before stays as it is
+abbrev pub IsPassedOver : UnitValue → UnitValue → Type 0
+IsPassedOver u v = (u.is_written ≡ true) × (v ≡ u)
+
+-- Another one is settled and marked where the sections end, and keeps where its entries stand.
+pub record IsWrittenAt (at : Starts) (u v : UnitValue) : Type 0 where
+  pub kept : Kept
+  pub stands : Stands at u.encoding (settled u).entries kept
+  pub unwritten : u.is_written ≡ false
+  pub marked : v ≡ marked_written v.offsets (settled u)
+  pub offsets_are : option_map offsets_in v.offsets ≡ Some (kept_offsets kept)
+
+-- The units of a table once they were written, in a row from where the sections ended to where they end.
+abbrev pub AreWritten : Starts → Starts → List UnitValue → List UnitValue → Type 0
+AreWritten at end [] [] = at ≡ end
+AreWritten at end [] (v ∷ vs) = ⊥
+AreWritten at end (u ∷ us) [] = ⊥
+AreWritten at end (u ∷ us) (v ∷ vs) =
+    (IsPassedOver u v × AreWritten at end us vs)
+    ⊎ ((w : IsWrittenAt at u v) × AreWritten (past_kept at (settled u) w.kept) end us vs)
+
+-- The units of a table after a refusal: those before some unit were written, it is as it was or settled, and those behind it
+-- are as they were. Where no unit was refused, a reference between them was.
+abbrev pub AreStopped : Starts → List UnitValue → List UnitValue → Type 0
+AreStopped at [] [] = Unit {0}
+AreStopped at [] (v ∷ vs) = ⊥
+AreStopped at (u ∷ us) [] = ⊥
+AreStopped at (u ∷ us) (v ∷ vs) =
+    (IsPassedOver u v × AreStopped at us vs)
+    ⊎ (((w : IsWrittenAt at u v) × AreStopped (past_kept at (settled u) w.kept) us vs)
+    ⊎ (IsRefused u v × (vs ≡ us)))

@@ -241,7 +241,7 @@ impl Unit {
 
 impl Unit {
     ghost use Rattle.std.specs.Prelude.{◌⊎◌, ◌≤◌, [], IsFalse};
-    ghost use Rattle.dw_writer.specs.Sections.{fault_sum};
+    ghost use Rattle.dw_writer.specs.Sections.{SomeHasRisen, fault_sum};
     ghost use Rattle.dw_unit.specs.Alone.{has_info_reference, AppendsAlone, AloneRefused};
     ghost use Rattle.dw_unit.specs.Whole.{settled, marked_written};
     ghost use Rattle.dw_unit.specs.Valid.{IsWritableAt};
@@ -281,6 +281,12 @@ impl Unit {
 
         ensures err { IfErr result (UnitRefused W.meaning sections.old sections.new self.old) }
         ensures kept { OnErr result ((self.new ≡ self.old) ⊎ (self.new ≡ settled self.old)) }
+        // A unit that can be written is refused only for want of memory, or by a fault that was
+        // counted. References across units are looked at when they are filled in.
+        ensures complete { IsWritableAt (W.meaning sections.old.debug_info.0).is_plain
+            (W.meaning sections.old.debug_abbrev.0).size self.old →
+            (SomeHasRisen W.meaning sections.old sections.new → ⊥) →
+            IfErr result (λ e. e ≡ NoMemory) }
 
         ensures others { KeepsOtherSections sections.old sections.new }
         ensures faults { fault_sum W.meaning sections.old ≤ fault_sum W.meaning sections.new }

@@ -6,10 +6,11 @@ ghost use Rattle.dw_base.specs.declared.error.Error.TheVariants.{NoMemory};
 ghost use Rattle.dw_writer.specs.Causes.{IsNotMemory, NotAtAll};
 ghost use Rattle.dw_writer.specs.Sections.{fault_sum, SomeHasRisen, NoFixups};
 ghost use Rattle.dw_unit.specs.UnitValue.{UnitValue};
-ghost use Rattle.dw_unit.specs.Valid.{IsWritableAt, AreWritable};
-ghost use Rattle.dw_unit.specs.Whole.{AreWritten, AreStopped, IsRefused};
+ghost use Rattle.dw_unit.specs.Valid.{IsWritableAt, AreWritable, CanFollow};
+ghost use Rattle.dw_unit.specs.Pending.{starts_of};
+ghost use Rattle.dw_unit.specs.Whole.{IsRefused};
 ghost use Rattle.dw_unit.specs.Causes.{Because, UnitRefused, UnitsFail, RefusesAny};
-ghost use Rattle.dw_unit.specs.Written.{CompletesAny, PendsUnits, WritesIfNew, KeepsOtherSections};
+ghost use Rattle.dw_unit.specs.Written.{AreWritten, AreStopped, CompletesAny, PendsUnits, WritesIfNew, KeepsOtherSections};
 
 use crate::references::fill;
 use crate::unit::Unit;
@@ -111,15 +112,25 @@ impl UnitTable {
         ensures writable { OnOk result
             (AreWritable (W.meaning sections.old.debug_info.0).is_plain
             (W.meaning sections.old.debug_abbrev.0).size self.old) }
-        ensures marked { OnOk result (AreWritten self.old self.new) }
+        // Each unit that wasn't written before keeps where its entries stand: in a row from where
+        // the sections ended.
+        ensures marked { OnOk result
+            (AreWritten (starts_of W.meaning sections.old) (starts_of W.meaning sections.new)
+            self.old self.new) }
         ensures emptied { OnOk result (NoFixups sections.new) }
 
         ensures err { IfErr result
             (RefusesAny W.meaning sections.old sections.new self.old self.new) }
+        // Where the units can be written behind those that are pending, and their references lead to
+        // entries, they are refused only for want of memory, or by a fault that was counted.
+        ensures complete { CanFollow W.meaning sections.old self.old →
+            (SomeHasRisen W.meaning sections.old sections.new → ⊥) →
+            IfErr result (λ e. e ≡ NoMemory) }
         // Where every unit is written already, references are patched, and no memory is taken.
         ensures memory { IsTrue W.patches_in_place → All (λ u. u.is_written ≡ true) self.old →
             IfErr result IsNotMemory }
-        ensures stopped { OnErr result (AreStopped self.old self.new) }
+        ensures stopped { OnErr result
+            (AreStopped (starts_of W.meaning sections.old) self.old self.new) }
 
         ensures others { sections.new
             ≡ record sections.old {
@@ -150,14 +161,17 @@ impl UnitTable {
         ensures writable { OnOk result
             (AreWritable (W.meaning sections.old.debug_info.0).is_plain
             (W.meaning sections.old.debug_abbrev.0).size self.old) }
-        ensures marked { OnOk result (AreWritten self.old self.new) }
+        ensures marked { OnOk result
+            (AreWritten (starts_of W.meaning sections.old) (starts_of W.meaning sections.new)
+            self.old self.new) }
 
         ensures err { IfErr result
             (Because (SomeHasRisen W.meaning sections.old sections.new)
             (UnitsFail (W.meaning sections.old.debug_info.0).is_plain
             (W.meaning sections.old.debug_abbrev.0).size self.old)) }
         ensures idle { All (λ u. u.is_written ≡ true) self.old → IfErr result NotAtAll }
-        ensures stopped { OnErr result (AreStopped self.old self.new) }
+        ensures stopped { OnErr result
+            (AreStopped (starts_of W.meaning sections.old) self.old self.new) }
 
         ensures others { KeepsOtherSections sections.old sections.new }
         ensures faults { fault_sum W.meaning sections.old ≤ fault_sum W.meaning sections.new }

@@ -2,10 +2,12 @@ use Rattle.std.proofs.Common.{◌∙◌, refl, subst}
 use Rattle.std.specs.Prelude.{IsFalse}
 use Rattle.std.proofs.lemmas.Result.{err_from_is_err_and}
 use Rattle.dw_base.specs.declared.error.Error.{Error}
+use Rattle.dw_writer.proofs.Outcomes.{IfErr-map}
 use Rattle.dw_unit.specs.Causes.{Refused, Is}
 use Rattle.dw_unit.specs.Filled.{Fills, AreFillable}
-use Rattle.dw_unit.specs.Pending.{info_at}
+use Rattle.dw_unit.specs.Pending.{info_at, starts_of}
 use Rattle.dw_unit.specs.UnitFaults.{holes_fail}
+use Rattle.dw_unit.proofs.Complete.{units_complete}
 use Rattle.dw_unit.proofs.TableSteps.{stopped_after}
 use Rattle.dw_unit.proofs.TableWritten.{units_refused, all_completed, all_refused}
 use Rattle.dw_unit.proofs.unit_table.UnitTable.write.Goals as goal
@@ -32,7 +34,7 @@ returns-in_err-fill-clause-err g c =
 pub returns-in_err-fill-clause-stopped : goal.returns-in_err-fill-clause-stopped
 returns-in_err-fill-clause-stopped g c =
     let p = err_from_is_err_and c.from_residual-in_err-fill.result c.from_residual-in_err-fill.ensures.1 in
-    rw p.1 (stopped_after c.args.self.now c.write_units.new.self c.in_ok-write_units.ensures.marked)
+    rw p.1 (stopped_after (starts_of g.W.Writer.meaning c.args.sections.now) (starts_of g.W.Writer.meaning c.write_units.new.sections) c.args.self.now c.write_units.new.self c.in_ok-write_units.ensures.marked)
 
 pub returns-clause-completes : goal.returns-clause-completes
 returns-clause-completes g c before us ks none first =
@@ -45,3 +47,14 @@ returns-clause-completes g c before us ks none first =
     let fills = subst (λ t. Fills mid (meaning c.fill.new.w) (info_at t) hs) is c.in_ok-fill.ensures.ok in
     let sound = subst (λ t. (err : Error) → IsFalse (holes_fail (info_at t) mid.is_plain hs err)) is c.in_ok-fill.ensures.sound in
     all_completed meaning before c.args.sections.now now c.args.self.now table us ks none first c.in_ok-write_units.ensures.pending _ fills refl sound
+
+pub returns-in_err-write_units-clause-complete : goal.returns-in_err-write_units-clause-complete
+returns-in_err-write_units-clause-complete g c can calm =
+    IfErr-map c.from_residual.result (returns-in_err-write_units-clause-err g c)
+    (units_complete g.W.Writer.meaning c.args.sections.now c.write_units.new.sections c.args.self.now c.write_units.new.self can calm)
+
+pub returns-in_err-fill-clause-complete : goal.returns-in_err-fill-clause-complete
+returns-in_err-fill-clause-complete g c can calm =
+    let now = c.write_units.new.sections in
+    IfErr-map c.from_residual-in_err-fill.result (returns-in_err-fill-clause-err g c)
+    (units_complete g.W.Writer.meaning c.args.sections.now (record now { debug_info = record { 0 = c.fill.new.w } }) c.args.self.now c.write_units.new.self can calm)

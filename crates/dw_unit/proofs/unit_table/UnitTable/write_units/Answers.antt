@@ -5,8 +5,8 @@ use Rattle.dw_writer.specs.Sections.{SomeHasRisen}
 use Rattle.dw_unit.specs.Causes.{Because, UnitsFail}
 use Rattle.dw_unit.specs.UnitValue.{UnitValue}
 use Rattle.dw_unit.specs.Valid.{AreWritable}
-use Rattle.dw_unit.specs.Whole.{AreWritten, AreStopped}
-use Rattle.dw_unit.specs.Written.{PendsUnits}
+use Rattle.dw_unit.specs.Pending.{starts_of}
+use Rattle.dw_unit.specs.Written.{AreWritten, AreStopped, PendsUnits}
 use Rattle.dw_unit.proofs.TableSteps.{same_count, written_at}
 use Rattle.dw_unit.proofs.TableWritten.{front_none, front_more, front_stopped, front_refused, front_others, front_all}
 use Rattle.dw_unit.proofs.unit_table.UnitTable.write_units.Goals as goal
@@ -54,7 +54,7 @@ returns-in_err-write_if_new-clause-stopped g c =
     let below : c.loop-index.index < length vs = omega (arith, c.loop-index-test.true, c.len-index-end.ensures, same_count c.self.inside.units.items vs c.loop-index.index f.before f.after f.rest f.at) in
     let p = err_from_is_err_and c.from_residual.result c.from_residual.ensures.1 in
     rw p.1
-    (subst (λ us. AreStopped us (slice_set vs c.loop-index.index c.write_if_new.new.unit)) c.self.view_is
+    (subst (λ us. AreStopped (starts_of g.W.Writer.meaning c.args.sections.now) us (slice_set vs c.loop-index.index c.write_if_new.new.unit)) c.self.view_is
     (front_stopped g.W.Writer.meaning c.args.sections.now c.loop-index.sections c.write_if_new.new.sections c.self.inside.units.items vs c.loop-index.index c.index_mut.result.now c.write_if_new.new.unit
     f c.index_mut.ensures.value below c.in_err-write_if_new.ensures.others c.in_err-write_if_new.ensures.faults c.in_err-write_if_new.ensures.stopped))
 
@@ -77,7 +77,7 @@ returns-clause-marked g c =
     let us = c.self.inside.units.items in
     let vs = c.loop-index.self-inside.units.items in
     let done : length vs ≤ c.loop-index.index = omega (arith, c.loop-index-test.false, c.len-index-end.ensures, same_count us vs c.loop-index.index f.before f.after f.rest f.at) in
-    subst (λ xs. AreWritten xs vs) c.self.view_is
+    subst (λ xs. AreWritten (starts_of g.W.Writer.meaning c.args.sections.now) (starts_of g.W.Writer.meaning c.loop-index.sections) xs vs) c.self.view_is
     (front_all g.W.Writer.meaning c.args.sections.now c.loop-index.sections us vs c.loop-index.index f done).1
 
 pub returns-clause-writable : goal.returns-clause-writable
