@@ -7,7 +7,7 @@ use Rattle.dw_writer.specs.Contents.{Meaning}
 use Rattle.dw_writer.specs.Sections.{SomeHasRisen}
 use Rattle.dw_writer.proofs.NewLemmas.{IsEmptyWriter-from_plain}
 use Rattle.dw_writer.specs.declared.sections.Sections.{Sections}
-use Rattle.dw_unit.specs.Built.{Starts, numbered, at_begin}
+use Rattle.dw_unit.specs.Built.{Starts, at_begin}
 use Rattle.dw_unit.specs.Causes.{UnitsFail, UnitsRefused, RefusesAny, ReferencesFail}
 use Rattle.dw_unit.specs.Pending.{Kept, AreInRow, units_draft, info_at, info_of, starts_of}
 use Rattle.dw_unit.specs.UnitFaults.{holes_fail}
@@ -17,7 +17,7 @@ use Rattle.dw_unit.specs.Written.{to_write}
 use Rattle.dw_unit.proofs.Faults.{because-map}
 use Rattle.dw_unit.proofs.PendingSteps.{pending_none}
 use Rattle.dw_unit.proofs.TableLaws.{info_kept, unwritten_keeps, to_write-unwritten, units_unfailing, one_row}
-use Rattle.dw_dwarf.specs.Valid.{AreUnwritten, IsValid, IsValidAt, SomeReferenceFails, DwarfRefused, settled_dwarf}
+use Rattle.dw_dwarf.specs.Valid.{AreUnwritten, IsValid, IsValidAt, SomeReferenceFails, DwarfRefused, string_tables, settled_units}
 use Rattle.dw_dwarf.specs.Written.{AreNewPlain, AreNew}
 use Rattle.dw_dwarf.specs.declared.dwarf.Dwarf.{Dwarf}
 use Rattle.dw_dwarf.proofs.Held.{WritesWhole}
@@ -31,33 +31,33 @@ AreNew-from_plain meaning s empty = record {
 }
 
 -- what was written was valid
-pub whole_valid : {W : Type 0} (meaning : W → Meaning) (old new : Sections W) (d : Dwarf) → AreWritable (meaning old.debug_info.0).is_plain (meaning old.debug_abbrev.0).size d.units →
-    WritesWhole meaning old new (numbered (settled_dwarf d).units) → IsValidAt (meaning old.debug_info.0).is_plain (starts_of meaning old) d
+pub whole_valid : {W : Type 0} (meaning : W → Meaning) (old new : Sections W) (d : Dwarf) → AreWritable (meaning old.debug_info.0).is_plain (string_tables d) (meaning old.debug_abbrev.0).size d.units →
+    WritesWhole meaning old new (settled_units d) → IsValidAt (meaning old.debug_info.0).is_plain (starts_of meaning old) d
 whole_valid meaning old new d units whole = record {
   units = units;
   references = record { kept = whole.kept; in_row = whole.adds.units.in_row; lead = whole.lead };
 }
 
 -- Why a table is refused, where none of its units was written before and no reference was open.
-pub whole_refused : {W : Type 0} (meaning : W → Meaning) (old new : Sections W) (d : Dwarf) (vs : List UnitValue) (err : Error) → old.debug_info_fixups ≡ [] → AreUnwritten d → RefusesAny meaning old new d.units vs err →
+pub whole_refused : {W : Type 0} (meaning : W → Meaning) (old new : Sections W) (d : Dwarf) (vs : List UnitValue) (err : Error) → old.debug_info_fixups ≡ [] → AreUnwritten d → RefusesAny meaning old new d.units vs (string_tables d) err →
     DwarfRefused meaning old new d err
 whole_refused {W} meaning old new d vs err none unwritten any =
-    because-map {p = λ e. UnitsFail (meaning old.debug_info.0).is_plain (meaning old.debug_abbrev.0).size d.units e ⊎ ReferencesFail meaning old d.units vs [] [] e}
-    {q = λ e. UnitsFail (meaning old.debug_info.0).is_plain (meaning old.debug_abbrev.0).size d.units e ⊎ SomeReferenceFails (meaning old.debug_info.0).is_plain (starts_of meaning old) (numbered (settled_dwarf d).units) e}
+    because-map {p = λ e. UnitsFail (meaning old.debug_info.0).is_plain (string_tables d) (meaning old.debug_abbrev.0).size d.units e ⊎ ReferencesFail meaning old d.units vs (string_tables d) [] [] e}
+    {q = λ e. UnitsFail (meaning old.debug_info.0).is_plain (string_tables d) (meaning old.debug_abbrev.0).size d.units e ⊎ SomeReferenceFails (meaning old.debug_info.0).is_plain (starts_of meaning old) (settled_units d) e}
     (λ r. r) (λ e h. by_case e h) err (any old [] [] none (pending_none meaning old))
   where
-    by_case : (e : Error) → UnitsFail (meaning old.debug_info.0).is_plain (meaning old.debug_abbrev.0).size d.units e ⊎ ReferencesFail meaning old d.units vs [] [] e →
-        UnitsFail (meaning old.debug_info.0).is_plain (meaning old.debug_abbrev.0).size d.units e ⊎ SomeReferenceFails (meaning old.debug_info.0).is_plain (starts_of meaning old) (numbered (settled_dwarf d).units) e
+    by_case : (e : Error) → UnitsFail (meaning old.debug_info.0).is_plain (string_tables d) (meaning old.debug_abbrev.0).size d.units e ⊎ ReferencesFail meaning old d.units vs (string_tables d) [] [] e →
+        UnitsFail (meaning old.debug_info.0).is_plain (string_tables d) (meaning old.debug_abbrev.0).size d.units e ⊎ SomeReferenceFails (meaning old.debug_info.0).is_plain (starts_of meaning old) (settled_units d) e
     by_case e (inl h) = inl h
     by_case e (inr h) =
-        let us = to_write d.units in
+        let us = to_write (string_tables d) d.units in
         let info : info_at vs ≡ info_of us h.kept = info_kept vs us h.kept (h.keeps (unwritten_keeps d.units unwritten)) in
         let here : SomeReferenceFails (meaning old.debug_info.0).is_plain (starts_of meaning old) us e = record {
           kept = h.kept;
           in_row = h.in_row;
           fails = subst (λ f. IsTrue (holes_fail f (meaning old.debug_info.0).is_plain (units_draft us h.kept).holes e)) info h.fails;
         } in
-        inr (subst (λ xs. SomeReferenceFails (meaning old.debug_info.0).is_plain (starts_of meaning old) xs e) (to_write-unwritten 0 d.units unwritten) here)
+        inr (subst (λ xs. SomeReferenceFails (meaning old.debug_info.0).is_plain (starts_of meaning old) xs e) (to_write-unwritten 0 (string_tables d) d.units unwritten) here)
 
 starts_are : (a b : Starts) → a.info ≡ b.info → a.abbrevs ≡ b.abbrevs → a ≡ b
 starts_are a b p q =
@@ -69,16 +69,16 @@ not_both false t f = absurd (let x : false ≡ true = t in cc)
 
 -- A valid Dwarf has no cause to be refused.
 module _ (plain : Bool) (d : Dwarf) (valid : IsValid plain d) (err : Error) where
-  references_fail : SomeReferenceFails plain at_begin (numbered (settled_dwarf d).units) err → ⊥
+  references_fail : SomeReferenceFails plain at_begin (settled_units d) err → ⊥
   references_fail h =
-      let us = numbered (settled_dwarf d).units in
+      let us = settled_units d in
       let own = valid.references in
       let same = one_row at_begin us own.kept h.kept own.in_row h.in_row in
       not_both (holes_fail (info_of us h.kept) plain (units_draft us h.kept).holes err) h.fails
       (subst (λ (ks : List Kept). IsFalse (holes_fail (info_of us ks) plain (units_draft us ks).holes err)) same (own.lead err))
 
-  pub valid_unfailing : UnitsFail plain 0 d.units err ⊎ SomeReferenceFails plain at_begin (numbered (settled_dwarf d).units) err → ⊥
-  valid_unfailing (inl h) = units_unfailing plain 0 d.units valid.units err h
+  pub valid_unfailing : UnitsFail plain (string_tables d) 0 d.units err ⊎ SomeReferenceFails plain at_begin (settled_units d) err → ⊥
+  valid_unfailing (inl h) = units_unfailing plain (string_tables d) 0 d.units valid.units err h
   valid_unfailing (inr h) = references_fail h
 
 module _ {W : Type 0} (meaning : W → Meaning) (old new : Sections W) (empty : AreNew meaning old) (calm : SomeHasRisen meaning old new → ⊥) (d : Dwarf) where
@@ -88,13 +88,13 @@ module _ {W : Type 0} (meaning : W → Meaning) (old new : Sections W) (empty : 
   begins : starts_of meaning old ≡ at_begin
   begins = starts_are (starts_of meaning old) at_begin empty.info.size empty.abbrevs.size
 
-  at_zero : (err : Error) → UnitsFail plain (meaning old.debug_abbrev.0).size d.units err ⊎ SomeReferenceFails plain (starts_of meaning old) (numbered (settled_dwarf d).units) err →
-      UnitsFail plain 0 d.units err ⊎ SomeReferenceFails plain at_begin (numbered (settled_dwarf d).units) err
-  at_zero err (inl h) = inl (subst (λ n. UnitsFail plain n d.units err) empty.abbrevs.size h)
-  at_zero err (inr h) = inr (subst (λ at. SomeReferenceFails plain at (numbered (settled_dwarf d).units) err) begins h)
+  at_zero : (err : Error) → UnitsFail plain (string_tables d) (meaning old.debug_abbrev.0).size d.units err ⊎ SomeReferenceFails plain (starts_of meaning old) (settled_units d) err →
+      UnitsFail plain (string_tables d) 0 d.units err ⊎ SomeReferenceFails plain at_begin (settled_units d) err
+  at_zero err (inl h) = inl (subst (λ n. UnitsFail plain (string_tables d) n d.units err) empty.abbrevs.size h)
+  at_zero err (inr h) = inr (subst (λ at. SomeReferenceFails plain at (settled_units d) err) begins h)
 
   -- what a refusal comes to that isn't want of memory
-  pub dwarf_fails : (err : Error) → (err ≡ errors.NoMemory → ⊥) → DwarfRefused meaning old new d err → UnitsFail plain 0 d.units err ⊎ SomeReferenceFails plain at_begin (numbered (settled_dwarf d).units) err
+  pub dwarf_fails : (err : Error) → (err ≡ errors.NoMemory → ⊥) → DwarfRefused meaning old new d err → UnitsFail plain (string_tables d) 0 d.units err ⊎ SomeReferenceFails plain at_begin (settled_units d) err
   dwarf_fails errors.NoMemory some r = absurd (some refl)
   dwarf_fails errors.WriteFault some r = absurd (calm r)
   dwarf_fails err some r = at_zero err r

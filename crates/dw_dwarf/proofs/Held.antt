@@ -10,7 +10,10 @@ use Rattle.dw_writer.specs.New.{IsEmptyPlainWriter, IsEmptyWriter, IsNewPlain}
 use Rattle.dw_writer.proofs.NewLemmas.{EachWriter-map}
 use Rattle.dw_writer.specs.declared.sections.Sections.{Sections}
 use Rattle.dw_writer.proofs.Steps.{Adds-appends}
-use Rattle.dw_unit.specs.Built.{Built, Numbered, numbered, whole_file}
+use Rattle.dw_writer.specs.Meaning.{Adds}
+use Rattle.dw_strings.specs.Strings.{string_bytes}
+use Rattle.dw_entries.specs.Targets.{Tables}
+use Rattle.dw_unit.specs.Built.{Built, Numbered, whole_file}
 use Rattle.dw_unit.specs.Pending.{Kept, units_draft, tables_of, info_at, info_of}
 use Rattle.dw_unit.specs.UnitFaults.{holes_fail}
 use Rattle.dw_unit.specs.UnitValue.{UnitValue}
@@ -18,14 +21,18 @@ use Rattle.dw_unit.specs.Written.{AppendsUnits, CompletesAny, to_write}
 use Rattle.dw_unit.proofs.Files.{empty_tidy, resolved-empty, units_held, units_resolved}
 use Rattle.dw_unit.proofs.PendingSteps.{pending_none}
 use Rattle.dw_unit.proofs.TableLaws.{info_kept, unwritten_keeps, to_write-unwritten}
-use Rattle.dw_dwarf.specs.Valid.{AreUnwritten, settled_dwarf}
-use Rattle.dw_dwarf.specs.Written.{AreNewPlain, AreNew, SectionTexts, HoldsDwarf, ResolvesTo, KeepsOthers}
+use Rattle.dw_dwarf.specs.Valid.{AreUnwritten, settled_dwarf, settled_units, string_tables}
+use Rattle.dw_dwarf.specs.Written.{AreNewPlain, AreNew, SectionTexts, HoldsDwarf, ResolvesTo, AddsStrings, KeepsOthers}
 use Rattle.dw_dwarf.specs.declared.dwarf.Dwarf.{Dwarf}
 
 followed_by : (t : Text) → followed (Some []) t ≡ t
 unfolding followed
 followed_by None = refl
 followed_by (Some xs) = refl
+
+-- what is added to an empty writer stands there alone
+told_alone : (a b : Meaning) (xs : List ℕ) → a.bytes ≡ Some [] → Adds a b xs → b.bytes ≡ Some xs
+told_alone a b xs none p = p.told ∙ ap (λ t. followed t (Some xs)) none ∙ followed_by (Some xs)
 
 some_is : {A : Type 0} (x y : A) → Some x ≡ Some y → x ≡ y
 some_is x y h = cc
@@ -36,21 +43,21 @@ pub record WritesWhole {W : Type 0} (meaning : W → Meaning) (old new : Section
   pub adds : AppendsUnits meaning old new (info_of us kept) us kept
   pub lead : (err : Error) → IsFalse (holes_fail (info_of us kept) (meaning old.debug_info.0).is_plain (units_draft us kept).holes err)
 
-pub writes_whole : {W : Type 0} (meaning : W → Meaning) (old new : Sections W) (d : Dwarf) (vs : List UnitValue) → old.debug_info_fixups ≡ [] → AreUnwritten d → CompletesAny meaning old new d.units vs →
-    WritesWhole meaning old new (numbered (settled_dwarf d).units)
+pub writes_whole : {W : Type 0} (meaning : W → Meaning) (old new : Sections W) (d : Dwarf) (vs : List UnitValue) → old.debug_info_fixups ≡ [] → AreUnwritten d → CompletesAny meaning old new d.units vs (string_tables d) →
+    WritesWhole meaning old new (settled_units d)
 writes_whole {W} meaning old new d vs none unwritten any =
     let p = any old [] [] none (pending_none meaning old) in
-    let info : info_at vs ≡ info_of (to_write d.units) p.kept = info_kept vs (to_write d.units) p.kept (p.keeps (unwritten_keeps d.units unwritten)) in
-    let whole : WritesWhole meaning old new (to_write d.units) = record {
+    let info : info_at vs ≡ info_of (to_write (string_tables d) d.units) p.kept = info_kept vs (to_write (string_tables d) d.units) p.kept (p.keeps (unwritten_keeps d.units unwritten)) in
+    let whole : WritesWhole meaning old new (to_write (string_tables d) d.units) = record {
       kept = p.kept;
-      adds = subst (λ f. AppendsUnits meaning old new f (to_write d.units) p.kept) info p.appends;
-      lead = λ err. subst (λ f. IsFalse (holes_fail f (meaning old.debug_info.0).is_plain (units_draft (to_write d.units) p.kept).holes err)) info (p.lead err);
+      adds = subst (λ f. AppendsUnits meaning old new f (to_write (string_tables d) d.units) p.kept) info p.appends;
+      lead = λ err. subst (λ f. IsFalse (holes_fail f (meaning old.debug_info.0).is_plain (units_draft (to_write (string_tables d) d.units) p.kept).holes err)) info (p.lead err);
     } in
-    subst (WritesWhole meaning old new) (to_write-unwritten 0 d.units unwritten) whole
+    subst (WritesWhole meaning old new) (to_write-unwritten 0 (string_tables d) d.units unwritten) whole
 
-module _ {W : Type 0} (meaning : W → Meaning) (old new : Sections W) (d : Dwarf) (whole : WritesWhole meaning old new (numbered (settled_dwarf d).units)) where
+module _ {W : Type 0} (meaning : W → Meaning) (old new : Sections W) (d : Dwarf) (whole : WritesWhole meaning old new (settled_units d)) where
   abbrev us : List Numbered
-  us = numbered (settled_dwarf d).units
+  us = settled_units d
 
   abbrev ks : List Kept
   ks = whole.kept
@@ -85,17 +92,17 @@ module _ {W : Type 0} (meaning : W → Meaning) (old new : Sections W) (d : Dwar
         (subst (Built (record { units = us; layout = l } ∷ []) m.is_big info) (tables_resolved empty.abbrevs l abbrevs told_abbrevs) built);
   }
 
-  pub dwarf_held : ((w : W) → (meaning w).is_plain ≡ true → (meaning w).records ≡ []) → AreNewPlain meaning old → KeepsOthers old new → HoldsDwarf meaning new (settled_dwarf d)
-  dwarf_held law empty others =
+  pub dwarf_held : ((w : W) → (meaning w).is_plain ≡ true → (meaning w).records ≡ []) → AreNewPlain meaning old → AddsStrings meaning old new d.line_strings d.strings → KeepsOthers old new → HoldsDwarf meaning new (settled_dwarf d)
+  dwarf_held law empty strings others =
       let m = meaning old.debug_info.0 in
       let plain : (meaning new.debug_info.0).is_plain ≡ true = all_added.units.same.kind ∙ empty.writers.debug_info.plain in
       let held = units_held m.is_big m (meaning new.debug_info.0) (meaning old.debug_abbrev.0).size us ks empty.writers.debug_info (law new.debug_info.0 plain) empty.writers.debug_abbrev.size all_added.units in
-      let stays : Sections W = record old { debug_abbrev = new.debug_abbrev; debug_info = new.debug_info; debug_info_fixups = new.debug_info_fixups; debug_loc_fixups = new.debug_loc_fixups; debug_loclists_fixups = new.debug_loclists_fixups } in
+      let stays : Sections W = record old { debug_abbrev = new.debug_abbrev; debug_str = new.debug_str; debug_line_str = new.debug_line_str; debug_info = new.debug_info; debug_info_fixups = new.debug_info_fixups; debug_loc_fixups = new.debug_loc_fixups; debug_loclists_fixups = new.debug_loclists_fixups } in
       let kept = λ (f : Sections W → W) (h : (meaning (f stays)).bytes ≡ Some []). let P : Sections W → Type 0 = λ s. (meaning (f s)).bytes ≡ Some [] in subst P (sym others) h in
       let texts : SectionTexts = record {
         debug_abbrev = tables_of us;
-        debug_str = [];
-        debug_line_str = [];
+        debug_str = string_bytes d.strings;
+        debug_line_str = string_bytes d.line_strings;
         debug_line = [];
         debug_ranges = [];
         debug_rnglists = [];
@@ -108,7 +115,7 @@ module _ {W : Type 0} (meaning : W → Meaning) (old new : Sections W) (d : Dwar
       record {
         texts = texts;
         are = record {
-          units = subst (λ b. Built (whole_file (settled_dwarf d).units ∷ []) b held.0 (tables_of us)) (sym all_added.units.same.order) held.1.1;
+          units = subst (λ b. Built (whole_file (string_tables d) (settled_dwarf d).units ∷ []) b held.0 (tables_of us)) (sym all_added.units.same.order) held.1.1;
           strings = refl;
           line_strings = refl;
           lines = refl;
@@ -121,8 +128,8 @@ module _ {W : Type 0} (meaning : W → Meaning) (old new : Sections W) (d : Dwar
         };
         told = record {
           debug_abbrev = tables_told empty.writers.debug_abbrev;
-          debug_str = kept (λ s. s.debug_str.0) empty.writers.debug_str.bytes;
-          debug_line_str = kept (λ s. s.debug_line_str.0) empty.writers.debug_line_str.bytes;
+          debug_str = told_alone (meaning old.debug_str.0) (meaning new.debug_str.0) (string_bytes d.strings) empty.writers.debug_str.bytes strings.others;
+          debug_line_str = told_alone (meaning old.debug_line_str.0) (meaning new.debug_line_str.0) (string_bytes d.line_strings) empty.writers.debug_line_str.bytes strings.lines;
           debug_line = kept (λ s. s.debug_line.0) empty.writers.debug_line.bytes;
           debug_ranges = kept (λ s. s.debug_ranges.0) empty.writers.debug_ranges.bytes;
           debug_rnglists = kept (λ s. s.debug_rnglists.0) empty.writers.debug_rnglists.bytes;
@@ -143,5 +150,5 @@ AreNewPlain-from meaning big s h = record {
 }
 
 -- units are written in the byte order of their section
-pub same_order : {W : Type 0} (meaning : W → Meaning) (old new : Sections W) (us vs : List UnitValue) → old.debug_info_fixups ≡ [] → CompletesAny meaning old new us vs → (meaning new.debug_info.0).is_big ≡ (meaning old.debug_info.0).is_big
-same_order meaning old new us vs none any = (any old [] [] none (pending_none meaning old)).appends.units.same.order
+pub same_order : {W : Type 0} (meaning : W → Meaning) (old new : Sections W) (us vs : List UnitValue) (t : Tables) → old.debug_info_fixups ≡ [] → CompletesAny meaning old new us vs t → (meaning new.debug_info.0).is_big ≡ (meaning old.debug_info.0).is_big
+same_order meaning old new us vs t none any = (any old [] [] none (pending_none meaning old)).appends.units.same.order

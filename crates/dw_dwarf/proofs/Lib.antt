@@ -1,3 +1,4 @@
 pub mod Held
 pub mod Complete
 pub mod OneUnit
+pub mod StringSections

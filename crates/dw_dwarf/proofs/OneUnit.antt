@@ -7,25 +7,26 @@ use Rattle.dw_base.specs.declared.error.Error.TheVariants as errors
 use Rattle.dw_writer.specs.Contents.{Meaning}
 use Rattle.dw_writer.specs.Sections.{SomeHasRisen, NoFixups}
 use Rattle.dw_writer.specs.declared.sections.Sections.{Sections}
+use Rattle.dw_entries.specs.Targets.{Tables}
 use Rattle.dw_unit.specs.Alone.{has_info_reference, only_unit, AppendsAlone, AloneFails, AloneRefused}
-use Rattle.dw_unit.specs.Built.{numbered}
 use Rattle.dw_unit.specs.Pending.{info_of}
 use Rattle.dw_unit.specs.Places.{OffsetsValue}
+use Rattle.dw_unit.specs.Strings.{tables_in}
 use Rattle.dw_unit.specs.UnitFaults.{holes_fail}
 use Rattle.dw_unit.specs.UnitValue.{UnitValue}
 use Rattle.dw_unit.specs.Valid.{IsWritableAt}
 use Rattle.dw_unit.specs.Whole.{settled}
 use Rattle.dw_unit.specs.Written.{KeepsOtherSections}
 use Rattle.dw_unit.proofs.ValidLaws.{unit_unfailing}
-use Rattle.dw_dwarf.specs.Valid.{dwarf_of, settled_dwarf}
-use Rattle.dw_dwarf.specs.Written.{KeepsOthers}
+use Rattle.dw_dwarf.specs.Valid.{dwarf_of, settled_units}
+use Rattle.dw_dwarf.specs.Written.{KeepsAllButStrings, KeepsOthers}
 use Rattle.dw_dwarf.proofs.Held.{WritesWhole}
 
 -- a unit that was added alone is a whole Dwarf
-pub alone_whole : {W : Type 0} (meaning : W → Meaning) (old new : Sections W) (u : UnitValue) (offsets : Option OffsetsValue) → AppendsAlone meaning old new (settled u) offsets →
-    WritesWhole meaning old new (numbered (settled_dwarf (dwarf_of u)).units)
-alone_whole meaning old new u offsets p =
-    let us = only_unit (settled u) in
+pub alone_whole : {W : Type 0} (meaning : W → Meaning) (old new : Sections W) (line_strings strings : List (List ℕ)) (u : UnitValue) (offsets : Option OffsetsValue) → AppendsAlone meaning old new (settled u) (tables_in line_strings strings) offsets →
+    WritesWhole meaning old new (settled_units (dwarf_of line_strings strings u))
+alone_whole meaning old new line_strings strings u offsets p =
+    let us = only_unit (tables_in line_strings strings) (settled u) in
     let ks = p.kept ∷ [] in
     let info = info_of us ks in
     record {
@@ -35,11 +36,16 @@ alone_whole meaning old new u offsets p =
     }
 
 -- the lists of fixups of .debug_loc and .debug_loclists stay, too
-pub others_kept : {W : Type 0} (old new : Sections W) → KeepsOtherSections old new → KeepsOthers old new
-others_kept {W} old new h =
-    h
-    ∙ ap (λ xs. let s : Sections W = record old { debug_abbrev = new.debug_abbrev; debug_info = new.debug_info; debug_info_fixups = new.debug_info_fixups; debug_loc_fixups = xs } in s) (sym (ap (λ s. s.debug_loc_fixups) h))
-    ∙ ap (λ xs. let s : Sections W = record old { debug_abbrev = new.debug_abbrev; debug_info = new.debug_info; debug_info_fixups = new.debug_info_fixups; debug_loc_fixups = new.debug_loc_fixups; debug_loclists_fixups = xs } in s) (sym (ap (λ s. s.debug_loclists_fixups) h))
+pub others_kept : {W : Type 0} (old mid new : Sections W) → KeepsOtherSections old mid → KeepsAllButStrings mid new → KeepsOthers old new
+others_kept {W} old mid new h k =
+    let both : new ≡ record old { debug_abbrev = new.debug_abbrev; debug_str = new.debug_str; debug_line_str = new.debug_line_str; debug_info = new.debug_info; debug_info_fixups = new.debug_info_fixups } =
+    k
+    ∙ ap (λ (s : Sections W). let t : Sections W = record s { debug_str = new.debug_str; debug_line_str = new.debug_line_str } in t) h
+    ∙ ap (λ (s : Sections W). let t : Sections W = record old { debug_abbrev = s.debug_abbrev; debug_str = new.debug_str; debug_line_str = new.debug_line_str; debug_info = s.debug_info; debug_info_fixups = s.debug_info_fixups } in t) (sym k)
+    in
+    both
+    ∙ ap (λ xs. let s : Sections W = record old { debug_abbrev = new.debug_abbrev; debug_str = new.debug_str; debug_line_str = new.debug_line_str; debug_info = new.debug_info; debug_info_fixups = new.debug_info_fixups; debug_loc_fixups = xs } in s) (sym (ap (λ s. s.debug_loc_fixups) both))
+    ∙ ap (λ xs. let s : Sections W = record old { debug_abbrev = new.debug_abbrev; debug_str = new.debug_str; debug_line_str = new.debug_line_str; debug_info = new.debug_info; debug_info_fixups = new.debug_info_fixups; debug_loc_fixups = new.debug_loc_fixups; debug_loclists_fixups = xs } in s) (sym (ap (λ s. s.debug_loclists_fixups) both))
 
 pub no_fixups : {W : Type 0} (old new : Sections W) → KeepsOtherSections old new → NoFixups old → new.debug_info_fixups ≡ [] → NoFixups new
 no_fixups old new others none closed = record {
@@ -53,12 +59,12 @@ not_both true t f = absurd (let x : true ≡ false = f in cc)
 not_both false t f = absurd (let x : false ≡ true = t in cc)
 
 -- A unit that can be written, and has no reference by a place in .debug_info, has no cause to be refused.
-alone_unfailing : (plain : Bool) (table : ℕ) (u : UnitValue) → IsWritableAt plain table u → IsFalse (has_info_reference u) → (err : Error) → AloneFails u table plain err → ⊥
-alone_unfailing plain table u w alone err (inl h) = unit_unfailing plain u table w.1 w.0 err h
-alone_unfailing plain table u w alone err (inr h) = not_both (has_info_reference u) h.1 alone
+alone_unfailing : (plain : Bool) (t : Tables) (table : ℕ) (u : UnitValue) → IsWritableAt plain t table u → IsFalse (has_info_reference u) → (err : Error) → AloneFails u t table plain err → ⊥
+alone_unfailing plain t table u w alone err (inl h) = unit_unfailing plain t u table w.1 w.0 err h
+alone_unfailing plain t table u w alone err (inr h) = not_both (has_info_reference u) h.1 alone
 
-pub alone_complete : {W : Type 0} (meaning : W → Meaning) (old new : Sections W) (u : UnitValue) → IsWritableAt (meaning old.debug_info.0).is_plain (meaning old.debug_abbrev.0).size u → IsFalse (has_info_reference u) →
-    (SomeHasRisen meaning old new → ⊥) → (err : Error) → AloneRefused meaning old new u err → err ≡ errors.NoMemory
-alone_complete meaning old new u w alone calm errors.NoMemory r = refl
-alone_complete meaning old new u w alone calm errors.WriteFault r = absurd (calm r)
-alone_complete meaning old new u w alone calm err r = absurd (alone_unfailing (meaning old.debug_info.0).is_plain (meaning old.debug_abbrev.0).size u w alone err r)
+pub alone_complete : {W : Type 0} (meaning : W → Meaning) (old new : Sections W) (t : Tables) (u : UnitValue) → IsWritableAt (meaning old.debug_info.0).is_plain t (meaning old.debug_abbrev.0).size u → IsFalse (has_info_reference u) →
+    (SomeHasRisen meaning old new → ⊥) → (err : Error) → AloneRefused meaning old new u t err → err ≡ errors.NoMemory
+alone_complete meaning old new t u w alone calm errors.NoMemory r = refl
+alone_complete meaning old new t u w alone calm errors.WriteFault r = absurd (calm r)
+alone_complete meaning old new t u w alone calm err r = absurd (alone_unfailing (meaning old.debug_info.0).is_plain t (meaning old.debug_abbrev.0).size u w alone err r)

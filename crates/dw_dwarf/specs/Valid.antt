@@ -1,12 +1,14 @@
 -- A Dwarf that can be written.
-use Rattle.std.specs.Prelude.{◌≡◌, ◌⊎◌, Bool, false, List, [], ◌∷◌, map, All, IsTrue}
+use Rattle.std.specs.Prelude.{◌≡◌, ◌⊎◌, ℕ, Bool, false, List, [], ◌∷◌, map, All, IsTrue}
 use Rattle.dw_base.specs.declared.error.Error.{Error}
 use Rattle.dw_writer.specs.Contents.{Meaning}
 use Rattle.dw_writer.specs.Sections.{SomeHasRisen}
 use Rattle.dw_writer.specs.declared.sections.Sections.{Sections}
+use Rattle.dw_entries.specs.Targets.{Tables}
 use Rattle.dw_unit.specs.Built.{Numbered, Starts, numbered, at_begin}
 use Rattle.dw_unit.specs.Causes.{Because, UnitsFail}
 use Rattle.dw_unit.specs.Pending.{Kept, AreInRow, units_draft, info_of, starts_of}
+use Rattle.dw_unit.specs.Strings.{tables_in}
 use Rattle.dw_unit.specs.UnitFaults.{holes_fail}
 use Rattle.dw_unit.specs.UnitValue.{UnitValue}
 use Rattle.dw_unit.specs.Valid.{AreWritable, ReferencesLead}
@@ -24,16 +26,24 @@ AreUnwritten d = All IsUnwritten d.units
 abbrev pub settled_dwarf : Dwarf → Dwarf
 settled_dwarf d = record d { units = map settled d.units }
 
--- of one unit
-abbrev pub dwarf_of : UnitValue → Dwarf
-dwarf_of u = record { units = u ∷ [] }
+-- of one unit with its strings
+abbrev pub dwarf_of : List (List ℕ) → List (List ℕ) → UnitValue → Dwarf
+dwarf_of line_strings strings u = record { units = u ∷ []; line_strings = line_strings; strings = strings }
+
+-- where its strings stand
+abbrev pub string_tables : Dwarf → Tables
+string_tables d = tables_in d.line_strings d.strings
+
+-- its units as references name them, each settled
+abbrev pub settled_units : Dwarf → List Numbered
+settled_units d = numbered (string_tables d) (settled_dwarf d).units
 
 -- A Dwarf can be written into writers that are plain or not, where its sections begin: every unit has a version and an address
 -- size, values, places and a length that have a spelling, and every reference across units leads to an entry of one of them,
 -- whose place has room.
 pub record IsValidAt (is_plain : Bool) (at : Starts) (d : Dwarf) : Type 0 where
-  pub units : AreWritable is_plain at.abbrevs d.units
-  pub references : ReferencesLead is_plain at (numbered (settled_dwarf d).units)
+  pub units : AreWritable is_plain (string_tables d) at.abbrevs d.units
+  pub references : ReferencesLead is_plain at (settled_units d)
 
 -- the same where the sections are its own
 abbrev pub IsValid : Bool → Dwarf → Type 0
@@ -49,5 +59,5 @@ pub record SomeReferenceFails (is_plain : Bool) (at : Starts) (us : List Numbere
 abbrev pub DwarfRefused : {W : Type 0} → (W → Meaning) → Sections W → Sections W → Dwarf → Error → Type 0
 DwarfRefused meaning old new d err =
     Because (SomeHasRisen meaning old new)
-    (λ e. UnitsFail (meaning old.debug_info.0).is_plain (meaning old.debug_abbrev.0).size d.units e
-    ⊎ SomeReferenceFails (meaning old.debug_info.0).is_plain (starts_of meaning old) (numbered (settled_dwarf d).units) e) err
+    (λ e. UnitsFail (meaning old.debug_info.0).is_plain (string_tables d) (meaning old.debug_abbrev.0).size d.units e
+    ⊎ SomeReferenceFails (meaning old.debug_info.0).is_plain (starts_of meaning old) (settled_units d) e) err

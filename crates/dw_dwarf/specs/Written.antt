@@ -1,13 +1,17 @@
 -- What sections hold once a Dwarf was written into them.
-use Rattle.std.specs.Prelude.{◌≡◌, ℕ, Bool, List, [], ◌∷◌, Some}
+use Rattle.std.specs.Prelude.{◌≡◌, ◌⊎◌, ℕ, Bool, List, [], ◌∷◌, Some}
 use Rattle.dw_base.specs.declared.section_id.SectionId.TheVariants.{DebugAbbrev, DebugInfo}
+use Rattle.dw_writer.specs.Causes.{HasRisen}
 use Rattle.dw_writer.specs.Contents.{Meaning}
+use Rattle.dw_writer.specs.Meaning.{Adds}
 use Rattle.dw_writer.specs.Layout.{Layout, start_of}
 use Rattle.dw_writer.specs.Resolved.{resolved}
 use Rattle.dw_writer.specs.New.{IsEmptyPlainWriter, IsEmptyWriter}
 use Rattle.dw_writer.specs.Sections.{EachWriter, NoFixups}
 use Rattle.dw_writer.specs.declared.sections.Sections.{Sections}
 use Rattle.dw_unit.specs.Built.{Built, numbered, whole_file}
+use Rattle.dw_strings.specs.Strings.{string_bytes}
+use Rattle.dw_dwarf.specs.Valid.{string_tables}
 use Rattle.dw_dwarf.specs.declared.dwarf.Dwarf.{Dwarf}
 
 -- nothing was written yet: every writer is empty, and plain, in an order of its own
@@ -35,12 +39,12 @@ pub record SectionTexts : Type 0 where
   pub debug_frame : List ℕ
   pub eh_frame : List ℕ
 
--- These are the texts of a Dwarf: .debug_info and .debug_abbrev are read, to their last byte, as exactly its units, and there
--- is nothing else.
+-- These are the texts of a Dwarf: .debug_info and .debug_abbrev are read, to their last byte, as exactly its units, its
+-- strings stand in their sections, and there is nothing else.
 pub record AreTextsOf (big : Bool) (d : Dwarf) (t : SectionTexts) : Type 0 where
-  pub units : Built (whole_file d.units ∷ []) big t.debug_info t.debug_abbrev
-  pub strings : t.debug_str ≡ []
-  pub line_strings : t.debug_line_str ≡ []
+  pub units : Built (whole_file (string_tables d) d.units ∷ []) big t.debug_info t.debug_abbrev
+  pub strings : t.debug_str ≡ string_bytes d.strings
+  pub line_strings : t.debug_line_str ≡ string_bytes d.line_strings
   pub lines : t.debug_line ≡ []
   pub ranges : t.debug_ranges ≡ []
   pub range_lists : t.debug_rnglists ≡ []
@@ -74,15 +78,31 @@ pub record HoldsDwarf {W : Type 0} (meaning : W → Meaning) (s : Sections W) (d
 pub record ResolvesTo {W : Type 0} (meaning : W → Meaning) (s : Sections W) (d : Dwarf) : Type 0 where
   pub built : (l : Layout) (info abbrevs : List ℕ) → start_of l DebugInfo ≡ 0 → start_of l DebugAbbrev ≡ 0 →
       resolved l (meaning s.debug_info.0) ≡ Some info → resolved l (meaning s.debug_abbrev.0) ≡ Some abbrevs →
-      Built (record { units = numbered d.units; layout = l } ∷ []) (meaning s.debug_info.0).is_big info abbrevs
+      Built (record { units = numbered (string_tables d) d.units; layout = l } ∷ []) (meaning s.debug_info.0).is_big info abbrevs
 
--- all but the two sections of units and the lists of fixups is as before
+-- all but the sections of units and of strings and the lists of fixups is as before
 abbrev pub KeepsOthers : {W : Type 0} → Sections W → Sections W → Type 0
 KeepsOthers old new =
     new ≡ record old {
       debug_abbrev = new.debug_abbrev;
+      debug_str = new.debug_str;
+      debug_line_str = new.debug_line_str;
       debug_info = new.debug_info;
       debug_info_fixups = new.debug_info_fixups;
       debug_loc_fixups = new.debug_loc_fixups;
       debug_loclists_fixups = new.debug_loclists_fixups;
     }
+
+-- strings are added to their sections
+pub record AddsStrings {W : Type 0} (meaning : W → Meaning) (old new : Sections W) (line_strings strings : List (List ℕ)) : Type 0 where
+  pub lines : Adds (meaning old.debug_line_str.0) (meaning new.debug_line_str.0) (string_bytes line_strings)
+  pub others : Adds (meaning old.debug_str.0) (meaning new.debug_str.0) (string_bytes strings)
+
+-- all but the sections of strings is as before
+abbrev pub KeepsAllButStrings : {W : Type 0} → Sections W → Sections W → Type 0
+KeepsAllButStrings old new = new ≡ record old { debug_str = new.debug_str; debug_line_str = new.debug_line_str }
+
+-- a fault was counted in a section of strings
+abbrev pub StringsHaveRisen : {W : Type 0} → (W → Meaning) → Sections W → Sections W → Type 0
+StringsHaveRisen meaning old new =
+    HasRisen (meaning old.debug_line_str.0) (meaning new.debug_line_str.0) ⊎ HasRisen (meaning old.debug_str.0) (meaning new.debug_str.0)

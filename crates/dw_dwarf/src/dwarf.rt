@@ -1,17 +1,18 @@
 //! The DWARF of one file.
 
-ghost use Rattle.std.specs.Prelude.{◌≡◌, ◌≤◌, [], true, All, IsTrue, OnOk, OnErr, IfErr};
+ghost use Rattle.std.specs.Prelude.{◌≡◌, ◌≤◌, [], OnOk, OnErr, IfErr};
 ghost use Rattle.dw_base.specs.declared.error.Error.TheVariants.{NoMemory};
-ghost use Rattle.dw_writer.specs.Causes.{IsNotMemory};
 ghost use Rattle.dw_writer.specs.Sections.{SomeHasRisen, fault_sum, NoFixups};
 ghost use Rattle.dw_unit.specs.Causes.{RefusesAny};
 ghost use Rattle.dw_unit.specs.Pending.{starts_of};
 ghost use Rattle.dw_unit.specs.Valid.{CanFollow};
 ghost use Rattle.dw_unit.specs.Written.{AreWritten, AreStopped, CompletesAny};
-ghost use Rattle.dw_dwarf.specs.Valid.{AreUnwritten, IsValid, IsValidAt, DwarfRefused, settled_dwarf};
-ghost use Rattle.dw_dwarf.specs.Written.{AreNewPlain, AreNew, HoldsDwarf, ResolvesTo, KeepsOthers};
+ghost use Rattle.dw_dwarf.specs.Valid.{AreUnwritten, IsValid, IsValidAt, DwarfRefused, settled_dwarf, string_tables};
+ghost use Rattle.dw_dwarf.specs.Written.{AreNewPlain, AreNew, HoldsDwarf, ResolvesTo, AddsStrings, KeepsOthers};
 
+use crate::strings::write_strings;
 use dw_base::Result;
+use dw_strings::{LineStringTable, StringTable};
 use dw_unit::UnitTable;
 use dw_writer::{Sections, Writer};
 use std::alloc::Global;
@@ -21,36 +22,43 @@ use std::alloc::Global;
 pub struct Dwarf {
     /// The units of `.debug_info`, in the order in which they are written.
     pub units: UnitTable,
+    /// The strings of `.debug_line_str`.
+    pub line_strings: LineStringTable,
+    /// The strings of `.debug_str`.
+    pub strings: StringTable,
 }
 
 impl Dwarf {
-    /// No units.
+    /// No units and no strings.
     pub fn new(alloc: Global) -> Dwarf
-        ensures { result.units ≡ [] }
+        ensures { result ≡ record { units = []; line_strings = []; strings = [] } }
     {
         Dwarf {
             units: UnitTable::new(alloc),
+            line_strings: LineStringTable::new(alloc),
+            strings: StringTable::new(alloc),
         }
     }
 
     /// Writes the units that aren't written yet, each with an abbreviation table of its own, and
-    /// marks them written. After Ok the three lists of fixups are empty.
+    /// marks them written, and then the strings. After Ok the three lists of fixups are empty.
     ///
     /// Over new plain sections, as `Sections::new` gives them over an empty `EndianVec`, and where
     /// none of the units was written before, `.debug_info` and `.debug_abbrev` then hold exactly
-    /// these units, to their last byte (DWARF 5, 7.5), and the other sections are empty. In each
-    /// unit the root's base types stand before its other children.
+    /// these units, to their last byte (DWARF 5, 7.5), `.debug_str` and `.debug_line_str` the
+    /// strings (7.26), and the other sections are empty. In each unit the root's base types stand
+    /// before its other children.
     ///
     /// Refused as `UnsupportedVersion` or `UnsupportedWordSize` where a unit's version isn't 2 to 5
-    /// or its address size isn't 1, 2, 4 or 8, as `InvalidAttributeValue` where a string has a zero
-    /// byte, as `InvalidReference` where a reference names an entry outside its unit's tree, a unit
-    /// that is absent or was skipped, or a symbol, as `InvalidAddress` where an address is a
-    /// symbol's and the sections record no relocations, as `InitialLengthOverflow` where a 32-bit
-    /// unit has 0xffff_fff0 bytes or more after its length (DWARF 5, 7.4), as `ValueTooLarge` where
-    /// an address, an offset, the place of a table or of an entry, or the size of a unit has no
-    /// room, and as `WriteFault` or `NoMemory`. The units before the one that was refused are
-    /// written, it stays as it was or has its base types moved, and those behind it stay as they
-    /// were; the two sections may have got some bytes.
+    /// or its address size isn't 1, 2, 4 or 8, as `InvalidAttributeValue` where a string value has
+    /// a zero byte, as `InvalidReference` where a reference names an entry outside its unit's tree,
+    /// a unit that is absent or was skipped, a symbol, or a string that isn't in its table, as
+    /// `InvalidAddress` where an address is a symbol's and the sections record no relocations, as
+    /// `InitialLengthOverflow` where a 32-bit unit has 0xffff_fff0 bytes or more after its length
+    /// (DWARF 5, 7.4), as `ValueTooLarge` where an address, an offset, the place of a table, of a
+    /// string or of an entry, or the size of a unit has no room, and as `WriteFault` or `NoMemory`.
+    /// The units before the one that was refused are written, it stays as it was or has its base
+    /// types moved, and those behind it stay as they were; the sections may have got some bytes.
     ///
     /// ```
     /// let mut dwarf = Dwarf::new(alloc);
@@ -70,13 +78,18 @@ impl Dwarf {
         // Over sections of any kind, behind whatever units are pending there: units that weren't
         // written before are added, and every reference that is open is filled in.
         ensures completes { OnOk result
-            (CompletesAny W.meaning sections.old sections.new self.old.units self.new.units) }
+            (CompletesAny W.meaning sections.old sections.new self.old.units self.new.units
+            (string_tables self.old)) }
+        // The strings stand behind what their sections held.
+        ensures strings { OnOk result
+            (AddsStrings W.meaning sections.old sections.new self.old.line_strings
+            self.old.strings) }
         ensures emptied { OnOk result (NoFixups sections.new) }
-        // Each unit that wasn't written before keeps where its entries stand: in a row from where the
-        // sections ended.
+        // Each unit that wasn't written before keeps where its entries stand: in a row from where
+        // the sections ended.
         ensures marked { OnOk result
             (AreWritten (starts_of W.meaning sections.old) (starts_of W.meaning sections.new)
-            self.old.units self.new.units) }
+            (string_tables self.old) self.old.units self.new.units) }
         ensures valid { OnOk result
             (sections.old.debug_info_fixups ≡ [] → AreUnwritten self.old →
             IsValidAt (W.meaning sections.old.debug_info.0).is_plain
@@ -86,9 +99,11 @@ impl Dwarf {
             (λ e. sections.old.debug_info_fixups ≡ [] → AreUnwritten self.old →
             DwarfRefused W.meaning sections.old sections.new self.old e) }
         ensures refused { IfErr result
-            (RefusesAny W.meaning sections.old sections.new self.old.units self.new.units) }
+            (RefusesAny W.meaning sections.old sections.new self.old.units self.new.units
+            (string_tables self.old)) }
         ensures stopped { OnErr result
-            (AreStopped (starts_of W.meaning sections.old) self.old.units self.new.units) }
+            (AreStopped (starts_of W.meaning sections.old) (string_tables self.old) self.old.units
+            self.new.units) }
         // A valid Dwarf is refused over new sections only for want of memory, or by a fault that
         // was counted. What is valid hangs on whether symbols can be written.
         ensures complete { AreNew W.meaning sections.old → AreUnwritten self.old →
@@ -96,16 +111,17 @@ impl Dwarf {
             (SomeHasRisen W.meaning sections.old sections.new → ⊥) →
             IfErr result (λ e. e ≡ NoMemory) }
         // The same behind units that are pending.
-        ensures follows { CanFollow W.meaning sections.old self.old.units →
+        ensures follows { CanFollow W.meaning sections.old self.old.units (string_tables self.old) →
             (SomeHasRisen W.meaning sections.old sections.new → ⊥) →
             IfErr result (λ e. e ≡ NoMemory) }
-        // Where every unit is written already, references are patched, and no memory is taken.
-        ensures memory { IsTrue W.patches_in_place →
-            All (λ u. u.is_written ≡ true) self.old.units → IfErr result IsNotMemory }
+        // Only the units change.
+        ensures kept { self.new ≡ record self.old { units = self.new.units } }
 
         ensures others { KeepsOthers sections.old sections.new }
         ensures faults { fault_sum W.meaning sections.old ≤ fault_sum W.meaning sections.new }
     {
-        self.units.write(sections)
+        self.units
+            .write(sections, &self.line_strings, &self.strings)?;
+        write_strings(&self.line_strings, &self.strings, sections)
     }
 }

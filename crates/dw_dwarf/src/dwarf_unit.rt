@@ -1,17 +1,19 @@
 //! The DWARF of a file that has one unit.
 
-ghost use Rattle.std.specs.Prelude.{◌≡◌, ◌⊎◌, ◌≤◌, true, false, IfOk, OnOk, OnErr, IfErr, IsFalse};
+ghost use Rattle.std.specs.Prelude.{◌≡◌, ◌⊎◌, ◌≤◌, [], true, false, IfOk, OnOk, OnErr, IfErr, IsFalse};
 ghost use Rattle.dw_base.specs.declared.error.Error.TheVariants.{NoMemory};
 ghost use Rattle.dw_writer.specs.Sections.{SomeHasRisen, fault_sum, NoFixups};
 ghost use Rattle.dw_unit.specs.Alone.{has_info_reference, AppendsAlone, AloneRefused};
+ghost use Rattle.dw_unit.specs.Strings.{tables_in};
 ghost use Rattle.dw_unit.specs.UnitValue.{new_unit, no_line_program};
 ghost use Rattle.dw_unit.specs.Valid.{IsWritableAt};
 ghost use Rattle.dw_unit.specs.Whole.{settled, marked_written};
-ghost use Rattle.dw_unit.specs.Written.{KeepsOtherSections};
 ghost use Rattle.dw_dwarf.specs.Valid.{dwarf_of};
-ghost use Rattle.dw_dwarf.specs.Written.{AreNewPlain, AreNew, HoldsDwarf, ResolvesTo};
+ghost use Rattle.dw_dwarf.specs.Written.{AreNewPlain, AreNew, HoldsDwarf, ResolvesTo, AddsStrings, KeepsOthers};
 
+use crate::strings::write_strings;
 use dw_base::{Encoding, Result};
+use dw_strings::{LineStringTable, StringTable};
 use dw_unit::{LineProgram, Unit};
 use dw_writer::{Sections, Writer};
 use std::alloc::Global;
@@ -29,17 +31,28 @@ use std::alloc::Global;
 pub struct DwarfUnit {
     /// The one unit of `.debug_info`.
     pub unit: Unit,
+    /// The strings of `.debug_line_str`.
+    pub line_strings: LineStringTable,
+    /// The strings of `.debug_str`.
+    pub strings: StringTable,
 }
 
 impl DwarfUnit {
-    /// A unit that has its root alone, a `DW_TAG_compile_unit` without attributes, and no line
-    /// program.
+    /// A unit that has its root alone, a `DW_TAG_compile_unit` without attributes, no line program
+    /// and no strings.
     pub fn new(alloc: Global, encoding: Encoding) -> Result<DwarfUnit>
-        ensures ok { IfOk result (λ d. d.unit ≡ new_unit encoding no_line_program) }
+        ensures ok { IfOk result
+            (λ d. d ≡ record {
+              unit = new_unit encoding no_line_program;
+              line_strings = [];
+              strings = [];
+            }) }
         ensures err { IfErr result (λ e. e ≡ NoMemory) }
     {
         Ok(DwarfUnit {
             unit: Unit::new(alloc, encoding, LineProgram::none())?,
+            line_strings: LineStringTable::new(alloc),
+            strings: StringTable::new(alloc),
         })
     }
 
@@ -56,39 +69,54 @@ impl DwarfUnit {
         // Over new plain sections, each in its own byte order: they are read back as the unit.
         ensures built { OnOk result
             (AreNewPlain W.meaning sections.old →
-            HoldsDwarf W.meaning sections.new (dwarf_of (settled self.old.unit))) }
+            HoldsDwarf W.meaning sections.new (dwarf_of self.old.line_strings
+            self.old.strings (settled self.old.unit))) }
         // Over new sections of any kind: so they are once a linker has resolved them.
         ensures resolves { OnOk result
             (AreNew W.meaning sections.old →
-            ResolvesTo W.meaning sections.new (dwarf_of (settled self.old.unit))) }
+            ResolvesTo W.meaning sections.new (dwarf_of self.old.line_strings
+            self.old.strings (settled self.old.unit))) }
         // Over sections of any kind, behind whatever stands there.
         ensures appends { OnOk result
             (AppendsAlone W.meaning sections.old sections.new (settled self.old.unit)
-            self.new.unit.offsets) }
+            (tables_in self.old.line_strings self.old.strings) self.new.unit.offsets) }
+        // The strings stand behind what their sections held.
+        ensures strings { OnOk result
+            (AddsStrings W.meaning sections.old sections.new self.old.line_strings
+            self.old.strings) }
         ensures emptied { OnOk result (NoFixups sections.new) }
         ensures marked { OnOk result
             (self.new.unit ≡ marked_written self.new.unit.offsets (settled self.old.unit)) }
         ensures writable { OnOk result
             (IsWritableAt (W.meaning sections.old.debug_info.0).is_plain
+            (tables_in self.old.line_strings self.old.strings)
             (W.meaning sections.old.debug_abbrev.0).size self.old.unit) }
         ensures alone { OnOk result (IsFalse (has_info_reference self.old.unit)) }
 
         ensures err { IfErr result
-            (AloneRefused W.meaning sections.old sections.new self.old.unit) }
+            (AloneRefused W.meaning sections.old sections.new self.old.unit
+            (tables_in self.old.line_strings self.old.strings)) }
+        // A refused unit is as it was or settled, or was written, where only the strings were
+        // refused.
         ensures kept { OnErr result
-            ((self.new ≡ self.old)
-            ⊎ (self.new ≡ record self.old { unit = settled self.old.unit })) }
+            ((self.new.unit ≡ self.old.unit) ⊎ ((self.new.unit ≡ settled self.old.unit)
+            ⊎ (self.new.unit ≡ marked_written self.new.unit.offsets (settled self.old.unit)))) }
+        // Only the unit changes.
+        ensures strings_kept { self.new ≡ record self.old { unit = self.new.unit } }
         // A unit that can be written, without such references, is refused only for want of memory,
         // or by a fault that was counted.
         ensures complete { IsWritableAt (W.meaning sections.old.debug_info.0).is_plain
+            (tables_in self.old.line_strings self.old.strings)
             (W.meaning sections.old.debug_abbrev.0).size self.old.unit →
             IsFalse (has_info_reference self.old.unit) →
             (SomeHasRisen W.meaning sections.old sections.new → ⊥) →
             IfErr result (λ e. e ≡ NoMemory) }
 
-        ensures others { KeepsOtherSections sections.old sections.new }
+        ensures others { KeepsOthers sections.old sections.new }
         ensures faults { fault_sum W.meaning sections.old ≤ fault_sum W.meaning sections.new }
     {
-        self.unit.write_alone(sections)
+        self.unit
+            .write_alone(sections, &self.line_strings, &self.strings)?;
+        write_strings(&self.line_strings, &self.strings, sections)
     }
 }

@@ -8,6 +8,7 @@ mod dwarf_unit;
 mod dwarf_unit_tests;
 #[cfg(test)]
 mod relocation_tests;
+mod strings;
 #[cfg(test)]
 mod tests;
 #[cfg(test)]
@@ -15,8 +16,10 @@ mod unit_table_tests;
 
 pub use dw_base::{
     BigEndian, DebugInfoRef, DwAt, DwAte, DwForm, DwLang, DwTag, Encoding, Endianity, Error,
-    Format, LittleEndian, Result, RunTimeEndian, SectionId, UnitEntryId, UnitId, constants,
+    Format, LineStringId, LittleEndian, Result, RunTimeEndian, SectionId, StringId, UnitEntryId,
+    UnitId, constants,
 };
+pub use dw_strings::{LineStringTable, StringTable};
 pub use dw_unit::{
     AttrMut, Attribute, AttributeValue, AttributeWalk, AttrsMut, DebuggingInformationEntry,
     EntryMut, LineProgram, Unit, UnitIter, UnitOffsets, UnitTable,

@@ -13,7 +13,8 @@ use Rattle.dw_base.specs.declared.common.Encoding.{Encoding}
 use Rattle.dw_base.specs.declared.common.Format.{Format}
 use Rattle.dw_base.specs.declared.common.Format.TheVariants.{Dwarf32, Dwarf64}
 use Rattle.dw_base.proofs.NumberLaws.{bind_parts, when_same, length-num}
-use Rattle.dw_entries.specs.Content.{Content, Nothing, Plain, Wide, Leb, SignedLeb, Block, Closed, Target, Offset, EntryPlace, InfoPlace, info_in, number_in, has_zero, address_in, content_operand, content_kind, content_size, IsContentRanged}
+use Rattle.dw_entries.specs.Content.{Content, Nothing, Plain, Wide, Leb, SignedLeb, Block, Closed, Target, Offset, InTable, EntryPlace, InfoPlace, info_in, number_in, has_zero, address_in, content_operand, content_kind, content_size, IsContentRanged}
+use Rattle.dw_writer.specs.Layout.{start_of}
 use Rattle.dw_entries.specs.Targets.{Targets}
 use Rattle.dw_entries.specs.Values.{reference_form, supplementary_form, word_form, form_of, content_of}
 use Rattle.dw_entries.specs.declared.value.AttributeValue.{AttributeValue}
@@ -73,6 +74,8 @@ kind_of-form e (values.DebugMacinfoRef n) = kind_of-offset e (nat_le 4 e.version
 kind_of-form e (values.DebugMacroRef n) = kind_of-offset e (nat_le 4 e.version)
 kind_of-form e (values.DebugTypesRef n) = refl
 kind_of-form e (values.DebugStrRefSup n) = refl
+kind_of-form e (values.StringRef i) = refl
+kind_of-form e (values.LineStringRef i) = refl
 kind_of-form e (values.String s) = refl
 kind_of-form e (values.Encoding n) = refl
 kind_of-form e (values.DecimalSign n) = refl
@@ -99,6 +102,9 @@ number_in-fits w n o h = when-fits w n (fits w n) o h (λ k. k)
 
 bound-fits : (w : ℕ) (i : Option ℕ) (o : Operand) → (i >>= number_in w) ≡ Some o → KindFits (Fixed w) o
 bound-fits w i o h = let m = bind_parts i (number_in w) o h in number_in-fits w m.0 o m.2
+
+table-fits : (w : ℕ) (i : Option ℕ) (start : ℕ) (o : Operand) → (i >>= λ n. number_in w (n + start)) ≡ Some o → KindFits (Fixed w) o
+table-fits w i start o h = let m = bind_parts i (λ n. number_in w (n + start)) o h in number_in-fits w (m.0 + start) o m.2
 
 -- a string without a zero is a text
 no_zero : (s : List ℕ) → IsTrue (not (has_zero s)) → IsText s
@@ -128,6 +134,7 @@ content_fits e t (Block xs) o r h = subst (KindFits UlebBlock) (same_Some (Bytes
 content_fits e t (Closed s) o r h = text-fits s (not (has_zero s)) o h (no_zero s)
 content_fits e t (Target a) o r h = bound-fits e.address_size (address_in t a) o h
 content_fits e t (Offset section n) o r h = number_in-fits (word_of e.format) _ o h
+content_fits e t (InTable section i) o r h = table-fits (word_of e.format) (t.tables section i) (start_of t.layout section) o h
 content_fits e t (EntryPlace i) o r h = bound-fits (word_of e.format) (t.place i) o h
 content_fits e t (InfoPlace x) o r h = bound-fits (info_place_of e) (info_in t.info x) o h
 
@@ -141,6 +148,9 @@ number_in-long big w n o h = when-long big w n (fits w n) o h
 
 bound-long : (big : Bool) (w : ℕ) (i : Option ℕ) (o : Operand) → (i >>= number_in w) ≡ Some o → length (kind_bytes big (Fixed w) o) ≡ w
 bound-long big w i o h = let m = bind_parts i (number_in w) o h in number_in-long big w m.0 o m.2
+
+table-long : (big : Bool) (w : ℕ) (i : Option ℕ) (start : ℕ) (o : Operand) → (i >>= λ n. number_in w (n + start)) ≡ Some o → length (kind_bytes big (Fixed w) o) ≡ w
+table-long big w i start o h = let m = bind_parts i (λ n. number_in w (n + start)) o h in number_in-long big w (m.0 + start) o m.2
 
 text-long : (big : Bool) (s : List ℕ) (b : Bool) (o : Operand) → when b (Some (Text s)) ≡ Some o → length (kind_bytes big Zeroed o) ≡ length s + 1
 text-long big s b o h = ap (λ x. length (kind_bytes big Zeroed x)) (sym (same_Some (Text s) o (when_same b (Some (Text s)) o h))) ∙ length-append s (0 ∷ [])
@@ -159,6 +169,7 @@ content_long big e t (Block xs) o h = told big UlebBlock (Bytes xs) o h ∙ leng
 content_long big e t (Closed s) o h = text-long big s (not (has_zero s)) o h
 content_long big e t (Target a) o h = bound-long big e.address_size (address_in t a) o h
 content_long big e t (Offset section n) o h = number_in-long big (word_of e.format) _ o h
+content_long big e t (InTable section i) o h = table-long big (word_of e.format) (t.tables section i) (start_of t.layout section) o h
 content_long big e t (EntryPlace i) o h = bound-long big (word_of e.format) (t.place i) o h
 content_long big e t (InfoPlace x) o h = bound-long big (info_place_of e) (info_in t.info x) o h
 

@@ -16,7 +16,7 @@ use Rattle.dw_writer.specs.Layout.{Layout}
 use Rattle.dw_writer.specs.Drafts.{Info, Draft, left_open, filled, AreBetween, HaveWidths, IsDraft}
 use Rattle.dw_writer.proofs.DraftLaws.{draft_is}
 use Rattle.dw_writer.proofs.WriteLaws.{reference-draft}
-use Rattle.dw_entries.specs.Content.{Content, Nothing, Plain, Wide, Leb, SignedLeb, Block, Closed, Target, Offset, EntryPlace, InfoPlace, number_in, content_operand, content_kind, content_size, content_holes}
+use Rattle.dw_entries.specs.Content.{Content, Nothing, Plain, Wide, Leb, SignedLeb, Block, Closed, Target, Offset, InTable, EntryPlace, InfoPlace, number_in, content_operand, content_kind, content_size, content_holes}
 use Rattle.dw_entries.specs.declared.value.AttributeValue.{AttributeValue}
 use Rattle.dw_entries.specs.Targets.{Targets, UnitTargets, targets_in}
 use Rattle.dw_entries.specs.Values.{reference_form, form_of, content_of, operand_of, operand_size, value_draft, IsRanged}
@@ -109,6 +109,7 @@ content-draft e u (Block xs) k kind width = plain-draft e u (Block xs) k kind (�
 content-draft e u (Closed s) k kind width = plain-draft e u (Closed s) k kind (λ info l. refl) refl
 content-draft e u (Target a) k kind width = plain-draft e u (Target a) k kind (λ info l. refl) refl
 content-draft e u (Offset section n) k kind width = plain-draft e u (Offset section n) k kind (λ info l. refl) refl
+content-draft e u (InTable section i) k kind width = plain-draft e u (InTable section i) k kind (λ info l. refl) refl
 content-draft e u (EntryPlace i) k kind width = plain-draft e u (EntryPlace i) k kind (λ info l. refl) refl
 content-draft e u (InfoPlace (refs.Symbol s)) k kind width = plain-draft e u (InfoPlace (refs.Symbol s)) k kind (λ info l. refl) refl
 content-draft e u (InfoPlace (refs.Entry unit entry)) k kind width = info-draft e u unit entry k kind width

@@ -15,7 +15,7 @@ use Rattle.dw_base.specs.declared.section_id.SectionId.{SectionId}
 use Rattle.dw_base.proofs.NumberLaws.{bind_is}
 use Rattle.dw_writer.specs.Layout.{Layout, start_of}
 use Rattle.dw_writer.specs.Drafts.{Info}
-use Rattle.dw_entries.specs.Content.{Content, Nothing, Plain, Wide, Leb, SignedLeb, Block, Closed, Target, Offset, EntryPlace, InfoPlace, number_in, has_zero, address_in, address_fails, content_operand, content_holes, content_fails}
+use Rattle.dw_entries.specs.Content.{Content, Nothing, Plain, Wide, Leb, SignedLeb, Block, Closed, Target, Offset, InTable, EntryPlace, InfoPlace, number_in, has_zero, address_in, address_fails, table_fails, content_operand, content_holes, content_fails}
 use Rattle.dw_entries.specs.Targets.{Targets, UnitTargets, targets_in, HaveInfoPlaces}
 use Rattle.dw_entries.specs.Values.{form_of, content_of, operand_of, operand_holes, value_text, value_fails}
 use Rattle.dw_entries.specs.declared.value.AttributeValue.{AttributeValue}
@@ -55,28 +55,35 @@ offset_there w n start zero h =
 place_there : (w : ℕ) (x : Option ℕ) (n : ℕ) → x ≡ Some n → IsTrue (fits w n) → IsOperand (x >>= number_in w)
 place_there w x n is fit = let o = when_there (fits w n) (Number n) fit in (o.0, ap (λ y. y >>= number_in w) is ∙ o.1)
 
+-- what a table has there
+table_there : (w start : ℕ) (i : Option ℕ) → start ≡ 0 → ((err : Error) → IsFalse (table_fails w true i err)) → IsOperand (i >>= λ n. number_in w (n + start))
+table_there w start None zero sound = absurd (let k : true ≡ false = sound errors.InvalidReference in cc)
+table_there w start (Some n) zero sound = offset_there w n start zero (sound errors.ValueTooLarge)
+
 -- what is written without a fault is there
-content_there : (e : Encoding) (t : Targets) (c : Content) → StartsAtZero t.layout → HaveInfoPlaces t.info (content_holes e c) →
-    ((i n : ℕ) → t.place i ≡ Some n → IsTrue (fits (word_of e.format) n)) → ((err : Error) → IsFalse (content_fails e t.place true c err)) → IsOperand (content_operand e t c)
-content_there e t Nothing zero holes fit sound = (Absent, refl)
-content_there e t (Plain w n) zero holes fit sound = when_there (fits w n) (Number n) (not_false (fits w n) (sound errors.ValueTooLarge))
-content_there e t (Wide n) zero holes fit sound = (Number n, refl)
-content_there e t (Leb n) zero holes fit sound = (Number n, refl)
-content_there e t (SignedLeb z) zero holes fit sound = (Signed z, refl)
-content_there e t (Block xs) zero holes fit sound = (Bytes xs, refl)
-content_there e t (Closed s) zero holes fit sound = when_there (not (has_zero s)) (Text s) (not_from_false (has_zero s) (sound errors.InvalidAttributeValue))
-content_there e t (Target a) zero holes fit sound = address_there e.address_size t a sound
-content_there e t (Offset section n) zero holes fit sound = offset_there (word_of e.format) n (start_of t.layout section) (zero section) (sound errors.ValueTooLarge)
-content_there e t (EntryPlace i) zero holes fit sound = number_there (word_of e.format) (t.place i) (sound errors.InvalidReference) (fit i)
-content_there e t (InfoPlace (refs.Symbol s)) zero holes fit sound = absurd (let k : true ≡ false = sound errors.InvalidReference in cc)
-content_there e t (InfoPlace (refs.Entry u i)) zero holes fit sound = place_there (info_place_of e) (t.info u.0 i.0) holes.0.place holes.0.is holes.0.fits
+module _ (e : Encoding) (u : UnitTargets) (l : Layout) (info : Info) where
+  content_there : (c : Content) → StartsAtZero l → HaveInfoPlaces info (content_holes e c) →
+      ((i n : ℕ) → u.place i ≡ Some n → IsTrue (fits (word_of e.format) n)) → ((err : Error) → IsFalse (content_fails e u true c err)) → IsOperand (content_operand e (targets_in u l info) c)
+  content_there Nothing zero holes fit sound = (Absent, refl)
+  content_there (Plain w n) zero holes fit sound = when_there (fits w n) (Number n) (not_false (fits w n) (sound errors.ValueTooLarge))
+  content_there (Wide n) zero holes fit sound = (Number n, refl)
+  content_there (Leb n) zero holes fit sound = (Number n, refl)
+  content_there (SignedLeb z) zero holes fit sound = (Signed z, refl)
+  content_there (Block xs) zero holes fit sound = (Bytes xs, refl)
+  content_there (Closed s) zero holes fit sound = when_there (not (has_zero s)) (Text s) (not_from_false (has_zero s) (sound errors.InvalidAttributeValue))
+  content_there (Target a) zero holes fit sound = address_there e.address_size (targets_in u l info) a sound
+  content_there (Offset section n) zero holes fit sound = offset_there (word_of e.format) n (start_of l section) (zero section) (sound errors.ValueTooLarge)
+  content_there (InTable section i) zero holes fit sound = table_there (word_of e.format) (start_of l section) (u.tables section i) (zero section) sound
+  content_there (EntryPlace i) zero holes fit sound = number_there (word_of e.format) (u.place i) (sound errors.InvalidReference) (fit i)
+  content_there (InfoPlace (refs.Symbol s)) zero holes fit sound = absurd (let k : true ≡ false = sound errors.InvalidReference in cc)
+  content_there (InfoPlace (refs.Entry w i)) zero holes fit sound = place_there (info_place_of e) (info w.0 i.0) holes.0.place holes.0.is holes.0.fits
 
 module _ (big : Bool) (e : Encoding) (u : UnitTargets) (l : Layout) (info : Info) where
   -- the text of a value without a fault is there
   pub value_there : (v : AttributeValue) → StartsAtZero l → HaveInfoPlaces info (operand_holes e u.place v) →
-      ((i n : ℕ) → u.place i ≡ Some n → IsTrue (fits (word_of e.format) n)) → ((err : Error) → IsFalse (value_fails e u.place true v err)) →
+      ((i n : ℕ) → u.place i ≡ Some n → IsTrue (fits (word_of e.format) n)) → ((err : Error) → IsFalse (value_fails e u true v err)) →
       (xs : List ℕ) × (value_text big e (targets_in u l info) v ≡ Some xs)
   value_there v zero holes fit sound =
       let bytes : Operand → List ℕ = operand_bytes big (kind_of e (form_of e v)) in
-      let o = content_there e (targets_in u l info) (content_of e v) zero holes fit sound in
+      let o = content_there e u l info (content_of e v) zero holes fit sound in
       (bytes o.0, bind_is (operand_of big e (targets_in u l info) v) o.0 (λ x. Some (bytes x)) o.1)

@@ -16,7 +16,7 @@ use Rattle.dw_writer.specs.Causes.{offset_fits}
 use Rattle.dw_writer.specs.Drafts.{Info}
 use Rattle.dw_writer.specs.Layout.{start_of}
 use Rattle.dw_writer.specs.declared.fixup.DebugInfoFixup.{DebugInfoFixup}
-use Rattle.dw_entries.specs.Targets.{Targets}
+use Rattle.dw_entries.specs.Targets.{Targets, UnitTargets}
 
 -- What stands for a value in an entry, by how it is laid out (DWARF 5, 7.5.5).
 pub data Content : Type 0 where
@@ -36,6 +36,8 @@ pub data Content : Type 0 where
   Target : TargetAddress → Content
   -- an offset into a section
   Offset : SectionId → ℕ → Content
+  -- the place in a section of what a table has there under a number
+  InTable : SectionId → ℕ → Content
   -- the place in the unit of an entry
   EntryPlace : ℕ → Content
   -- the place in .debug_info of an entry of any unit
@@ -75,6 +77,8 @@ content_operand e t (Block xs) = Some (Bytes xs)
 content_operand e t (Closed s) = when (not (has_zero s)) (Some (Text s))
 content_operand e t (Target a) = address_in t a >>= number_in e.address_size
 content_operand e t (Offset section n) = number_in (word_of e.format) (n + start_of t.layout section)
+content_operand e t (InTable section i) =
+    t.tables section i >>= λ n. number_in (word_of e.format) (n + start_of t.layout section)
 content_operand e t (EntryPlace i) = t.place i >>= number_in (word_of e.format)
 content_operand e t (InfoPlace r) = info_in t.info r >>= number_in (info_place_of e)
 
@@ -89,6 +93,7 @@ content_kind e (Block xs) = UlebBlock
 content_kind e (Closed s) = Zeroed
 content_kind e (Target a) = Fixed e.address_size
 content_kind e (Offset section n) = Fixed (word_of e.format)
+content_kind e (InTable section i) = Fixed (word_of e.format)
 content_kind e (EntryPlace i) = Fixed (word_of e.format)
 content_kind e (InfoPlace r) = Fixed (info_place_of e)
 
@@ -103,6 +108,7 @@ content_size e (Block xs) = length (uleb (length xs)) + length xs
 content_size e (Closed s) = length s + 1
 content_size e (Target a) = e.address_size
 content_size e (Offset section n) = word_of e.format
+content_size e (InTable section i) = word_of e.format
 content_size e (EntryPlace i) = word_of e.format
 content_size e (InfoPlace r) = info_place_of e
 
@@ -152,17 +158,24 @@ abbrev pub reference_fails : Option ℕ → Error → Bool
 reference_fails place errors.InvalidReference = is_none place
 reference_fails place err = false
 
+-- nothing stands under a number in a table, or its place has no room
+abbrev pub table_fails : ℕ → Bool → Option ℕ → Error → Bool
+table_fails w is_plain None errors.InvalidReference = true
+table_fails w is_plain (Some n) err = offset_fails w is_plain n err
+table_fails w is_plain None err = false
+
 -- an entry of another object is named
 abbrev pub info_fails : InfoRef → Error → Bool
 info_fails (refs.Symbol s) errors.InvalidReference = true
 info_fails r err = false
 
--- why what is written is refused, where entries have these places
-abbrev pub content_fails : Encoding → (ℕ → Option ℕ) → Bool → Content → Error → Bool
-content_fails e place is_plain (Plain w n) err = number_fails w n err
-content_fails e place is_plain (Closed s) err = text_fails s err
-content_fails e place is_plain (Target a) err = address_fails e.address_size is_plain a err
-content_fails e place is_plain (Offset section n) err = offset_fails (word_of e.format) is_plain n err
-content_fails e place is_plain (EntryPlace i) err = reference_fails (place i) err
-content_fails e place is_plain (InfoPlace r) err = info_fails r err
-content_fails e place is_plain c err = false
+-- why what is written is refused, where operands lead to these targets
+abbrev pub content_fails : Encoding → UnitTargets → Bool → Content → Error → Bool
+content_fails e u is_plain (Plain w n) err = number_fails w n err
+content_fails e u is_plain (Closed s) err = text_fails s err
+content_fails e u is_plain (Target a) err = address_fails e.address_size is_plain a err
+content_fails e u is_plain (Offset section n) err = offset_fails (word_of e.format) is_plain n err
+content_fails e u is_plain (InTable section i) err = table_fails (word_of e.format) is_plain (u.tables section i) err
+content_fails e u is_plain (EntryPlace i) err = reference_fails (u.place i) err
+content_fails e u is_plain (InfoPlace r) err = info_fails r err
+content_fails e u is_plain c err = false

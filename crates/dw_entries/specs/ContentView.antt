@@ -13,5 +13,6 @@ content_in (held.Block xs) = of.Block xs.now
 content_in (held.Closed s) = of.Closed s.now
 content_in (held.Target a) = of.Target a
 content_in (held.Offset n section) = of.Offset section n
+content_in (held.InTable section i) = of.InTable section i
 content_in (held.EntryPlace i) = of.EntryPlace i.0
 content_in (held.InfoPlace r) = of.InfoPlace r

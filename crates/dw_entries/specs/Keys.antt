@@ -50,6 +50,8 @@ value_key (values.DebugMacroRef n) = key_by 16 n.0 (pos 0) []
 value_key (values.DebugTypesRef n) = key_by 17 n.0 (pos 0) []
 value_key (values.DebugStrRefSup n) = key_by 18 n.0 (pos 0) []
 value_key (values.String s) = key_by 19 0 (pos 0) s
+value_key (values.StringRef i) = key_by 34 i.0 (pos 0) []
+value_key (values.LineStringRef i) = key_by 35 i.0 (pos 0) []
 value_key (values.Encoding n) = key_by 20 n.0 (pos 0) []
 value_key (values.DecimalSign n) = key_by 21 n.0 (pos 0) []
 value_key (values.Endianity n) = key_by 22 n.0 (pos 0) []
@@ -102,6 +104,8 @@ value_by k =
     if k.kind == 29 then values.CallingConvention (record { 0 = k.number }) else
     if k.kind == 30 then values.Inline (record { 0 = k.number }) else
     if k.kind == 31 then values.Ordering (record { 0 = k.number }) else
+    if k.kind == 34 then values.StringRef (record { 0 = k.number }) else
+    if k.kind == 35 then values.LineStringRef (record { 0 = k.number }) else
     if k.kind == 32 then values.DebugInfoRef (refs.Symbol k.number) else
     values.DebugInfoRef (refs.Entry (record { 0 = k.unit }) (record { 0 = k.number }))
 
@@ -129,6 +133,8 @@ value_by-key (values.DebugMacroRef n) = refl
 value_by-key (values.DebugTypesRef n) = refl
 value_by-key (values.DebugStrRefSup n) = refl
 value_by-key (values.String s) = refl
+value_by-key (values.StringRef i) = refl
+value_by-key (values.LineStringRef i) = refl
 value_by-key (values.Encoding n) = refl
 value_by-key (values.DecimalSign n) = refl
 value_by-key (values.Endianity n) = refl

@@ -3,16 +3,16 @@ use Rattle.std.specs.Prelude.{ℕ, Bool, true, false, ◌==◌, nat_le, List, []
 use Rattle.dw_base.specs.Numbers.{◌>>=◌, word_of}
 use Rattle.dw_base.specs.Forms.{Operand, kind_of}
 use Rattle.dw_base.specs.Spelling.{operand_bytes}
-use Rattle.dw_base.specs.declared.constants.TheConstants.{DW_FORM_addr, DW_FORM_block, DW_FORM_data1, DW_FORM_data2, DW_FORM_data4, DW_FORM_data8, DW_FORM_data16, DW_FORM_sdata, DW_FORM_udata, DW_FORM_implicit_const, DW_FORM_flag, DW_FORM_flag_present, DW_FORM_ref4, DW_FORM_ref8, DW_FORM_ref_addr, DW_FORM_ref_sup4, DW_FORM_ref_sup8, DW_FORM_ref_sig8, DW_FORM_sec_offset, DW_FORM_string, DW_FORM_strp_sup}
+use Rattle.dw_base.specs.declared.constants.TheConstants.{DW_FORM_addr, DW_FORM_block, DW_FORM_data1, DW_FORM_data2, DW_FORM_data4, DW_FORM_data8, DW_FORM_data16, DW_FORM_sdata, DW_FORM_udata, DW_FORM_implicit_const, DW_FORM_flag, DW_FORM_flag_present, DW_FORM_ref4, DW_FORM_ref8, DW_FORM_ref_addr, DW_FORM_ref_sup4, DW_FORM_ref_sup8, DW_FORM_ref_sig8, DW_FORM_sec_offset, DW_FORM_string, DW_FORM_strp, DW_FORM_strp_sup, DW_FORM_line_strp}
 use Rattle.dw_base.specs.declared.common.Encoding.{Encoding}
 use Rattle.dw_base.specs.declared.common.Format.{Format}
 use Rattle.dw_base.specs.declared.common.Format.TheVariants.{Dwarf32, Dwarf64}
 use Rattle.dw_base.specs.declared.error.Error.{Error}
-use Rattle.dw_base.specs.declared.section_id.SectionId.TheVariants.{DebugMacinfo, DebugMacro}
+use Rattle.dw_base.specs.declared.section_id.SectionId.TheVariants.{DebugStr, DebugLineStr, DebugMacinfo, DebugMacro}
 use Rattle.dw_writer.specs.Texts.{Text}
 use Rattle.dw_writer.specs.Drafts.{Draft}
 use Rattle.dw_writer.specs.declared.fixup.DebugInfoFixup.{DebugInfoFixup}
-use Rattle.dw_entries.specs.Content.{Content, Nothing, Plain, Wide, Leb, SignedLeb, Block, Closed, Target, Offset, EntryPlace, InfoPlace, content_operand, content_size, content_holes, content_fails, IsContentRanged}
+use Rattle.dw_entries.specs.Content.{Content, Nothing, Plain, Wide, Leb, SignedLeb, Block, Closed, Target, Offset, InTable, EntryPlace, InfoPlace, content_operand, content_size, content_holes, content_fails, IsContentRanged}
 use Rattle.dw_entries.specs.Targets.{Targets, UnitTargets, targets_in}
 use Rattle.dw_entries.specs.declared.value.AttributeValue.{AttributeValue}
 use Rattle.dw_entries.specs.declared.value.AttributeValue.TheVariants as values
@@ -75,6 +75,8 @@ form_of e (values.DebugMacroRef n) = offset_form e
 form_of e (values.DebugTypesRef n) = DW_FORM_ref_sig8.0
 form_of e (values.DebugStrRefSup n) = DW_FORM_strp_sup.0
 form_of e (values.String s) = DW_FORM_string.0
+form_of e (values.StringRef i) = DW_FORM_strp.0
+form_of e (values.LineStringRef i) = DW_FORM_line_strp.0
 form_of e (values.Encoding n) = DW_FORM_udata.0
 form_of e (values.DecimalSign n) = DW_FORM_udata.0
 form_of e (values.Endianity n) = DW_FORM_udata.0
@@ -120,6 +122,8 @@ content_of e (values.DebugMacroRef n) = Offset DebugMacro n.0
 content_of e (values.DebugTypesRef n) = Plain 8 n.0
 content_of e (values.DebugStrRefSup n) = Plain (word_of e.format) n.0
 content_of e (values.String s) = Closed s
+content_of e (values.StringRef i) = InTable DebugStr i.0
+content_of e (values.LineStringRef i) = InTable DebugLineStr i.0
 content_of e (values.Encoding n) = Leb n.0
 content_of e (values.DecimalSign n) = Leb n.0
 content_of e (values.Endianity n) = Leb n.0
@@ -160,6 +164,6 @@ value_draft e u v = record {
 abbrev pub IsRanged : Encoding → AttributeValue → Type 0
 IsRanged e v = IsContentRanged (content_of e v)
 
--- a value has this fault where entries have these places, in a writer that is plain or not
-abbrev pub value_fails : Encoding → (ℕ → Option ℕ) → Bool → AttributeValue → Error → Bool
-value_fails e place is_plain v err = content_fails e place is_plain (content_of e v) err
+-- a value has this fault where operands lead to these targets, in a writer that is plain or not
+abbrev pub value_fails : Encoding → UnitTargets → Bool → AttributeValue → Error → Bool
+value_fails e u is_plain v err = content_fails e u is_plain (content_of e v) err

@@ -2,7 +2,7 @@
 
 ghost use Rattle.std.specs.Prelude.{◌≡◌};
 ghost use Rattle.dw_base.specs.Numbers.{word_of};
-ghost use Rattle.dw_entries.specs.Content.{Plain, Offset};
+ghost use Rattle.dw_entries.specs.Content.{Plain, Offset, InTable};
 ghost use Rattle.dw_entries.specs.ContentView.{content_in};
 ghost use Rattle.dw_entries.specs.Values.{content_of, constant_content as content_of_constant, present_content as content_of_flag};
 
@@ -30,6 +30,9 @@ pub enum Content<'a> {
     Target(Address),
     /// An offset into a section, in a word of the unit's format.
     Offset { value: usize, section: SectionId },
+    /// The place in a section of what a table has there under an index, in a word of the unit's
+    /// format.
+    InTable { section: SectionId, index: usize },
     /// The place in the unit of an entry, in a word of the unit's format.
     EntryPlace(UnitEntryId),
     /// The place in `.debug_info` of an entry of any unit, in a word of the unit's format, or in
@@ -65,6 +68,10 @@ impl AttributeValue {
             AttributeValue::DebugTypesRef(signature) => plain(signature.0, 8),
             AttributeValue::DebugStrRefSup(offset) => word(encoding, offset.0),
             AttributeValue::String(text) => Content::Closed(text.slice()),
+            AttributeValue::StringRef(string) => in_table(SectionId::DebugStr, string.index()),
+            AttributeValue::LineStringRef(string) => {
+                in_table(SectionId::DebugLineStr, string.index())
+            }
             AttributeValue::Encoding(code) => Content::Leb(code.0 as u64),
             AttributeValue::DecimalSign(code) => Content::Leb(code.0 as u64),
             AttributeValue::Endianity(code) => Content::Leb(code.0 as u64),
@@ -100,6 +107,13 @@ fn offset_into(section: SectionId, value: usize) -> Content<'static>
     ensures { content_in result ≡ Offset section value }
 {
     Content::Offset { value, section }
+}
+
+/// What a table has under an index.
+fn in_table(section: SectionId, index: usize) -> Content<'static>
+    ensures { content_in result ≡ InTable section index }
+{
+    Content::InTable { section, index }
 }
 
 /// A constant that the declaration holds from version 5 on.

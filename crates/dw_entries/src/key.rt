@@ -128,6 +128,8 @@ impl AttributeValue {
             AttributeValue::DebugTypesRef(signature) => Key::number(17, signature.0 as u128),
             AttributeValue::DebugStrRefSup(offset) => Key::number(18, offset.0 as u128),
             AttributeValue::String(text) => Key::bytes(19, text.slice()),
+            AttributeValue::StringRef(string) => Key::number(34, string.0 as u128),
+            AttributeValue::LineStringRef(string) => Key::number(35, string.0 as u128),
             AttributeValue::Encoding(code) => Key::number(20, code.0 as u128),
             AttributeValue::DecimalSign(code) => Key::number(21, code.0 as u128),
             AttributeValue::Endianity(code) => Key::number(22, code.0 as u128),

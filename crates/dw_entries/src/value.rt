@@ -10,14 +10,16 @@ use crate::content::Content;
 use crate::size::sum;
 use dw_base::constants::{
     DW_FORM_addr, DW_FORM_block, DW_FORM_data1, DW_FORM_data2, DW_FORM_data4, DW_FORM_data8,
-    DW_FORM_data16, DW_FORM_flag, DW_FORM_flag_present, DW_FORM_implicit_const, DW_FORM_ref_addr,
-    DW_FORM_ref_sig8, DW_FORM_ref_sup4, DW_FORM_ref_sup8, DW_FORM_ref4, DW_FORM_ref8,
-    DW_FORM_sdata, DW_FORM_sec_offset, DW_FORM_string, DW_FORM_strp_sup, DW_FORM_udata,
+    DW_FORM_data16, DW_FORM_flag, DW_FORM_flag_present, DW_FORM_implicit_const, DW_FORM_line_strp,
+    DW_FORM_ref_addr, DW_FORM_ref_sig8, DW_FORM_ref_sup4, DW_FORM_ref_sup8, DW_FORM_ref4,
+    DW_FORM_ref8, DW_FORM_sdata, DW_FORM_sec_offset, DW_FORM_string, DW_FORM_strp,
+    DW_FORM_strp_sup, DW_FORM_udata,
 };
 use dw_base::{
     Address, DebugInfoOffset, DebugInfoRef, DebugMacinfoOffset, DebugMacroOffset, DebugStrOffset,
     DebugTypeSignature, DwAccess, DwAddr, DwAte, DwCc, DwDs, DwEnd, DwForm, DwId, DwInl, DwLang,
-    DwOrd, DwVirtuality, DwVis, Encoding, Format, Result, UnitEntryId, sleb128_size, uleb128_size,
+    DwOrd, DwVirtuality, DwVis, Encoding, Format, LineStringId, Result, StringId, UnitEntryId,
+    sleb128_size, uleb128_size,
 };
 use dw_writer::Bytes;
 
@@ -69,6 +71,11 @@ pub enum AttributeValue {
     DebugStrRefSup(DebugStrOffset),
     /// A string without its closing zero.
     String(Bytes),
+    /// A string of `.debug_str`, by its place there, in a word of the unit's format (7.5.5).
+    StringRef(StringId),
+    /// A string of `.debug_line_str`, by its place there, in a word of the unit's format. Only
+    /// readers of version 5 know the form (7.5.5).
+    LineStringRef(LineStringId),
     /// How a base type is encoded (DWARF 5, 7.8). This and the codes below are unsigned LEB128.
     Encoding(DwAte),
     /// The sign of a decimal type (7.8).
@@ -137,6 +144,8 @@ impl AttributeValue {
             AttributeValue::DebugTypesRef(_) => DW_FORM_ref_sig8,
             AttributeValue::DebugStrRefSup(_) => DW_FORM_strp_sup,
             AttributeValue::String(_) => DW_FORM_string,
+            AttributeValue::StringRef(_) => DW_FORM_strp,
+            AttributeValue::LineStringRef(_) => DW_FORM_line_strp,
             AttributeValue::Udata(_)
             | AttributeValue::Encoding(_)
             | AttributeValue::DecimalSign(_)
@@ -173,6 +182,7 @@ impl AttributeValue {
             Content::Closed(text) => sum(text.len() as u64, 1),
             Content::Target(_) => Ok(encoding.address_size as u64),
             Content::Offset { .. } => Ok(encoding.format.word_size() as u64),
+            Content::InTable { .. } => Ok(encoding.format.word_size() as u64),
             Content::EntryPlace(_) => Ok(encoding.format.word_size() as u64),
             Content::InfoPlace(_) => Ok(info_place_size(encoding) as u64),
         }

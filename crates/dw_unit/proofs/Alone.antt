@@ -19,7 +19,7 @@ use Rattle.dw_entries.specs.declared.attribute.Attribute.{Attribute}
 use Rattle.dw_entries.specs.declared.value.AttributeValue.{AttributeValue}
 use Rattle.dw_entries.specs.declared.value.AttributeValue.TheVariants as values
 use Rattle.dw_entries.specs.Entries.{EntryValue, entry_at, has_sibling}
-use Rattle.dw_entries.specs.Targets.{UnitTargets}
+use Rattle.dw_entries.specs.Targets.{Tables, UnitTargets}
 use Rattle.dw_entries.specs.Tree.{preorder}
 use Rattle.dw_entries.specs.Values.{content_of}
 use Rattle.dw_unit.specs.Alone.{is_info_reference, some_info_reference, mark_refers, tree_refers, has_info_reference, only_unit, AppendsAlone, AloneFails, AloneRefused}
@@ -115,10 +115,10 @@ marks_holes e es u shapes (m ∷ ms) =
     ∙ not_or (mark_refers es m) (list_any (mark_refers es) ms)
 
 -- A unit has no open place exactly where no value in its tree names an entry by its place in .debug_info.
-draft_holes : (e : Encoding) (es : List EntryValue) (k : Kept) → no_hole (draft_of e es k).holes ≡ not (tree_refers es)
-draft_holes e es k =
-    let body = tree_draft e es (targets_of k.places) in
-    no_hole-then (whole (header_size e) (header_text e k.starts.abbrevs body.size)) body ∙ marks_holes e es (targets_of k.places) (tree_shapes e es) (preorder es)
+draft_holes : (e : Encoding) (es : List EntryValue) (t : Tables) (k : Kept) → no_hole (draft_of e es t k).holes ≡ not (tree_refers es)
+draft_holes e es t k =
+    let body = tree_draft e es (targets_of t k.places) in
+    no_hole-then (whole (header_size e) (header_text e k.starts.abbrevs body.size)) body ∙ marks_holes e es (targets_of t k.places) (tree_shapes e es) (preorder es)
 
 not_false : (b : Bool) → true ≡ not b → IsFalse b
 not_false true h = absurd (let k : true ≡ false = h in cc)
@@ -128,26 +128,26 @@ not_true : (b : Bool) → false ≡ not b → IsTrue b
 not_true true h = refl
 not_true false h = absurd (let k : false ≡ true = h in cc)
 
-only_holes : (u : UnitValue) (k : Kept) → no_hole (units_draft (only_unit u) (k ∷ [])).holes ≡ no_hole (draft_of u.encoding u.entries k).holes
-only_holes u k = no_hole-then (draft_of u.encoding u.entries k) no_draft ∙ by_test (no_hole (draft_of u.encoding u.entries k).holes)
+only_holes : (t : Tables) (u : UnitValue) (k : Kept) → no_hole (units_draft (only_unit t u) (k ∷ [])).holes ≡ no_hole (draft_of u.encoding u.entries t k).holes
+only_holes t u k = no_hole-then (draft_of u.encoding u.entries t k) no_draft ∙ by_test (no_hole (draft_of u.encoding u.entries t k).holes)
   where
     by_test : (b : Bool) → (b && true) ≡ b
     by_test true = refl
     by_test false = refl
 
-module _ {W : Type 0} (meaning : W → Meaning) (old new : Sections W) (u : UnitValue) (offsets : Option OffsetsValue) (none : old.debug_info_fixups ≡ []) (p : PendsUnit meaning old new (settled u) offsets) where
+module _ {W : Type 0} (meaning : W → Meaning) (old new : Sections W) (u : UnitValue) (t : Tables) (offsets : Option OffsetsValue) (none : old.debug_info_fixups ≡ []) (p : PendsUnit meaning old new (settled u) t offsets) where
   abbrev es : List EntryValue
   es = (settled u).entries
 
   -- the fixups that there are after it are its own
-  own_fixups : no_hole new.debug_info_fixups ≡ no_hole (draft_of u.encoding es p.kept).holes
+  own_fixups : no_hole new.debug_info_fixups ≡ no_hole (draft_of u.encoding es t p.kept).holes
   own_fixups =
-      let hs = (draft_of u.encoding es p.kept).holes in
+      let hs = (draft_of u.encoding es t p.kept).holes in
       let n = (meaning old.debug_info.0).size in
       ap no_hole (p.tree.unit.fixups ∙ ap (λ xs. xs ++ shifted n hs) none) ∙ no_hole-shifted n hs
 
   pub alone_fixups : (length new.debug_info_fixups == 0) ≡ not (has_info_reference u)
-  alone_fixups = no_hole-length new.debug_info_fixups ∙ own_fixups ∙ draft_holes u.encoding es p.kept
+  alone_fixups = no_hole-length new.debug_info_fixups ∙ own_fixups ∙ draft_holes u.encoding es t p.kept
 
   pub alone_closed : (length new.debug_info_fixups == 0) ≡ true → new.debug_info_fixups ≡ []
   alone_closed h = no_hole-is new.debug_info_fixups (sym (no_hole-length new.debug_info_fixups) ∙ h)
@@ -158,13 +158,13 @@ module _ {W : Type 0} (meaning : W → Meaning) (old new : Sections W) (u : Unit
   pub alone_refers : (length new.debug_info_fixups == 0) ≡ false → IsTrue (has_info_reference u)
   alone_refers h = not_true (has_info_reference u) (sym h ∙ alone_fixups)
 
-  pub alone_appends : (length new.debug_info_fixups == 0) ≡ true → AppendsAlone meaning old new (settled u) offsets
+  pub alone_appends : (length new.debug_info_fixups == 0) ≡ true → AppendsAlone meaning old new (settled u) t offsets
   alone_appends h =
-      let us = only_unit (settled u) in
+      let us = only_unit t (settled u) in
       let ks = p.kept ∷ [] in
-      let pending : Pending meaning old new us ks = pending_one meaning 0 (settled u) old new p.kept p.tree in
+      let pending : Pending meaning old new us ks = pending_one meaning 0 (settled u) t old new p.kept p.tree in
       let closed : (units_draft us ks).holes ≡ [] =
-      no_hole-is (units_draft us ks).holes (only_holes (settled u) p.kept ∙ sym own_fixups ∙ sym (no_hole-length new.debug_info_fixups) ∙ h)
+      no_hole-is (units_draft us ks).holes (only_holes t (settled u) p.kept ∙ sym own_fixups ∙ sym (no_hole-length new.debug_info_fixups) ∙ h)
       in
       let m = meaning new.debug_info.0 in
       record {
@@ -180,8 +180,8 @@ module _ {W : Type 0} (meaning : W → Meaning) (old new : Sections W) (u : Unit
       }
 
 -- why a unit is refused that is to stand alone
-pub alone_refused : {W : Type 0} (meaning : W → Meaning) (old new : Sections W) (u : UnitValue) (err : Error) → UnitRefused meaning old new u err → AloneRefused meaning old new u err
-alone_refused meaning old new u err h =
+pub alone_refused : {W : Type 0} (meaning : W → Meaning) (old new : Sections W) (u : UnitValue) (t : Tables) (err : Error) → UnitRefused meaning old new u t err → AloneRefused meaning old new u t err
+alone_refused meaning old new u t err h =
     let table = (meaning old.debug_abbrev.0).size in
     let plain = (meaning old.debug_info.0).is_plain in
-    because-map {p = UnitFails u table plain} {q = AloneFails u table plain} (λ r. r) (λ e k. inl k) err h
+    because-map {p = UnitFails u t table plain} {q = AloneFails u t table plain} (λ r. r) (λ e k. inl k) err h

@@ -167,10 +167,13 @@ sibling_first e past x xs ys names h =
     let made : Operand → ReadAttribute = λ n. record { name = sibling_name; form = reference_form e.format; constant = None; operand = n } in
     ap (λ l. slice_get l 0) (sym (same_Some (s.0 ∷ xs) ys s.2)) ∙ ap Some (sym (same_Some (made o.0) s.0 o.2)) ∙ ap (λ n. Some (made n)) (number_is (word_of e.format) past o.0 o.1)
 
-module _ (big : Bool) (l : Layout) (us : List Numbered) (rs : List ReadUnit) (u : UnitValue) (r : ReadUnit) (built : IsBuilt big l us rs u r) where
+module _ (big : Bool) (l : Layout) (us : List Numbered) (rs : List ReadUnit) (one : Numbered) (r : ReadUnit) (built : IsBuilt big l us rs one r) where
+  abbrev pub u : UnitValue
+  u = one.unit
+
   -- what the unit's operands lead to
   abbrev targets : Targets
-  targets = targets_read us rs l u r
+  targets = targets_read us rs l one r
 
   abbrev shape : ℕ → Shape
   shape i = shape_of_entry u.encoding (entry_at u.entries i)
@@ -228,7 +231,7 @@ module _ (big : Bool) (l : Layout) (us : List Numbered) (rs : List ReadUnit) (u 
 
   -- Each attribute of an entry is read in the entry's row, in the order of the entry, with what its value leads to.
   pub attribute_read : (i a : ℕ) (x : Attribute) (row : Row) → slice_get (entry_at u.entries i).attributes a ≡ Some x → IsReadIn u r i row →
-      (o : Operand) × (operand_of big u.encoding (targets_read us rs l u r) x.value ≡ Some o) × (attribute_at row (position_read (entry_at u.entries i) a) ≡ Some (with_operand u.encoding x o))
+      (o : Operand) × (operand_of big u.encoding (targets_read us rs l one r) x.value ≡ Some o) × (attribute_at row (position_read (entry_at u.entries i) a) ≡ Some (with_operand u.encoding x o))
   attribute_read i a x row is at =
       let e = u.encoding in
       let given = entry_at u.entries i in
@@ -307,8 +310,8 @@ module _ (big : Bool) (l : Layout) (us : List Numbered) (rs : List ReadUnit) (u 
 
 -- Of units that are built, each is read under its own number, among those of its file.
 pub unit_read : (big : Bool) (l : Layout) (all : List Numbered) (read : List ReadUnit) (at : Starts) (us : List Numbered) (rs : List ReadUnit) (i : ℕ) (u : Numbered) → AreBuilt big l all read at us rs → slice_get us i ≡ Some u →
-    (r : ReadUnit) × (slice_get rs i ≡ Some r) × IsBuilt big l all read u.unit r
+    (r : ReadUnit) × (slice_get rs i ≡ Some r) × IsBuilt big l all read u r
 unit_read big l all read at [] rs i u built is = absurd (none-some u is)
 unit_read big l all read at (v ∷ us) [] i u built is = absurd built
-unit_read big l all read at (v ∷ us) (r ∷ rs) zero u built is = (r, refl, subst (λ (x : Numbered). IsBuilt big l all read x.unit r) (same_Some v u is) built.0)
+unit_read big l all read at (v ∷ us) (r ∷ rs) zero u built is = (r, refl, subst (λ (x : Numbered). IsBuilt big l all read x r) (same_Some v u is) built.0)
 unit_read big l all read at (v ∷ us) (r ∷ rs) (suc i) u built is = unit_read big l all read (past_unit at v.unit r) us rs i u built.2 is

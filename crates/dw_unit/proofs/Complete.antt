@@ -6,6 +6,7 @@ use Rattle.dw_base.specs.declared.error.Error.TheVariants as errors
 use Rattle.dw_writer.specs.Meaning.{Meaning}
 use Rattle.dw_writer.specs.Sections.{SomeHasRisen}
 use Rattle.dw_writer.specs.declared.sections.Sections.{Sections}
+use Rattle.dw_entries.specs.Targets.{Tables}
 use Rattle.dw_unit.specs.Causes.{UnitRefused, UnitsFail, UnitsRefused, RefusesAny, ReferencesFail}
 use Rattle.dw_unit.specs.Pending.{Kept, units_draft, info_at, info_of, starts_of}
 use Rattle.dw_unit.specs.UnitFaults.{holes_fail}
@@ -16,22 +17,22 @@ use Rattle.dw_unit.proofs.TableLaws.{info_kept, units_unfailing, one_row}
 use Rattle.dw_unit.proofs.ValidLaws.{unit_unfailing}
 
 -- one unit
-pub unit_complete : {W : Type 0} (meaning : W → Meaning) (old new : Sections W) (u : UnitValue) → IsWritableAt (meaning old.debug_info.0).is_plain (meaning old.debug_abbrev.0).size u →
-    (SomeHasRisen meaning old new → ⊥) → (err : Error) → UnitRefused meaning old new u err → err ≡ errors.NoMemory
-unit_complete meaning old new u w calm errors.NoMemory r = refl
-unit_complete meaning old new u w calm errors.WriteFault r = absurd (calm r)
-unit_complete meaning old new u w calm err r = absurd (unit_unfailing (meaning old.debug_info.0).is_plain u (meaning old.debug_abbrev.0).size w.1 w.0 err r)
+pub unit_complete : {W : Type 0} (meaning : W → Meaning) (old new : Sections W) (t : Tables) (u : UnitValue) → IsWritableAt (meaning old.debug_info.0).is_plain t (meaning old.debug_abbrev.0).size u →
+    (SomeHasRisen meaning old new → ⊥) → (err : Error) → UnitRefused meaning old new u t err → err ≡ errors.NoMemory
+unit_complete meaning old new t u w calm errors.NoMemory r = refl
+unit_complete meaning old new t u w calm errors.WriteFault r = absurd (calm r)
+unit_complete meaning old new t u w calm err r = absurd (unit_unfailing (meaning old.debug_info.0).is_plain t u (meaning old.debug_abbrev.0).size w.1 w.0 err r)
 
 not_both : (b : Bool) → IsTrue b → IsFalse b → ⊥
 not_both true t f = absurd (let x : true ≡ false = f in cc)
 not_both false t f = absurd (let x : false ≡ true = t in cc)
 
 -- the units of a table behind those that are pending
-module _ {W : Type 0} (meaning : W → Meaning) (old new : Sections W) (us vs : List UnitValue) (can : CanFollow meaning old us) where
-  unfailing : (err : Error) → UnitsFail (meaning old.debug_info.0).is_plain (meaning old.debug_abbrev.0).size us err ⊎ ReferencesFail meaning can.before us vs can.units can.kept err → ⊥
-  unfailing err (inl h) = units_unfailing (meaning old.debug_info.0).is_plain (meaning old.debug_abbrev.0).size us can.writable err h
+module _ {W : Type 0} (meaning : W → Meaning) (old new : Sections W) (t : Tables) (us vs : List UnitValue) (can : CanFollow meaning old us t) where
+  unfailing : (err : Error) → UnitsFail (meaning old.debug_info.0).is_plain t (meaning old.debug_abbrev.0).size us err ⊎ ReferencesFail meaning can.before us vs t can.units can.kept err → ⊥
+  unfailing err (inl h) = units_unfailing (meaning old.debug_info.0).is_plain t (meaning old.debug_abbrev.0).size us can.writable err h
   unfailing err (inr h) =
-      let all = can.units ++ to_write us in
+      let all = can.units ++ to_write t us in
       let plain = (meaning can.before.debug_info.0).is_plain in
       let own = can.references in
       let info = info_kept vs all (can.kept ++ h.kept) (h.keeps can.keeps) in
@@ -40,10 +41,10 @@ module _ {W : Type 0} (meaning : W → Meaning) (old new : Sections W) (us vs : 
       not_both (holes_fail (info_of all (can.kept ++ h.kept)) plain (units_draft all (can.kept ++ h.kept)).holes err) there
       (subst (λ (ks : List Kept). IsFalse (holes_fail (info_of all ks) plain (units_draft all ks).holes err)) same (own.lead err))
 
-  pub units_complete : (SomeHasRisen meaning old new → ⊥) → (err : Error) → RefusesAny meaning old new us vs err → err ≡ errors.NoMemory
+  pub units_complete : (SomeHasRisen meaning old new → ⊥) → (err : Error) → RefusesAny meaning old new us vs t err → err ≡ errors.NoMemory
   units_complete calm err any = by_error err (any can.before can.units can.kept can.none_open can.pending)
     where
-      by_error : (e : Error) → UnitsRefused meaning can.before old new us vs can.units can.kept e → e ≡ errors.NoMemory
+      by_error : (e : Error) → UnitsRefused meaning can.before old new us vs t can.units can.kept e → e ≡ errors.NoMemory
       by_error errors.NoMemory r = refl
       by_error errors.WriteFault r = absurd (calm r)
       by_error e r = absurd (unfailing e r)

@@ -23,13 +23,13 @@ use Rattle.dw_writer.proofs.DraftLaws.{draft_is}
 use Rattle.dw_writer.proofs.Plain.{Adds-number, num-byte}
 use Rattle.dw_writer.proofs.Steps.{Adds-appends}
 use Rattle.dw_writer.proofs.WriteLaws.{Drafts-is, Drafts-whole}
-use Rattle.dw_entries.specs.Content.{Content, Nothing, Plain, Wide, Leb, SignedLeb, Block, Closed, Target, Offset, EntryPlace, number_in, has_zero, natural, content_operand, content_kind, content_size, content_holes, InfoPlace}
+use Rattle.dw_entries.specs.Content.{Content, Nothing, Plain, Wide, Leb, SignedLeb, Block, Closed, Target, Offset, InTable, EntryPlace, number_in, has_zero, natural, content_operand, content_kind, content_size, content_holes, InfoPlace}
 use Rattle.dw_entries.specs.Targets.{UnitTargets, targets_in}
 use Rattle.dw_entries.specs.Values.{content_of, operand_size, operand_holes, value_text, value_draft}
 use Rattle.dw_entries.specs.declared.value.AttributeValue.{AttributeValue}
 use Rattle.dw_entries.proofs.ContentLaws.{kind_of-form}
 use Rattle.dw_entries.proofs.ValueTexts.{info_width}
-use Rattle.dw_unit.specs.UnitText.{fitting_text, info_draft}
+use Rattle.dw_unit.specs.UnitText.{fitting_text, info_draft, table_text}
 
 pub width-word : (format : Format) → IsTrue (is_width (word_of format))
 width-word Dwarf32 = refl
@@ -155,6 +155,16 @@ module _ (e : Encoding) (u : UnitTargets) (v : AttributeValue) where
   unfolding offset_text
   offset_is section n is =
       value_is (Offset section n) (word_of e.format) _ is refl refl (λ info big l. fixed_value big (word_of e.format) (Some (n + start_of l section)) (width-word e.format))
+
+  table_value : (big : Bool) (w start : ℕ) (o : Option ℕ) → IsTrue (is_width w) →
+      ◌≡◌ {A = texts.Text} (o >>= λ n. num_text big w (n + start)) ((o >>= λ n. number_in w (n + start)) >>= λ x. Some (kind_bytes big (Fixed w) x))
+  table_value big w start None h = refl
+  table_value big w start (Some n) h = fixed_value big w (Some (n + start)) h
+
+  pub in_table_is : (section : SectionId) (i : ℕ) → content_of e v ≡ InTable section i → whole (word_of e.format) (table_text (word_of e.format) section (u.tables section i)) ≡ value_draft e u v
+  unfolding offset_text
+  in_table_is section i is =
+      value_is (InTable section i) (word_of e.format) _ is refl refl (λ info big l. table_value big (word_of e.format) (start_of l section) (u.tables section i) (width-word e.format))
 
   pub entry_place_is : (i n : ℕ) → content_of e v ≡ EntryPlace i → u.place i ≡ Some n → IsTrue (fits (word_of e.format) n) → whole (word_of e.format) (number_text (word_of e.format) n) ≡ value_draft e u v
   unfolding number_text

@@ -14,7 +14,7 @@ use Rattle.dw_writer.specs.Drafts.{Info, then_draft, started, filled_text}
 use Rattle.dw_writer.proofs.Laws.{followed-somes}
 use Rattle.dw_writer.proofs.Steps.{followed_texts-wide}
 use Rattle.dw_unit.specs.Built.{Numbered, File, Starts, AreBuilt, AreFilesBuilt, Built, past_units, at_begin, at_end, at_zero}
-use Rattle.dw_unit.specs.Pending.{Kept, draft_of, units_draft, tables_of, past_kept, info_of, AreInRow, AddsUnits}
+use Rattle.dw_unit.specs.Pending.{Kept, draft_at, units_draft, tables_of, past_kept, info_of, AreInRow, AddsUnits}
 use Rattle.dw_unit.proofs.ReadUnits.{parted, AreReadAs, units-again}
 use Rattle.dw_unit.proofs.UnitsBuilt.{past_is, units_built}
 
@@ -87,7 +87,7 @@ unfolding then_draft
 units_long at [] [] h = omega arith
 units_long at [] (k ∷ ks) h = absurd h
 units_long at (u ∷ us) [] h = absurd h
-units_long at (u ∷ us) (k ∷ ks) h = omega (arith, units_long (past_kept at u.unit k) us ks h.1, header_size_pos u.unit.encoding)
+units_long at (u ∷ us) (k ∷ ks) h = omega (arith, units_long (past_kept at u k) us ks h.1, header_size_pos u.unit.encoding)
 
 -- the text of units has as many bytes as their drafts say
 units_wide : (big : Bool) (l : Layout) (info : Info) (at : Starts) (us : List Numbered) (ks : List Kept) (xs : List ℕ) → AreInRow at us ks → (units_draft us ks).text info big l ≡ Some xs → length xs ≡ (units_draft us ks).size
@@ -96,9 +96,9 @@ units_wide big l info at [] [] xs h e = sym (ap length (same_Some [] xs e))
 units_wide big l info at [] (k ∷ ks) xs h e = absurd h
 units_wide big l info at (u ∷ us) [] xs h e = absurd h
 units_wide big l info at (u ∷ us) (k ∷ ks) xs h e =
-    let d = draft_of u.unit.encoding u.unit.entries k in
+    let d = draft_at u k in
     let ds = units_draft us ks in
-    followed_texts-wide d.size ds.size (d.text info big l) (ds.text info big l) (h.0.draft.wide info big l) (λ ys. units_wide big l info (past_kept at u.unit k) us ks ys h.1) xs e
+    followed_texts-wide d.size ds.size (d.text info big l) (ds.text info big l) (h.0.draft.wide info big l) (λ ys. units_wide big l info (past_kept at u k) us ks ys h.1) xs e
 
 count_long : (big : Bool) (at : Starts) (fs : List WrittenFile) (xss : List (List ℕ)) → AreWritten big at fs xss → count fs ≤ length (joined xss)
 count_long big at [] [] h = omega arith

@@ -12,9 +12,10 @@ use Rattle.dw_writer.proofs.Laws.{resolved-wide}
 use Rattle.dw_writer.proofs.Parts.{Adds-none}
 use Rattle.dw_writer.proofs.Steps.{IsSameWriter-trans, Adds-then}
 use Rattle.dw_writer.proofs.WriteLaws.{Drafts-nothing, Drafts-then, Drafts-is, between-place}
+use Rattle.dw_entries.specs.Targets.{Tables}
 use Rattle.dw_unit.specs.Built.{Numbered, Starts, at_zero}
 use Rattle.dw_unit.specs.Filled.{Fills}
-use Rattle.dw_unit.specs.Pending.{Kept, draft_of, past_kept, units_draft, tables_of, kept_offsets, kept_at, AreInRow, starts_of, IsThereFilled, PendsTree, PendsUnit, Pending, ExtendsPending, AddsUnits}
+use Rattle.dw_unit.specs.Pending.{Kept, draft_of, draft_at, past_kept, units_draft, tables_of, kept_offsets, kept_at, AreInRow, starts_of, IsThereFilled, PendsTree, PendsUnit, Pending, ExtendsPending, AddsUnits}
 use Rattle.dw_unit.specs.Places.{Offsets, OffsetsValue}
 use Rattle.dw_unit.specs.UnitFaults.{holes_fail}
 use Rattle.dw_unit.specs.UnitValue.{UnitValue}
@@ -33,7 +34,7 @@ pub row_length : (at : Starts) (us : List Numbered) (ks : List Kept) → AreInRo
 row_length at [] [] h = refl
 row_length at [] (k ∷ ks) h = absurd h
 row_length at (u ∷ us) [] h = absurd h
-row_length at (u ∷ us) (k ∷ ks) h = ap suc (row_length (past_kept at u.unit k) us ks h.1)
+row_length at (u ∷ us) (k ∷ ks) h = ap suc (row_length (past_kept at u k) us ks h.1)
 
 module _ (vs : List Numbered) (js : List Kept) where
   drafts_append : (at : Starts) (us : List Numbered) (ks : List Kept) → AreInRow at us ks → units_draft (us ++ vs) (ks ++ js) ≡ then_draft (units_draft us ks) (units_draft vs js)
@@ -41,8 +42,8 @@ module _ (vs : List Numbered) (js : List Kept) where
   drafts_append at [] (k ∷ ks) h = absurd h
   drafts_append at (u ∷ us) [] h = absurd h
   drafts_append at (u ∷ us) (k ∷ ks) h =
-      let d = draft_of u.unit.encoding u.unit.entries k in
-      ap (then_draft d) (drafts_append (past_kept at u.unit k) us ks h.1) ∙ sym (then-assoc d (units_draft us ks) (units_draft vs js))
+      let d = draft_at u k in
+      ap (then_draft d) (drafts_append (past_kept at u k) us ks h.1) ∙ sym (then-assoc d (units_draft us ks) (units_draft vs js))
 
   row_append : (at next : Starts) (us : List Numbered) (ks : List Kept) → AreInRow at us ks → AreInRow next vs js →
       next.info ≡ at.info + (units_draft us ks).size → next.abbrevs ≡ at.abbrevs + length (tables_of us) → AreInRow at (us ++ vs) (ks ++ js)
@@ -52,7 +53,7 @@ module _ (vs : List Numbered) (js : List Kept) where
   row_append at next (u ∷ us) [] h k info tables = absurd h
   row_append at next (u ∷ us) (j ∷ ks) h k info tables =
       let table = tree_table u.unit.encoding u.unit.entries in
-      (h.0, row_append (past_kept at u.unit j) next us ks h.1 k (omega (arith, info)) (omega (arith, tables, length-append table (tables_of us))))
+      (h.0, row_append (past_kept at u j) next us ks h.1 k (omega (arith, info)) (omega (arith, tables, length-append table (tables_of us))))
 
 tables_append : (us vs : List Numbered) → tables_of (us ++ vs) ≡ tables_of us ++ tables_of vs
 tables_append [] vs = refl
@@ -73,12 +74,12 @@ module _ {W : Type 0} (meaning : W → Meaning) where
   }
 
   -- one unit
-  pub pending_one : (id : ℕ) (u : UnitValue) (old new : Sections W) (k : Kept) → PendsTree meaning old new u.encoding u.entries k → Pending meaning old new (record { id = id; unit = u } ∷ []) (k ∷ [])
-  pending_one id u old new k p = record {
+  pub pending_one : (id : ℕ) (u : UnitValue) (t : Tables) (old new : Sections W) (k : Kept) → PendsTree meaning old new u.encoding u.entries t k → Pending meaning old new (record { id = id; unit = u; tables = t } ∷ []) (k ∷ [])
+  pending_one id u t old new k p = record {
     in_row = (p.stands, tt);
-    units = Drafts-is p.unit (sym (then-nothing (draft_of u.encoding u.entries k)));
+    units = Drafts-is p.unit (sym (then-nothing (draft_of u.encoding u.entries t k)));
     tables = subst (Adds (meaning old.debug_abbrev.0) (meaning new.debug_abbrev.0)) (sym (append-nil (tree_table u.encoding u.entries))) p.table;
-    there = λ plain. subst IsThereFilled (sym (then-nothing (draft_of u.encoding u.entries k))) (p.there plain);
+    there = λ plain. subst IsThereFilled (sym (then-nothing (draft_of u.encoding u.entries t k))) (p.there plain);
   }
 
   -- units behind units
@@ -93,9 +94,9 @@ module _ {W : Type 0} (meaning : W → Meaning) where
       }
 
   -- one unit more, whatever is pending
-  pub pending_more : (u : UnitValue) (old new : Sections W) (offsets : Option OffsetsValue) → PendsUnit meaning old new u offsets → ExtendsPending meaning old new u offsets
-  pending_more u old new offsets p before us ks id pending =
-      (p.kept, p.offsets_are, pending_then before old new us (record { id = id; unit = u } ∷ []) ks (p.kept ∷ []) pending (pending_one id u old new p.kept p.tree))
+  pub pending_more : (u : UnitValue) (t : Tables) (old new : Sections W) (offsets : Option OffsetsValue) → PendsUnit meaning old new u t offsets → ExtendsPending meaning old new u t offsets
+  pending_more u t old new offsets p before us ks id pending =
+      (p.kept, p.offsets_are, pending_then before old new us (record { id = id; unit = u; tables = t } ∷ []) ks (p.kept ∷ []) pending (pending_one id u t old new p.kept p.tree))
 
   -- the same where only lists of fixups that aren't of .debug_info are other ones
   -- The references of what is pending lie in the section, one behind another, and no record meets them.

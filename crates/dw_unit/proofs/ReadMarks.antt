@@ -24,6 +24,7 @@ use Rattle.dw_entries.specs.Content.{number_in}
 use Rattle.dw_entries.specs.Values.{form_of, constant_of, operand_of, operand_size, reference_form, IsRanged}
 use Rattle.dw_entries.proofs.ContentLaws.{number_in-fits, number_in-long}
 use Rattle.dw_entries.proofs.ValueTexts.{operand_fits, operand_long, reference-fits, reference-long}
+use Rattle.dw_entries.specs.Targets.{Tables}
 use Rattle.dw_unit.specs.Coded.{code_at, code_of_entry, shapes_of}
 use Rattle.dw_unit.specs.Laid.{sibling_size, values_size, entry_size, size_of, sizes_of}
 use Rattle.dw_unit.specs.Pending.{AreRanged, IsMarkRanged, AreMarksRanged}
@@ -248,5 +249,5 @@ module _ (e : Encoding) (u : UnitTargets) where
         ap (λ n. n + (marks_draft e es u shapes ms).size) (mark_draft-size m) ∙ ap (λ n. size_of size es m + n) (marks_draft-size ms)
 
 -- the draft of a tree has the size of the tree
-pub tree_draft-size : (e : Encoding) (es : List EntryValue) (p : Placement) → (tree_draft e es (targets_of p)).size ≡ tree_size e es p.place
-tree_draft-size e es p = marks_draft-size e (targets_of p) es (tree_shapes e es) (preorder es)
+pub tree_draft-size : (e : Encoding) (es : List EntryValue) (t : Tables) (p : Placement) → (tree_draft e es (targets_of t p)).size ≡ tree_size e es p.place
+tree_draft-size e es t p = marks_draft-size e (targets_of t p) es (tree_shapes e es) (preorder es)

@@ -14,6 +14,7 @@ use Rattle.dw_writer.specs.Layout.{Layout}
 use Rattle.dw_entries.specs.Entries.{EntryValue, is_parent, entry_at}
 use Rattle.dw_entries.specs.Targets.{Targets, targets_in}
 use Rattle.dw_entries.specs.Tree.{preorder, children_in}
+use Rattle.dw_entries.specs.Targets.{Tables}
 use Rattle.dw_unit.specs.Built.{place_read, past_read, placement_read}
 use Rattle.dw_unit.specs.Coded.{code_of_entry}
 use Rattle.dw_unit.specs.Laid.{entry_size, size_of, place_from, behind_from, past_from}
@@ -137,20 +138,20 @@ module _ (big : Bool) (e : Encoding) (t : Targets) (es : List EntryValue) (shape
       let own = read_mark_is m first.0 (mark_children big e t es shapes m first.0 first.1) (mark_size big e t es shapes m first.0 first.1) in
       subst (AreReadMarks big e entry_sizes es (m ∷ ms)) (same_Some (first.0 ∷ rest.0) rs rest.2) (own, read_marks-are ms rest.0 rest.1)
 
-module _ (big : Bool) (e : Encoding) (es : List EntryValue) (p : Placement) (l : Layout) (info : Info) (ms : List (Mark ReadEntry)) where
+module _ (big : Bool) (e : Encoding) (es : List EntryValue) (t : Tables) (p : Placement) (l : Layout) (info : Info) (ms : List (Mark ReadEntry)) where
   -- Where the operands of a tree lead to the places of its entries, the rows of what is read of it tell these places.
-  pub placement_read-rows_of : IsTreePlacement e es p → read_tree big e (targets_in (targets_of p) l info) es ≡ Some ms →
+  pub placement_read-rows_of : IsTreePlacement e es p → read_tree big e (targets_in (targets_of t p) l info) es ≡ Some ms →
       IsSamePlacement p (placement_read (preorder es) (rows_of big e (header_size e) 0 ms))
   placement_read-rows_of placed read =
-      let t = targets_in (targets_of p) l info in
+      let to = targets_in (targets_of t p) l info in
       let shapes = tree_shapes e es in
-      let are = read_marks-are big e t es shapes (preorder es) ms read in
+      let are = read_marks-are big e to es shapes (preorder es) ms read in
       record {
-        place = λ i. placed.place i ∙ sym (place_read-rows_of big e (entry_sizes big e t es shapes) es (preorder es) ms (header_size e) 0 i are);
-        past = λ i. placed.past i ∙ sym (past_read-rows_of big e (entry_sizes big e t es shapes) es (preorder es) ms (header_size e) 0 i are);
+        place = λ i. placed.place i ∙ sym (place_read-rows_of big e (entry_sizes big e to es shapes) es (preorder es) ms (header_size e) 0 i are);
+        past = λ i. placed.past i ∙ sym (past_read-rows_of big e (entry_sizes big e to es shapes) es (preorder es) ms (header_size e) 0 i are);
       }
 
-  pub placement-read : IsTreePlacement e es p → read_tree big e (targets_in (targets_of p) l info) es ≡ Some ms → p ≡ placement_read (preorder es) (rows_of big e (header_size e) 0 ms)
+  pub placement-read : IsTreePlacement e es p → read_tree big e (targets_in (targets_of t p) l info) es ≡ Some ms → p ≡ placement_read (preorder es) (rows_of big e (header_size e) 0 ms)
   placement-read placed read = placement-same p _ (placement_read-rows_of placed read)
 
   -- the marks of these rows are what is read of the tree
@@ -158,7 +159,7 @@ module _ (big : Bool) (e : Encoding) (es : List EntryValue) (p : Placement) (l :
   tree_marks = marks-rows_of big e (header_size e) 0 ms
 
   -- so the rows are read as a tree whose operands lead to the places that they tell themselves
-  pub read_tree-rows_of : IsTreePlacement e es p → read_tree big e (targets_in (targets_of p) l info) es ≡ Some ms →
-      let rows = rows_of big e (header_size e) 0 ms in read_tree big e (targets_in (targets_of (placement_read (preorder es) rows)) l info) es ≡ Some (map (λ row. row.mark) rows)
+  pub read_tree-rows_of : IsTreePlacement e es p → read_tree big e (targets_in (targets_of t p) l info) es ≡ Some ms →
+      let rows = rows_of big e (header_size e) 0 ms in read_tree big e (targets_in (targets_of t (placement_read (preorder es) rows)) l info) es ≡ Some (map (λ row. row.mark) rows)
   read_tree-rows_of placed read =
-      ap (λ (q : Placement). read_tree big e (targets_in (targets_of q) l info) es) (sym (placement-read placed read)) ∙ read ∙ ap Some (sym tree_marks)
+      ap (λ (q : Placement). read_tree big e (targets_in (targets_of t q) l info) es) (sym (placement-read placed read)) ∙ read ∙ ap Some (sym tree_marks)

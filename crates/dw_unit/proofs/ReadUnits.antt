@@ -22,8 +22,9 @@ use Rattle.dw_writer.proofs.Laws.{length-num}
 use Rattle.dw_writer.proofs.Plain.{num-byte}
 use Rattle.dw_entries.specs.Entries.{EntryValue}
 use Rattle.dw_entries.specs.Targets.{targets_in}
+use Rattle.dw_entries.specs.Targets.{Tables}
 use Rattle.dw_unit.specs.Built.{Numbered, Starts}
-use Rattle.dw_unit.specs.Pending.{Kept, draft_of, units_draft, tables_of, past_kept, Stands, AreInRow}
+use Rattle.dw_unit.specs.Pending.{Kept, draft_of, draft_at, units_draft, tables_of, past_kept, Stands, AreInRow}
 use Rattle.dw_unit.specs.Places.{targets_of}
 use Rattle.dw_unit.specs.Read.{read_tree}
 use Rattle.dw_unit.specs.UnitFaults.{is_version, is_encodable}
@@ -137,22 +138,23 @@ encodable e h =
     (leb-true 2 e.version versions.0, leb-true e.version 5 versions.1, parts.1)
 
 -- A unit of these entries is there, with its table where the section of tables starts and what is read of it.
-pub record IsThere (big : Bool) (l : Layout) (info : Info) (e : Encoding) (es : List EntryValue) (k : Kept) (xs : List ℕ) : Type 0 where
+pub record IsThere (big : Bool) (l : Layout) (info : Info) (e : Encoding) (es : List EntryValue) (t : Tables) (k : Kept) (xs : List ℕ) : Type 0 where
   pub marks : List (Mark ReadEntry)
-  pub read : read_tree big e (targets_in (targets_of k.places) l info) es ≡ Some marks
+  pub read : read_tree big e (targets_in (targets_of t k.places) l info) es ≡ Some marks
   pub bytes : unit_bytes big e (k.starts.abbrevs + start_of l DebugAbbrev) (body_bytes big e marks) ≡ xs
-  pub size : length xs ≡ (draft_of e es k).size
+  pub size : length xs ≡ (draft_of e es t k).size
   pub is_unit : IsUnit big e (k.starts.abbrevs + start_of l DebugAbbrev) (tree_declared e es) marks
 
 regrouped : (a b c d : List ℕ) → a ++ (b ++ (c ++ d)) ≡ (a ++ (b ++ c)) ++ d
 regrouped a b c d = simp append_assoc
 
 -- A unit that stands, and whose text is there, is read.
-pub there : (big : Bool) (l : Layout) (info : Info) (at : Starts) (e : Encoding) (es : List EntryValue) (k : Kept) (xs : List ℕ) → Stands at e es k → (draft_of e es k).text info big l ≡ Some xs → IsThere big l info e es k xs
+pub there : (big : Bool) (l : Layout) (info : Info) (at : Starts) (e : Encoding) (es : List EntryValue) (tables : Tables) (k : Kept) (xs : List ℕ) → Stands at e es tables k → (draft_of e es tables k).text info big l ≡ Some xs →
+    IsThere big l info e es tables k xs
 unfolding then_draft unit_bytes
-there big l info at e es k xs s h =
+there big l info at e es tables k xs s h =
     let w = word_of e.format in
-    let u = targets_of k.places in
+    let u = targets_of tables k.places in
     let t = targets_in u l info in
     let body = tree_draft e es u in
     let table = k.starts.abbrevs in
@@ -189,14 +191,14 @@ there big l info at e es k xs s h =
     }
 
 -- A unit is read where its sections start, with the places that were kept.
-pub record IsReadAs (big : Bool) (l : Layout) (info : Info) (u : UnitValue) (k : Kept) (r : ReadUnit) : Type 0 where
+pub record IsReadAs (big : Bool) (l : Layout) (info : Info) (u : Numbered) (k : Kept) (r : ReadUnit) : Type 0 where
   pub marks : List (Mark ReadEntry)
-  pub read : read_tree big u.encoding (targets_in (targets_of k.places) l info) u.entries ≡ Some marks
-  pub is : r ≡ read_unit big u.encoding (k.starts.info + start_of l DebugInfo) (k.starts.abbrevs + start_of l DebugAbbrev) (tree_declared u.encoding u.entries) marks
+  pub read : read_tree big u.unit.encoding (targets_in (targets_of u.tables k.places) l info) u.unit.entries ≡ Some marks
+  pub is : r ≡ read_unit big u.unit.encoding (k.starts.info + start_of l DebugInfo) (k.starts.abbrevs + start_of l DebugAbbrev) (tree_declared u.unit.encoding u.unit.entries) marks
 
 abbrev pub AreReadAs : Bool → Layout → Info → List Numbered → List Kept → List ReadUnit → Type 0
 AreReadAs big l info [] [] [] = Unit {0}
-AreReadAs big l info (u ∷ us) (k ∷ ks) (r ∷ rs) = IsReadAs big l info u.unit k r × AreReadAs big l info us ks rs
+AreReadAs big l info (u ∷ us) (k ∷ ks) (r ∷ rs) = IsReadAs big l info u k r × AreReadAs big l info us ks rs
 AreReadAs big l info us ks rs = ⊥
 
 -- Units in a row are read from the bytes of their text and of their tables, and then what stands behind these.
@@ -256,17 +258,17 @@ module _ (big : Bool) (l : Layout) (info : Info) where
   units-again (u ∷ us) (k ∷ ks) at (suc n) fuel from table_from xs rest others row count here tables_here h =
       let e = u.unit.encoding in
       let s = row.0 in
-      let a = parted ((draft_of e u.unit.entries k).text info big l) ((units_draft us ks).text info big l) xs h in
-      let t = there big l info at e u.unit.entries k a.first s a.first_is in
+      let a = parted ((draft_at u k).text info big l) ((units_draft us ks).text info big l) xs h in
+      let t = there big l info at e u.unit.entries u.tables k a.first s a.first_is in
       let place = k.starts.abbrevs + start_of l DebugAbbrev in
       let table = tree_table e u.unit.entries in
       let tables = tables_of us in
       let tabled_at : table_from ≡ place = omega (arith, tables_here, ap (λ p. p.abbrevs) s.starts) in
-      let size : length a.first ≡ (draft_of e u.unit.entries k).size = t.size in
+      let size : length a.first ≡ (draft_at u k).size = t.size in
       let from_is : from ≡ k.starts.info + start_of l DebugInfo = omega (arith, here, ap (λ p. p.info) s.starts) in
-      let next_from : from + length a.first ≡ (past_kept at u.unit k).info + start_of l DebugInfo = omega (arith, here, size) in
-      let next_table : table_from + length table ≡ (past_kept at u.unit k).abbrevs + start_of l DebugAbbrev = omega (arith, tables_here) in
-      let more = units-again us ks (past_kept at u.unit k) n fuel (from + length a.first) (table_from + length table) a.rest rest others row.1 (omega arith) next_from next_table a.rest_is in
+      let next_from : from + length a.first ≡ (past_kept at u k).info + start_of l DebugInfo = omega (arith, here, size) in
+      let next_table : table_from + length table ≡ (past_kept at u k).abbrevs + start_of l DebugAbbrev = omega (arith, tables_here) in
+      let more = units-again us ks (past_kept at u k) n fuel (from + length a.first) (table_from + length table) a.rest rest others row.1 (omega arith) next_from next_table a.rest_is in
       let declared = tree_declared e u.unit.entries in
       let own : ReadUnit = read_unit big e from place declared t.marks in
       let step = unit-again n big e from place declared t.marks (a.rest ++ rest) (tables ++ others) t.is_unit in

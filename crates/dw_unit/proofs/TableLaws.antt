@@ -5,9 +5,10 @@ use Rattle.std.proofs.Math.Path.{fun_ext}
 use Rattle.std.proofs.lemmas.List.Elements.{All-head, All-tail}
 use Rattle.std.specs.Option.{option_map}
 use Rattle.dw_base.specs.declared.error.Error.{Error}
+use Rattle.dw_entries.specs.Targets.{Tables}
 use Rattle.dw_unit.specs.Built.{Numbered, Starts, numbered_from}
 use Rattle.dw_unit.specs.Causes.{UnitsFail}
-use Rattle.dw_unit.specs.Pending.{Kept, past_kept, info_at, info_of, KeepPlaces, Stands, AreInRow}
+use Rattle.dw_unit.specs.Pending.{Kept, past_kept, info_at, info_of, KeepPlaces, StandsAt, AreInRow}
 use Rattle.dw_unit.specs.Places.{Placement, info_from, offsets_in}
 use Rattle.dw_unit.specs.UnitValue.{UnitValue}
 use Rattle.dw_unit.specs.Valid.{IsWritableAt, AreWritable}
@@ -27,21 +28,21 @@ unwritten_keeps (u ∷ us) all zero = ap (λ (b : Bool). if b then option_map of
 unwritten_keeps (u ∷ us) all (suc n) = unwritten_keeps us (All-tail (λ v. v.is_written ≡ false) u us all) n
 
 -- and is written whole
-pub to_write-unwritten : (n : ℕ) (us : List UnitValue) → All (λ u. u.is_written ≡ false) us → to_write_from n us ≡ numbered_from n (map settled us)
-to_write-unwritten n [] all = refl
-to_write-unwritten n (u ∷ us) all =
-    ap (λ (b : Bool). if b then to_write_from (suc n) us else record { id = n; unit = settled u } ∷ to_write_from (suc n) us) (All-head (λ v. v.is_written ≡ false) u us all)
-    ∙ ap (λ xs. let x : Numbered = record { id = n; unit = settled u } in x ∷ xs) (to_write-unwritten (suc n) us (All-tail (λ v. v.is_written ≡ false) u us all))
+pub to_write-unwritten : (n : ℕ) (t : Tables) (us : List UnitValue) → All (λ u. u.is_written ≡ false) us → to_write_from n t us ≡ numbered_from n t (map settled us)
+to_write-unwritten n t [] all = refl
+to_write-unwritten n t (u ∷ us) all =
+    ap (λ (b : Bool). if b then to_write_from (suc n) t us else record { id = n; unit = settled u; tables = t } ∷ to_write_from (suc n) t us) (All-head (λ v. v.is_written ≡ false) u us all)
+    ∙ ap (λ xs. let x : Numbered = record { id = n; unit = settled u; tables = t } in x ∷ xs) (to_write-unwritten (suc n) t us (All-tail (λ v. v.is_written ≡ false) u us all))
 
 -- Units that can be written have no cause to be refused.
-pub units_unfailing : (plain : Bool) (at : ℕ) (us : List UnitValue) → AreWritable plain at us → (err : Error) → UnitsFail plain at us err → ⊥
-units_unfailing plain at [] h err fails = fails
-units_unfailing plain at (u ∷ us) h err (inr fails) = units_unfailing plain (past_table at u) us h.1 err fails
-units_unfailing plain at (u ∷ us) h err (inl fails) = by_mark h.0
+pub units_unfailing : (plain : Bool) (t : Tables) (at : ℕ) (us : List UnitValue) → AreWritable plain t at us → (err : Error) → UnitsFail plain t at us err → ⊥
+units_unfailing plain t at [] h err fails = fails
+units_unfailing plain t at (u ∷ us) h err (inr fails) = units_unfailing plain t (past_table at u) us h.1 err fails
+units_unfailing plain t at (u ∷ us) h err (inl fails) = by_mark h.0
   where
-    by_mark : (u.is_written ≡ true) ⊎ IsWritableAt plain at u → ⊥
+    by_mark : (u.is_written ≡ true) ⊎ IsWritableAt plain t at u → ⊥
     by_mark (inl old) = let x : true ≡ false = sym old ∙ fails.0 in absurd cc
-    by_mark (inr can) = unit_unfailing plain u at can.1 can.0 err fails.1
+    by_mark (inr can) = unit_unfailing plain t u at can.1 can.0 err fails.1
 
 -- Units in a row have one place each.
 
@@ -49,9 +50,9 @@ kept_is : (k j : Kept) → k.starts ≡ j.starts → k.places ≡ j.places → k
 kept_is k j p q =
     ap (λ (s : Starts). let x : Kept = record { starts = s; places = k.places } in x) p ∙ ap (λ (s : Placement). let x : Kept = record { starts = j.starts; places = s } in x) q
 
-one_kept : (at : Starts) (u : UnitValue) (k j : Kept) → Stands at u.encoding u.entries k → Stands at u.encoding u.entries j → k ≡ j
+one_kept : (at : Starts) (u : Numbered) (k j : Kept) → StandsAt at u k → StandsAt at u j → k ≡ j
 one_kept at u k j a b =
-    kept_is k j (a.starts ∙ sym b.starts) (placement-same k.places j.places (one_placement u.encoding u.entries k.places j.places a.placed b.placed))
+    kept_is k j (a.starts ∙ sym b.starts) (placement-same k.places j.places (one_placement u.unit.encoding u.unit.entries k.places j.places a.placed b.placed))
 
 pub one_row : (at : Starts) (us : List Numbered) (ks js : List Kept) → AreInRow at us ks → AreInRow at us js → ks ≡ js
 one_row at [] [] [] a b = refl
@@ -60,6 +61,6 @@ one_row at [] (k ∷ ks) js a b = absurd a
 one_row at (u ∷ us) [] js a b = absurd a
 one_row at (u ∷ us) (k ∷ ks) [] a b = absurd b
 one_row at (u ∷ us) (k ∷ ks) (j ∷ js) a b =
-    let same = one_kept at u.unit k j a.0 b.0 in
-    let rest = subst (λ x. AreInRow (past_kept at u.unit x) us js) (sym same) b.1 in
-    ap (λ x. x ∷ ks) same ∙ ap (λ xs. j ∷ xs) (one_row (past_kept at u.unit k) us ks js a.1 rest)
+    let same = one_kept at u k j a.0 b.0 in
+    let rest = subst (λ x. AreInRow (past_kept at u x) us js) (sym same) b.1 in
+    ap (λ x. x ∷ ks) same ∙ ap (λ xs. j ∷ xs) (one_row (past_kept at u k) us ks js a.1 rest)

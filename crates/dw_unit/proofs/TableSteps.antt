@@ -5,15 +5,16 @@ use Rattle.std.proofs.lemmas.Bool.{cases_eq, eq-eqb, ne_eqb}
 use Rattle.std.proofs.lemmas.List.Elements.{All-head, All-tail}
 use Rattle.dw_base.specs.Numbers.{◌>>=◌}
 use Rattle.dw_base.specs.declared.error.Error.{Error}
+use Rattle.dw_entries.specs.Targets.{Tables}
 use Rattle.dw_unit.specs.Built.{Numbered, Starts, table_size}
 use Rattle.dw_unit.specs.Causes.{UnitFails, UnitsFail}
-use Rattle.dw_unit.specs.Pending.{Kept, past_kept, kept_offsets, kept_at, offsets_at, KeepPlaces}
+use Rattle.dw_unit.specs.Pending.{Kept, kept_offsets, kept_at, offsets_at, KeepPlaces}
 use Rattle.std.specs.Option.{option_map}
 use Rattle.dw_unit.specs.Places.{Offsets, offsets_in}
 use Rattle.dw_unit.specs.UnitValue.{UnitValue, offsets_of}
 use Rattle.dw_unit.specs.Valid.{IsWritableAt, AreWritable}
 use Rattle.dw_unit.specs.Whole.{settled, marked_written, IsRefused}
-use Rattle.dw_unit.specs.Written.{to_write_from, past_table, IsPassedOver, IsWrittenAt, AreWritten, AreStopped}
+use Rattle.dw_unit.specs.Written.{to_write_from, past_table, IsPassedOver, IsWrittenAt, past_written, AreWritten, AreStopped}
 use Rattle.dw_unit.proofs.PendingSteps.{kept_other, kept_last}
 
 -- A table of which some units were gone through: what they were, what they are, and the others.
@@ -68,34 +69,34 @@ all_gone us vs i before after rest h le =
 
 -- What they are
 
-pub passed_more : (at end : Starts) (xs ys : List UnitValue) (u v : UnitValue) → AreWritten at end xs ys → IsPassedOver u v → AreWritten at end (xs ++ u ∷ []) (ys ++ v ∷ [])
-passed_more at end [] [] u v h k = inl (k, h)
-passed_more at end [] (y ∷ ys) u v h k = absurd h
-passed_more at end (x ∷ xs) [] u v h k = absurd h
-passed_more at end (x ∷ xs) (y ∷ ys) u v (inl h) k = inl (h.0, passed_more at end xs ys u v h.1 k)
-passed_more at end (x ∷ xs) (y ∷ ys) u v (inr h) k = inr (h.0, passed_more (past_kept at (settled x) h.0.kept) end xs ys u v h.1 k)
+pub passed_more : (at end : Starts) (t : Tables) (xs ys : List UnitValue) (u v : UnitValue) → AreWritten at end t xs ys → IsPassedOver u v → AreWritten at end t (xs ++ u ∷ []) (ys ++ v ∷ [])
+passed_more at end t [] [] u v h k = inl (k, h)
+passed_more at end t [] (y ∷ ys) u v h k = absurd h
+passed_more at end t (x ∷ xs) [] u v h k = absurd h
+passed_more at end t (x ∷ xs) (y ∷ ys) u v (inl h) k = inl (h.0, passed_more at end t xs ys u v h.1 k)
+passed_more at end t (x ∷ xs) (y ∷ ys) u v (inr h) k = inr (h.0, passed_more (past_written at t x y h.0) end t xs ys u v h.1 k)
 
-pub written_more : (at end : Starts) (xs ys : List UnitValue) (u v : UnitValue) → AreWritten at end xs ys → (w : IsWrittenAt end u v) → AreWritten at (past_kept end (settled u) w.kept) (xs ++ u ∷ []) (ys ++ v ∷ [])
-written_more at end [] [] u v h w = subst (λ s. (w : IsWrittenAt s u v) → AreWritten at (past_kept s (settled u) w.kept) (u ∷ []) (v ∷ [])) h (λ w. inr (w, refl)) w
-written_more at end [] (y ∷ ys) u v h w = absurd h
-written_more at end (x ∷ xs) [] u v h w = absurd h
-written_more at end (x ∷ xs) (y ∷ ys) u v (inl h) w = inl (h.0, written_more at end xs ys u v h.1 w)
-written_more at end (x ∷ xs) (y ∷ ys) u v (inr h) w = inr (h.0, written_more (past_kept at (settled x) h.0.kept) end xs ys u v h.1 w)
+pub written_more : (at end : Starts) (t : Tables) (xs ys : List UnitValue) (u v : UnitValue) → AreWritten at end t xs ys → (w : IsWrittenAt end t u v) → AreWritten at (past_written end t u v w) t (xs ++ u ∷ []) (ys ++ v ∷ [])
+written_more at end t [] [] u v h w = subst (λ s. (w : IsWrittenAt s t u v) → AreWritten at (past_written s t u v w) t (u ∷ []) (v ∷ [])) h (λ w. inr (w, refl)) w
+written_more at end t [] (y ∷ ys) u v h w = absurd h
+written_more at end t (x ∷ xs) [] u v h w = absurd h
+written_more at end t (x ∷ xs) (y ∷ ys) u v (inl h) w = inl (h.0, written_more at end t xs ys u v h.1 w)
+written_more at end t (x ∷ xs) (y ∷ ys) u v (inr h) w = inr (h.0, written_more (past_written at t x y h.0) end t xs ys u v h.1 w)
 
-pub stopped_at : (at end : Starts) (xs ys : List UnitValue) (u v : UnitValue) (rest : List UnitValue) → AreWritten at end xs ys → IsRefused u v → AreStopped at (xs ++ u ∷ rest) (ys ++ v ∷ rest)
-stopped_at at end [] [] u v rest h k = inr (inr (k, refl))
-stopped_at at end [] (y ∷ ys) u v rest h k = absurd h
-stopped_at at end (x ∷ xs) [] u v rest h k = absurd h
-stopped_at at end (x ∷ xs) (y ∷ ys) u v rest (inl h) k = inl (h.0, stopped_at at end xs ys u v rest h.1 k)
-stopped_at at end (x ∷ xs) (y ∷ ys) u v rest (inr h) k = inr (inl (h.0, stopped_at (past_kept at (settled x) h.0.kept) end xs ys u v rest h.1 k))
+pub stopped_at : (at end : Starts) (t : Tables) (xs ys : List UnitValue) (u v : UnitValue) (rest : List UnitValue) → AreWritten at end t xs ys → IsRefused u v → AreStopped at t (xs ++ u ∷ rest) (ys ++ v ∷ rest)
+stopped_at at end t [] [] u v rest h k = inr (inr (k, refl))
+stopped_at at end t [] (y ∷ ys) u v rest h k = absurd h
+stopped_at at end t (x ∷ xs) [] u v rest h k = absurd h
+stopped_at at end t (x ∷ xs) (y ∷ ys) u v rest (inl h) k = inl (h.0, stopped_at at end t xs ys u v rest h.1 k)
+stopped_at at end t (x ∷ xs) (y ∷ ys) u v rest (inr h) k = inr (inl (h.0, stopped_at (past_written at t x y h.0) end t xs ys u v rest h.1 k))
 
 -- where none was refused
-pub stopped_after : (at end : Starts) (us vs : List UnitValue) → AreWritten at end us vs → AreStopped at us vs
-stopped_after at end [] [] h = tt
-stopped_after at end [] (v ∷ vs) h = absurd h
-stopped_after at end (u ∷ us) [] h = absurd h
-stopped_after at end (u ∷ us) (v ∷ vs) (inl h) = inl (h.0, stopped_after at end us vs h.1)
-stopped_after at end (u ∷ us) (v ∷ vs) (inr h) = inr (inl (h.0, stopped_after (past_kept at (settled u) h.0.kept) end us vs h.1))
+pub stopped_after : (at end : Starts) (t : Tables) (us vs : List UnitValue) → AreWritten at end t us vs → AreStopped at t us vs
+stopped_after at end t [] [] h = tt
+stopped_after at end t [] (v ∷ vs) h = absurd h
+stopped_after at end t (u ∷ us) [] h = absurd h
+stopped_after at end t (u ∷ us) (v ∷ vs) (inl h) = inl (h.0, stopped_after at end t us vs h.1)
+stopped_after at end t (u ∷ us) (v ∷ vs) (inr h) = inr (inl (h.0, stopped_after (past_written at t u v h.0) end t us vs h.1))
 
 -- Where their tables stand
 
@@ -104,13 +105,13 @@ abbrev pub past_tables : ℕ → List UnitValue → ℕ
 past_tables at [] = at
 past_tables at (u ∷ us) = past_tables (past_table at u) us
 
-pub writable_more : (plain : Bool) (at : ℕ) (xs : List UnitValue) (u : UnitValue) → AreWritable plain at xs → (u.is_written ≡ true) ⊎ IsWritableAt plain (past_tables at xs) u → AreWritable plain at (xs ++ u ∷ [])
-writable_more plain at [] u h k = (k, tt)
-writable_more plain at (x ∷ xs) u h k = (h.0, writable_more plain (past_table at x) xs u h.1 k)
+pub writable_more : (plain : Bool) (t : Tables) (at : ℕ) (xs : List UnitValue) (u : UnitValue) → AreWritable plain t at xs → (u.is_written ≡ true) ⊎ IsWritableAt plain t (past_tables at xs) u → AreWritable plain t at (xs ++ u ∷ [])
+writable_more plain t at [] u h k = (k, tt)
+writable_more plain t at (x ∷ xs) u h k = (h.0, writable_more plain t (past_table at x) xs u h.1 k)
 
-pub fails_at : (plain : Bool) (at : ℕ) (xs : List UnitValue) (u : UnitValue) (rest : List UnitValue) (err : Error) → u.is_written ≡ false → UnitFails u (past_tables at xs) plain err → UnitsFail plain at (xs ++ u ∷ rest) err
-fails_at plain at [] u rest err new h = inl (new, h)
-fails_at plain at (x ∷ xs) u rest err new h = inr (fails_at plain (past_table at x) xs u rest err new h)
+pub fails_at : (plain : Bool) (t : Tables) (at : ℕ) (xs : List UnitValue) (u : UnitValue) (rest : List UnitValue) (err : Error) → u.is_written ≡ false → UnitFails u t (past_tables at xs) plain err → UnitsFail plain t at (xs ++ u ∷ rest) err
+fails_at plain t at [] u rest err new h = inl (new, h)
+fails_at plain t at (x ∷ xs) u rest err new h = inr (fails_at plain t (past_table at x) xs u rest err new h)
 
 pub past_more : (at : ℕ) (xs : List UnitValue) (u : UnitValue) → past_tables at (xs ++ u ∷ []) ≡ past_table (past_tables at xs) u
 past_more at [] u = refl
@@ -124,32 +125,32 @@ past_new at u h = ap (λ (b : Bool). if b then at else at + table_size (settled 
 
 -- What is to be written
 
-by_mark : (n : ℕ) (u : UnitValue) (us : List UnitValue) (b : Bool) → u.is_written ≡ b →
-    to_write_from n (u ∷ us) ≡ (if b then to_write_from (suc n) us else record { id = n; unit = settled u } ∷ to_write_from (suc n) us)
-by_mark n u us b h = ap (λ (t : Bool). if t then to_write_from (suc n) us else record { id = n; unit = settled u } ∷ to_write_from (suc n) us) h
+by_mark : (n : ℕ) (t : Tables) (u : UnitValue) (us : List UnitValue) (b : Bool) → u.is_written ≡ b →
+    to_write_from n t (u ∷ us) ≡ (if b then to_write_from (suc n) t us else record { id = n; unit = settled u; tables = t } ∷ to_write_from (suc n) t us)
+by_mark n t u us b h = ap (λ (b : Bool). if b then to_write_from (suc n) t us else record { id = n; unit = settled u; tables = t } ∷ to_write_from (suc n) t us) h
 
-pub to_write-old : (n : ℕ) (xs : List UnitValue) (u : UnitValue) → u.is_written ≡ true → to_write_from n (xs ++ u ∷ []) ≡ to_write_from n xs
-to_write-old n [] u h = by_mark n u [] true h
-to_write-old n (x ∷ xs) u h = step x.is_written refl (to_write-old (suc n) xs u h)
+pub to_write-old : (n : ℕ) (t : Tables) (xs : List UnitValue) (u : UnitValue) → u.is_written ≡ true → to_write_from n t (xs ++ u ∷ []) ≡ to_write_from n t xs
+to_write-old n t [] u h = by_mark n t u [] true h
+to_write-old n t (x ∷ xs) u h = step x.is_written refl (to_write-old (suc n) t xs u h)
   where
-    step : (b : Bool) → x.is_written ≡ b → to_write_from (suc n) (xs ++ u ∷ []) ≡ to_write_from (suc n) xs →
-        (if b then to_write_from (suc n) (xs ++ u ∷ []) else record { id = n; unit = settled x } ∷ to_write_from (suc n) (xs ++ u ∷ [])) ≡ (if b then to_write_from (suc n) xs else record { id = n; unit = settled x } ∷ to_write_from (suc n) xs)
+    step : (b : Bool) → x.is_written ≡ b → to_write_from (suc n) t (xs ++ u ∷ []) ≡ to_write_from (suc n) t xs →
+        (if b then to_write_from (suc n) t (xs ++ u ∷ []) else record { id = n; unit = settled x; tables = t } ∷ to_write_from (suc n) t (xs ++ u ∷ [])) ≡ (if b then to_write_from (suc n) t xs else record { id = n; unit = settled x; tables = t } ∷ to_write_from (suc n) t xs)
     step true is more = more
-    step false is more = ap (λ ys. record { id = n; unit = settled x } ∷ ys) more
+    step false is more = ap (λ ys. record { id = n; unit = settled x; tables = t } ∷ ys) more
 
-pub to_write-new : (n m : ℕ) (xs : List UnitValue) (u : UnitValue) → m ≡ n + length xs → u.is_written ≡ false → to_write_from n (xs ++ u ∷ []) ≡ to_write_from n xs ++ record { id = m; unit = settled u } ∷ []
-to_write-new n m [] u e h = by_mark n u [] false h ∙ ap (λ k. let x : Numbered = record { id = k; unit = settled u } in x ∷ []) (let k : n ≡ m = omega (arith, e) in k)
-to_write-new n m (x ∷ xs) u e h = step x.is_written refl (to_write-new (suc n) m xs u (omega (arith, e)) h)
+pub to_write-new : (n m : ℕ) (t : Tables) (xs : List UnitValue) (u : UnitValue) → m ≡ n + length xs → u.is_written ≡ false → to_write_from n t (xs ++ u ∷ []) ≡ to_write_from n t xs ++ record { id = m; unit = settled u; tables = t } ∷ []
+to_write-new n m t [] u e h = by_mark n t u [] false h ∙ ap (λ k. let x : Numbered = record { id = k; unit = settled u; tables = t } in x ∷ []) (let k : n ≡ m = omega (arith, e) in k)
+to_write-new n m t (x ∷ xs) u e h = step x.is_written refl (to_write-new (suc n) m t xs u (omega (arith, e)) h)
   where
-    step : (b : Bool) → x.is_written ≡ b → to_write_from (suc n) (xs ++ u ∷ []) ≡ to_write_from (suc n) xs ++ record { id = m; unit = settled u } ∷ [] →
-        (if b then to_write_from (suc n) (xs ++ u ∷ []) else record { id = n; unit = settled x } ∷ to_write_from (suc n) (xs ++ u ∷ [])) ≡ (if b then to_write_from (suc n) xs else record { id = n; unit = settled x } ∷ to_write_from (suc n) xs) ++ record { id = m; unit = settled u } ∷ []
+    step : (b : Bool) → x.is_written ≡ b → to_write_from (suc n) t (xs ++ u ∷ []) ≡ to_write_from (suc n) t xs ++ record { id = m; unit = settled u; tables = t } ∷ [] →
+        (if b then to_write_from (suc n) t (xs ++ u ∷ []) else record { id = n; unit = settled x; tables = t } ∷ to_write_from (suc n) t (xs ++ u ∷ [])) ≡ (if b then to_write_from (suc n) t xs else record { id = n; unit = settled x; tables = t } ∷ to_write_from (suc n) t xs) ++ record { id = m; unit = settled u; tables = t } ∷ []
     step true is more = more
-    step false is more = ap (λ ys. record { id = n; unit = settled x } ∷ ys) more
+    step false is more = ap (λ ys. record { id = n; unit = settled x; tables = t } ∷ ys) more
 
 -- where all are written, there is nothing to write
-pub to_write-none : (n : ℕ) (us : List UnitValue) → All (λ u. u.is_written ≡ true) us → to_write_from n us ≡ []
-to_write-none n [] h = refl
-to_write-none n (u ∷ us) h = by_mark n u us true (All-head (λ v. v.is_written ≡ true) u us h) ∙ to_write-none (suc n) us (All-tail (λ v. v.is_written ≡ true) u us h)
+pub to_write-none : (n : ℕ) (t : Tables) (us : List UnitValue) → All (λ u. u.is_written ≡ true) us → to_write_from n t us ≡ []
+to_write-none n t [] h = refl
+to_write-none n t (u ∷ us) h = by_mark n t u us true (All-head (λ v. v.is_written ≡ true) u us h) ∙ to_write-none (suc n) t us (All-tail (λ v. v.is_written ≡ true) u us h)
 
 -- Places that are kept
 
@@ -169,18 +170,18 @@ bound : (o : Option UnitValue) (u : UnitValue) → o ≡ Some u → (o >>= offse
 bound o u h = ap (λ x. x >>= offsets_of) h
 
 -- a unit that is written keeps its places, and the others theirs
-pub keeps_more : (xs : List UnitValue) (u v : UnitValue) (rest : List UnitValue) (id : ℕ) (w : UnitValue) (us : List Numbered) (ks : List Kept) (k : Kept) →
+pub keeps_more : (xs : List UnitValue) (u v : UnitValue) (rest : List UnitValue) (id : ℕ) (w : UnitValue) (t : Tables) (us : List Numbered) (ks : List Kept) (k : Kept) →
     id ≡ length xs → offsets_of u ≡ None → offsets_of v ≡ Some (kept_offsets k) → length us ≡ length ks → KeepPlaces (xs ++ u ∷ rest) us ks →
-    KeepPlaces (xs ++ v ∷ rest) (us ++ record { id = id; unit = w } ∷ []) (ks ++ k ∷ [])
-keeps_more xs u v rest id w us ks k at none some same h n = by_number (cases_eq id n)
+    KeepPlaces (xs ++ v ∷ rest) (us ++ record { id = id; unit = w; tables = t } ∷ []) (ks ++ k ∷ [])
+keeps_more xs u v rest id w t us ks k at none some same h n = by_number (cases_eq id n)
   where
-    by_number : (id ≡ n) ⊎ (id ≡ n → ⊥) → offsets_at (xs ++ v ∷ rest) n ≡ kept_at (us ++ record { id = id; unit = w } ∷ []) (ks ++ k ∷ []) n
+    by_number : (id ≡ n) ⊎ (id ≡ n → ⊥) → offsets_at (xs ++ v ∷ rest) n ≡ kept_at (us ++ record { id = id; unit = w; tables = t } ∷ []) (ks ++ k ∷ []) n
     by_number (inl is) =
         let here : n ≡ length xs = sym is ∙ at in
         let empty : kept_at us ks n ≡ None = sym (h n) ∙ bound (slice_get (xs ++ u ∷ rest) n) u (get_next xs u rest n here) ∙ none in
-        bound (slice_get (xs ++ v ∷ rest) n) v (get_next xs v rest n here) ∙ some ∙ sym (kept_last us ks (record { id = id; unit = w }) k n same empty (eq-eqb id n is))
+        bound (slice_get (xs ++ v ∷ rest) n) v (get_next xs v rest n here) ∙ some ∙ sym (kept_last us ks (record { id = id; unit = w; tables = t }) k n same empty (eq-eqb id n is))
     by_number (inr ne) =
-        ap (λ x. x >>= offsets_of) (get_other xs u v rest n (λ e. ne (at ∙ sym e))) ∙ h n ∙ sym (kept_other us ks (record { id = id; unit = w }) k n same (ne_eqb id n ne))
+        ap (λ x. x >>= offsets_of) (get_other xs u v rest n (λ e. ne (at ∙ sym e))) ∙ h n ∙ sym (kept_other us ks (record { id = id; unit = w; tables = t }) k n same (ne_eqb id n ne))
 
 pub offsets_new : (u : UnitValue) → u.is_written ≡ false → offsets_of u ≡ None
 offsets_new u h = ap (λ (b : Bool). if b then option_map offsets_in u.offsets else None) h

@@ -10,6 +10,7 @@ use Rattle.dw_writer.specs.Sections.{SomeHasRisen, section_of, fault_sum}
 use Rattle.dw_writer.proofs.FaultLaws.{HasRisen-from, SomeHasRisen-info}
 use Rattle.dw_writer.specs.Meaning.{Adds}
 use Rattle.dw_writer.specs.declared.sections.Sections.{Sections}
+use Rattle.dw_entries.specs.Targets.{Tables}
 use Rattle.dw_unit.specs.Built.{Numbered, Starts, table_size}
 use Rattle.dw_unit.specs.Causes.{Because, Refused, Is, UnitRefused, UnitFails, UnitsFail, ReferencesFail, UnitsRefused, RefusesAny}
 use Rattle.dw_unit.specs.Filled.{Fills, AreFillable}
@@ -43,28 +44,29 @@ rises_from {W} meaning old now new others abbrevs info h = by_id h.id h.before h
     by_id id b a was is r = record { id = id; before = b; after = a; was = sym (ap (λ (s : Sections W). section_of s id) others) ∙ was; is = is; risen = r }
 
 -- The first units of a table were gone through, and those that were new are pending.
-pub record WritesFront {W : Type 0} (meaning : W → Meaning) (old now : Sections W) (us vs : List UnitValue) (i : ℕ) : Type 0 where
+pub record WritesFront {W : Type 0} (meaning : W → Meaning) (old now : Sections W) (t : Tables) (us vs : List UnitValue) (i : ℕ) : Type 0 where
   pub before : List UnitValue
   pub after : List UnitValue
   pub rest : List UnitValue
   pub at : IsAt us vs i before after rest
-  pub written : AreWritten (starts_of meaning old) (starts_of meaning now) before after
-  pub writable : AreWritable (meaning old.debug_info.0).is_plain (meaning old.debug_abbrev.0).size before
+  pub written : AreWritten (starts_of meaning old) (starts_of meaning now) t before after
+  pub writable : AreWritable (meaning old.debug_info.0).is_plain t (meaning old.debug_abbrev.0).size before
   pub kept : List Kept
-  pub pending : Pending meaning old now (to_write before) kept
-  pub keeps : (ws : List Numbered) (ks : List Kept) → length ws ≡ length ks → KeepPlaces us ws ks → KeepPlaces vs (ws ++ to_write before) (ks ++ kept)
+  pub pending : Pending meaning old now (to_write t before) kept
+  pub keeps : (ws : List Numbered) (ks : List Kept) → length ws ≡ length ks → KeepPlaces us ws ks → KeepPlaces vs (ws ++ to_write t before) (ks ++ kept)
   pub place : (meaning now.debug_abbrev.0).size ≡ past_tables (meaning old.debug_abbrev.0).size before
   pub others : KeepsOtherSections old now
   pub faults : fault_sum meaning old ≤ fault_sum meaning now
 
 -- behind a unit that was added
-starts_past : {W : Type 0} (meaning : W → Meaning) (old new : Sections W) (u : UnitValue) (k : Kept) → PendsTree meaning old new u.encoding u.entries k → starts_of meaning new ≡ past_kept (starts_of meaning old) u k
-starts_past meaning old new u k p =
+starts_past : {W : Type 0} (meaning : W → Meaning) (old new : Sections W) (t : Tables) (u : UnitValue) (k : Kept) → PendsTree meaning old new u.encoding u.entries t k →
+    starts_of meaning new ≡ past_kept (starts_of meaning old) (record { id = 0; unit = u; tables = t }) k
+starts_past meaning old new t u k p =
     ap (λ n. let s : Starts = record { info = n; abbrevs = (meaning new.debug_abbrev.0).size } in s) p.unit.text.size
-    ∙ ap (λ n. let s : Starts = record { info = (meaning old.debug_info.0).size + (draft_of u.encoding u.entries k).size; abbrevs = n } in s) p.table.size
+    ∙ ap (λ n. let s : Starts = record { info = (meaning old.debug_info.0).size + (draft_of u.encoding u.entries t k).size; abbrevs = n } in s) p.table.size
 
-module _ {W : Type 0} (meaning : W → Meaning) where
-  pub front_none : (s : Sections W) (us : List UnitValue) → WritesFront meaning s s us us 0
+module _ {W : Type 0} (meaning : W → Meaning) (t : Tables) where
+  pub front_none : (s : Sections W) (us : List UnitValue) → WritesFront meaning s s t us us 0
   front_none s us = record {
     before = [];
     after = [];
@@ -80,7 +82,7 @@ module _ {W : Type 0} (meaning : W → Meaning) where
     faults = omega arith;
   }
 
-  module _ (old now new : Sections W) (us vs : List UnitValue) (i : ℕ) (u v : UnitValue) (f : WritesFront meaning old now us vs i) (is : u ≡ slice_index_or vs i u) (below : i < length vs)
+  module _ (old now new : Sections W) (us vs : List UnitValue) (i : ℕ) (u v : UnitValue) (f : WritesFront meaning old now t us vs i) (is : u ≡ slice_index_or vs i u) (below : i < length vs)
       (others : KeepsOtherSections now new) (faults : fault_sum meaning now ≤ fault_sum meaning new) where
     rest_is : (more : List UnitValue) × (f.rest ≡ u ∷ more)
     rest_is =
@@ -96,30 +98,30 @@ module _ {W : Type 0} (meaning : W → Meaning) where
     faults_then : fault_sum meaning old ≤ fault_sum meaning new
     faults_then = omega (arith, f.faults, faults)
 
-    writable_then : (u.is_written ≡ true) ⊎ IsWritableAt (meaning now.debug_info.0).is_plain (meaning now.debug_abbrev.0).size u → AreWritable (meaning old.debug_info.0).is_plain (meaning old.debug_abbrev.0).size (f.before ++ u ∷ [])
+    writable_then : (u.is_written ≡ true) ⊎ IsWritableAt (meaning now.debug_info.0).is_plain t (meaning now.debug_abbrev.0).size u → AreWritable (meaning old.debug_info.0).is_plain t (meaning old.debug_abbrev.0).size (f.before ++ u ∷ [])
     writable_then h =
         let plain : (meaning now.debug_info.0).is_plain ≡ (meaning old.debug_info.0).is_plain = f.pending.units.text.same.kind in
-        writable_more (meaning old.debug_info.0).is_plain (meaning old.debug_abbrev.0).size f.before u f.writable
-        (subst (λ n. (u.is_written ≡ true) ⊎ IsWritableAt (meaning old.debug_info.0).is_plain n u) f.place
-        (subst (λ b. (u.is_written ≡ true) ⊎ IsWritableAt b (meaning now.debug_abbrev.0).size u) plain h))
+        writable_more (meaning old.debug_info.0).is_plain t (meaning old.debug_abbrev.0).size f.before u f.writable
+        (subst (λ n. (u.is_written ≡ true) ⊎ IsWritableAt (meaning old.debug_info.0).is_plain t n u) f.place
+        (subst (λ b. (u.is_written ≡ true) ⊎ IsWritableAt b t (meaning now.debug_abbrev.0).size u) plain h))
 
     -- a unit that was written before is passed over
-    front_old : (u.is_written ≡ true) → v ≡ u → new ≡ now → WritesFront meaning old new us (slice_set vs i v) (i + 1)
+    front_old : (u.is_written ≡ true) → v ≡ u → new ≡ now → WritesFront meaning old new t us (slice_set vs i v) (i + 1)
     front_old old_mark same kept =
         let gone = one_gone us vs i f.before f.after u v rest_is.0 here in
-        let none : to_write (f.before ++ u ∷ []) ≡ to_write f.before = to_write-old 0 f.before u old_mark in
+        let none : to_write t (f.before ++ u ∷ []) ≡ to_write t f.before = to_write-old 0 t f.before u old_mark in
         let table : slice_set vs i v ≡ vs = gone.new_is ∙ append_assoc f.after (v ∷ []) rest_is.0 ∙ ap (λ x. f.after ++ x ∷ rest_is.0) same ∙ sym here.new_is in
         record {
           before = f.before ++ u ∷ [];
           after = f.after ++ v ∷ [];
           rest = rest_is.0;
           at = gone;
-          written = subst (λ s. AreWritten (starts_of meaning old) (starts_of meaning s) (f.before ++ u ∷ []) (f.after ++ v ∷ [])) (sym kept) (passed_more (starts_of meaning old) (starts_of meaning now) f.before f.after u v f.written (old_mark, same));
+          written = subst (λ s. AreWritten (starts_of meaning old) (starts_of meaning s) t (f.before ++ u ∷ []) (f.after ++ v ∷ [])) (sym kept) (passed_more (starts_of meaning old) (starts_of meaning now) t f.before f.after u v f.written (old_mark, same));
           writable = writable_then (inl old_mark);
           kept = f.kept;
-          pending = subst (λ s. Pending meaning old s (to_write (f.before ++ u ∷ [])) f.kept) (sym kept) (subst (λ xs. Pending meaning old now xs f.kept) (sym none) f.pending);
+          pending = subst (λ s. Pending meaning old s (to_write t (f.before ++ u ∷ [])) f.kept) (sym kept) (subst (λ xs. Pending meaning old now xs f.kept) (sym none) f.pending);
           keeps = λ ws ks equal h.
-              subst (λ t. KeepPlaces t (ws ++ to_write (f.before ++ u ∷ [])) (ks ++ f.kept)) (sym table)
+              subst (λ x. KeepPlaces x (ws ++ to_write t (f.before ++ u ∷ [])) (ks ++ f.kept)) (sym table)
               (subst (λ xs. KeepPlaces vs (ws ++ xs) (ks ++ f.kept)) (sym none) (f.keeps ws ks equal h));
           place = ap (λ (s : Sections W). (meaning s.debug_abbrev.0).size) kept ∙ f.place ∙ sym (past_more (meaning old.debug_abbrev.0).size f.before u ∙ past_old (past_tables (meaning old.debug_abbrev.0).size f.before) u old_mark);
           others = others_then;
@@ -127,93 +129,93 @@ module _ {W : Type 0} (meaning : W → Meaning) where
         }
 
     -- a new one is pending behind the others
-    front_new : u.is_written ≡ false → v ≡ marked_written v.offsets (settled u) → PendsUnit meaning now new (settled u) v.offsets → IsWritableAt (meaning now.debug_info.0).is_plain (meaning now.debug_abbrev.0).size u →
-        WritesFront meaning old new us (slice_set vs i v) (i + 1)
+    front_new : u.is_written ≡ false → v ≡ marked_written v.offsets (settled u) → PendsUnit meaning now new (settled u) t v.offsets → IsWritableAt (meaning now.debug_info.0).is_plain t (meaning now.debug_abbrev.0).size u →
+        WritesFront meaning old new t us (slice_set vs i v) (i + 1)
     front_new new_mark marked p can =
         let gone = one_gone us vs i f.before f.after u v rest_is.0 here in
-        let w : Numbered = record { id = i; unit = settled u } in
-        let one : to_write (f.before ++ u ∷ []) ≡ to_write f.before ++ w ∷ [] = to_write-new 0 i f.before u (omega (arith, f.at.count_before)) new_mark in
+        let w : Numbered = record { id = i; unit = settled u; tables = t } in
+        let one : to_write t (f.before ++ u ∷ []) ≡ to_write t f.before ++ w ∷ [] = to_write-new 0 i t f.before u (omega (arith, f.at.count_before)) new_mark in
         let table : slice_set vs i v ≡ f.after ++ v ∷ rest_is.0 = gone.new_is ∙ append_assoc f.after (v ∷ []) rest_is.0 in
-        let pending : Pending meaning old new (to_write f.before ++ w ∷ []) (f.kept ++ p.kept ∷ []) = pending_then meaning old now new (to_write f.before) (w ∷ []) f.kept (p.kept ∷ []) f.pending (pending_one meaning i (settled u) now new p.kept p.tree) in
-        let rows : length (to_write f.before) ≡ length f.kept = row_length _ (to_write f.before) f.kept f.pending.in_row in
-        let here_written : IsWrittenAt (starts_of meaning now) u v = record { kept = p.kept; stands = p.tree.stands; unwritten = new_mark; marked = marked; offsets_are = p.offsets_are } in
+        let pending : Pending meaning old new (to_write t f.before ++ w ∷ []) (f.kept ++ p.kept ∷ []) = pending_then meaning old now new (to_write t f.before) (w ∷ []) f.kept (p.kept ∷ []) f.pending (pending_one meaning i (settled u) t now new p.kept p.tree) in
+        let rows : length (to_write t f.before) ≡ length f.kept = row_length _ (to_write t f.before) f.kept f.pending.in_row in
+        let here_written : IsWrittenAt (starts_of meaning now) t u v = record { kept = p.kept; stands = p.tree.stands; unwritten = new_mark; marked = marked; offsets_are = p.offsets_are } in
         record {
           before = f.before ++ u ∷ [];
           after = f.after ++ v ∷ [];
           rest = rest_is.0;
           at = gone;
-          written = subst (λ s. AreWritten (starts_of meaning old) s (f.before ++ u ∷ []) (f.after ++ v ∷ [])) (sym (starts_past meaning now new (settled u) p.kept p.tree)) (written_more (starts_of meaning old) (starts_of meaning now) f.before f.after u v f.written here_written);
+          written = subst (λ s. AreWritten (starts_of meaning old) s t (f.before ++ u ∷ []) (f.after ++ v ∷ [])) (sym (starts_past meaning now new t (settled u) p.kept p.tree)) (written_more (starts_of meaning old) (starts_of meaning now) t f.before f.after u v f.written here_written);
           writable = writable_then (inr can);
           kept = f.kept ++ p.kept ∷ [];
           pending = subst (λ xs. Pending meaning old new xs (f.kept ++ p.kept ∷ [])) (sym one) pending;
           keeps = λ ws ks equal h.
-              let kept = subst (λ t. KeepPlaces t (ws ++ to_write f.before) (ks ++ f.kept)) here.new_is (f.keeps ws ks equal h) in
-              let long : length (ws ++ to_write f.before) ≡ length (ks ++ f.kept) = omega (arith, length-append ws (to_write f.before), length-append ks f.kept, equal, rows) in
-              let more = keeps_more f.after u v rest_is.0 i (settled u) (ws ++ to_write f.before) (ks ++ f.kept) p.kept (sym f.at.count_after) (offsets_new u new_mark) (offsets_marked (settled u) v (Some _) marked p.offsets_are) long kept in
-              let units : (ws ++ to_write f.before) ++ w ∷ [] ≡ ws ++ to_write (f.before ++ u ∷ []) = append_assoc ws (to_write f.before) (w ∷ []) ∙ ap (λ xs. ws ++ xs) (sym one) in
+              let kept = subst (λ x. KeepPlaces x (ws ++ to_write t f.before) (ks ++ f.kept)) here.new_is (f.keeps ws ks equal h) in
+              let long : length (ws ++ to_write t f.before) ≡ length (ks ++ f.kept) = omega (arith, length-append ws (to_write t f.before), length-append ks f.kept, equal, rows) in
+              let more = keeps_more f.after u v rest_is.0 i (settled u) t (ws ++ to_write t f.before) (ks ++ f.kept) p.kept (sym f.at.count_after) (offsets_new u new_mark) (offsets_marked (settled u) v (Some _) marked p.offsets_are) long kept in
+              let units : (ws ++ to_write t f.before) ++ w ∷ [] ≡ ws ++ to_write t (f.before ++ u ∷ []) = append_assoc ws (to_write t f.before) (w ∷ []) ∙ ap (λ xs. ws ++ xs) (sym one) in
               let places : (ks ++ f.kept) ++ p.kept ∷ [] ≡ ks ++ (f.kept ++ p.kept ∷ []) = append_assoc ks f.kept (p.kept ∷ []) in
-              subst (λ t. KeepPlaces t (ws ++ to_write (f.before ++ u ∷ [])) (ks ++ (f.kept ++ p.kept ∷ []))) (sym table)
-              (subst (KeepPlaces (f.after ++ v ∷ rest_is.0) (ws ++ to_write (f.before ++ u ∷ []))) places (subst (λ xs. KeepPlaces (f.after ++ v ∷ rest_is.0) xs ((ks ++ f.kept) ++ p.kept ∷ [])) units more));
+              subst (λ x. KeepPlaces x (ws ++ to_write t (f.before ++ u ∷ [])) (ks ++ (f.kept ++ p.kept ∷ []))) (sym table)
+              (subst (KeepPlaces (f.after ++ v ∷ rest_is.0) (ws ++ to_write t (f.before ++ u ∷ []))) places (subst (λ xs. KeepPlaces (f.after ++ v ∷ rest_is.0) xs ((ks ++ f.kept) ++ p.kept ∷ [])) units more));
           place = p.tree.table.size ∙ ap (λ n. n + table_size (settled u)) f.place ∙ sym (past_more (meaning old.debug_abbrev.0).size f.before u ∙ past_new (past_tables (meaning old.debug_abbrev.0).size f.before) u new_mark);
           others = others_then;
           faults = faults_then;
         }
 
-    pub front_more : WritesIfNew meaning now new u v → (u.is_written ≡ true) ⊎ IsWritableAt (meaning now.debug_info.0).is_plain (meaning now.debug_abbrev.0).size u → WritesFront meaning old new us (slice_set vs i v) (i + 1)
+    pub front_more : WritesIfNew meaning now new u v t → (u.is_written ≡ true) ⊎ IsWritableAt (meaning now.debug_info.0).is_plain t (meaning now.debug_abbrev.0).size u → WritesFront meaning old new t us (slice_set vs i v) (i + 1)
     front_more (inl h) can = front_old h.0 h.1 h.2
     front_more (inr h) (inl k) = absurd (let x : true ≡ false = sym k ∙ h.0 in cc)
     front_more (inr h) (inr can) = front_new h.0 h.1 h.2 can
 
     -- a unit that is refused
-    pub front_stopped : IsRefused u v → AreStopped (starts_of meaning old) us (slice_set vs i v)
+    pub front_stopped : IsRefused u v → AreStopped (starts_of meaning old) t us (slice_set vs i v)
     front_stopped h =
         let gone = one_gone us vs i f.before f.after u v rest_is.0 here in
-        subst (AreStopped (starts_of meaning old) us) (sym (gone.new_is ∙ append_assoc f.after (v ∷ []) rest_is.0))
-        (subst (λ xs. AreStopped (starts_of meaning old) xs (f.after ++ v ∷ rest_is.0)) (sym here.old_is) (stopped_at (starts_of meaning old) (starts_of meaning now) f.before f.after u v rest_is.0 f.written h))
+        subst (AreStopped (starts_of meaning old) t us) (sym (gone.new_is ∙ append_assoc f.after (v ∷ []) rest_is.0))
+        (subst (λ xs. AreStopped (starts_of meaning old) t xs (f.after ++ v ∷ rest_is.0)) (sym here.old_is) (stopped_at (starts_of meaning old) (starts_of meaning now) t f.before f.after u v rest_is.0 f.written h))
 
-    pub front_refused : u.is_written ≡ false → (err : Error) → UnitRefused meaning now new u err →
-        Because (SomeHasRisen meaning old new) (UnitsFail (meaning old.debug_info.0).is_plain (meaning old.debug_abbrev.0).size us) err
+    pub front_refused : u.is_written ≡ false → (err : Error) → UnitRefused meaning now new u t err →
+        Because (SomeHasRisen meaning old new) (UnitsFail (meaning old.debug_info.0).is_plain t (meaning old.debug_abbrev.0).size us) err
     front_refused new_mark err h =
         let plain = (meaning old.debug_info.0).is_plain in
         let table = (meaning old.debug_abbrev.0).size in
-        because-map {p = UnitFails u (meaning now.debug_abbrev.0).size (meaning now.debug_info.0).is_plain} {q = UnitsFail plain table us} (rises_from meaning old now new f.others f.pending.tables.same.faults f.pending.units.text.same.faults)
+        because-map {p = UnitFails u t (meaning now.debug_abbrev.0).size (meaning now.debug_info.0).is_plain} {q = UnitsFail plain t table us} (rises_from meaning old now new f.others f.pending.tables.same.faults f.pending.units.text.same.faults)
         (λ e k.
-        let there = subst (λ n. UnitFails u n plain e) f.place (subst (λ b. UnitFails u (meaning now.debug_abbrev.0).size b e) f.pending.units.text.same.kind k) in
-        subst (λ xs. UnitsFail plain table xs e) (sym here.old_is) (fails_at plain table f.before u rest_is.0 e new_mark there))
+        let there = subst (λ n. UnitFails u t n plain e) f.place (subst (λ b. UnitFails u t (meaning now.debug_abbrev.0).size b e) f.pending.units.text.same.kind k) in
+        subst (λ xs. UnitsFail plain t table xs e) (sym here.old_is) (fails_at plain t table f.before u rest_is.0 e new_mark there))
         err h
 
 -- where all were gone through
-pub front_all : {W : Type 0} (meaning : W → Meaning) (old now : Sections W) (us vs : List UnitValue) (i : ℕ) → WritesFront meaning old now us vs i → length vs ≤ i →
-    PendsUnits meaning old now us vs × AreWritten (starts_of meaning old) (starts_of meaning now) us vs × AreWritable (meaning old.debug_info.0).is_plain (meaning old.debug_abbrev.0).size us
-front_all meaning old now us vs i f le =
+pub front_all : {W : Type 0} (meaning : W → Meaning) (t : Tables) (old now : Sections W) (us vs : List UnitValue) (i : ℕ) → WritesFront meaning old now t us vs i → length vs ≤ i →
+    PendsUnits meaning old now us vs t × AreWritten (starts_of meaning old) (starts_of meaning now) t us vs × AreWritable (meaning old.debug_info.0).is_plain t (meaning old.debug_abbrev.0).size us
+front_all meaning t old now us vs i f le =
     let all = all_gone us vs i f.before f.after f.rest f.at le in
-    let pends : PendsUnits meaning old now f.before vs = record { kept = f.kept; pending = f.pending; keeps = λ ws ks equal h. f.keeps ws ks equal (subst (λ xs. KeepPlaces xs ws ks) all.0 h) } in (
-      subst (λ xs. PendsUnits meaning old now xs vs) all.0 pends,
-      subst (λ xs. AreWritten (starts_of meaning old) (starts_of meaning now) xs vs) all.0 (subst (AreWritten (starts_of meaning old) (starts_of meaning now) f.before) all.1 f.written),
-      subst (AreWritable (meaning old.debug_info.0).is_plain (meaning old.debug_abbrev.0).size) all.0 f.writable,
+    let pends : PendsUnits meaning old now f.before vs t = record { kept = f.kept; pending = f.pending; keeps = λ ws ks equal h. f.keeps ws ks equal (subst (λ xs. KeepPlaces xs ws ks) all.0 h) } in (
+      subst (λ xs. PendsUnits meaning old now xs vs t) all.0 pends,
+      subst (λ xs. AreWritten (starts_of meaning old) (starts_of meaning now) t xs vs) all.0 (subst (AreWritten (starts_of meaning old) (starts_of meaning now) t f.before) all.1 f.written),
+      subst (AreWritable (meaning old.debug_info.0).is_plain t (meaning old.debug_abbrev.0).size) all.0 f.writable,
     )
 
 -- Units behind those that are pending
 
-module _ {W : Type 0} (meaning : W → Meaning) (before old now : Sections W) (us vs : List UnitValue) (ws : List Numbered) (ks : List Kept) (none : before.debug_info_fixups ≡ []) (first : Pending meaning before old ws ks) (p : PendsUnits meaning old now us vs) where
-  pub all_pending : Pending meaning before now (ws ++ to_write us) (ks ++ p.kept)
-  all_pending = pending_then meaning before old now ws (to_write us) ks p.kept first p.pending
+module _ {W : Type 0} (meaning : W → Meaning) (before old now : Sections W) (t : Tables) (us vs : List UnitValue) (ws : List Numbered) (ks : List Kept) (none : before.debug_info_fixups ≡ []) (first : Pending meaning before old ws ks) (p : PendsUnits meaning old now us vs t) where
+  pub all_pending : Pending meaning before now (ws ++ to_write t us) (ks ++ p.kept)
+  all_pending = pending_then meaning before old now ws (to_write t us) ks p.kept first p.pending
 
   equal : length ws ≡ length ks
   equal = row_length _ ws ks first.in_row
 
   -- their references are filled in
   pub all_completed : (new : Sections W) → Fills (meaning now.debug_info.0) (meaning new.debug_info.0) (info_at vs) now.debug_info_fixups → meaning new.debug_abbrev.0 ≡ meaning now.debug_abbrev.0 →
-      ((err : Error) → IsFalse (holes_fail (info_at vs) (meaning now.debug_info.0).is_plain now.debug_info_fixups err)) → CompletesPending meaning before new us vs ws ks
+      ((err : Error) → IsFalse (holes_fail (info_at vs) (meaning now.debug_info.0).is_plain now.debug_info_fixups err)) → CompletesPending meaning before new us vs t ws ks
   all_completed new f tables sound =
       let plain : (meaning now.debug_info.0).is_plain ≡ (meaning before.debug_info.0).is_plain = all_pending.units.text.same.kind in
-      let lead = λ (err : Error). sym (pending_lead meaning (info_at vs) (meaning before.debug_info.0).is_plain before now (ws ++ to_write us) (ks ++ p.kept) none all_pending err)
+      let lead = λ (err : Error). sym (pending_lead meaning (info_at vs) (meaning before.debug_info.0).is_plain before now (ws ++ to_write t us) (ks ++ p.kept) none all_pending err)
       ∙ ap (λ b. holes_fail (info_at vs) b now.debug_info_fixups err) (sym plain) ∙ sound err in
       record {
         kept = p.kept;
         appends = record {
-          units = units_added meaning (info_at vs) before now (meaning new.debug_info.0) (ws ++ to_write us) (ks ++ p.kept) none all_pending f lead;
-          tables = subst (λ m. Adds (meaning before.debug_abbrev.0) m (tables_of (ws ++ to_write us))) (sym tables) all_pending.tables;
+          units = units_added meaning (info_at vs) before now (meaning new.debug_info.0) (ws ++ to_write t us) (ks ++ p.kept) none all_pending f lead;
+          tables = subst (λ m. Adds (meaning before.debug_abbrev.0) m (tables_of (ws ++ to_write t us))) (sym tables) all_pending.tables;
         };
         keeps = p.keeps ws ks equal;
         lead = lead;
@@ -222,9 +224,9 @@ module _ {W : Type 0} (meaning : W → Meaning) (before old now : Sections W) (u
   -- or one of them is refused
   pub all_refused : (new : Sections W) → KeepsOtherSections old now → (err : Error) →
       (AreFillable (meaning now.debug_info.0) now.debug_info_fixups → Refused (meaning now.debug_info.0) (meaning new.debug_info.0) (Is (holes_fail (info_at vs) (meaning now.debug_info.0).is_plain now.debug_info_fixups)) err) →
-      UnitsRefused meaning before old new us vs ws ks err
+      UnitsRefused meaning before old new us vs t ws ks err
   all_refused new others err h =
-      let units = ws ++ to_write us in
+      let units = ws ++ to_write t us in
       let kept = ks ++ p.kept in
       let plain : (meaning now.debug_info.0).is_plain ≡ (meaning before.debug_info.0).is_plain = all_pending.units.text.same.kind in
       let can : AreFillable (meaning now.debug_info.0) now.debug_info_fixups = record {
@@ -232,7 +234,7 @@ module _ {W : Type 0} (meaning : W → Meaning) (before old now : Sections W) (u
         widths = pending_widths meaning before now units kept none all_pending;
       } in
       because-map {p = Is (holes_fail (info_at vs) (meaning now.debug_info.0).is_plain now.debug_info_fixups)}
-      {q = λ e. UnitsFail (meaning old.debug_info.0).is_plain (meaning old.debug_abbrev.0).size us e ⊎ ReferencesFail meaning before us vs ws ks e}
+      {q = λ e. UnitsFail (meaning old.debug_info.0).is_plain t (meaning old.debug_abbrev.0).size us e ⊎ ReferencesFail meaning before us vs t ws ks e}
       (λ r. rises_from meaning old now new others p.pending.tables.same.faults p.pending.units.text.same.faults (SomeHasRisen-info meaning now new r))
       (λ e k. inr (record {
         kept = p.kept;
@@ -244,7 +246,7 @@ module _ {W : Type 0} (meaning : W → Meaning) (before old now : Sections W) (u
       err (h can)
 
 -- a unit of the table is refused
-pub units_refused : {W : Type 0} (meaning : W → Meaning) (old new : Sections W) (us vs : List UnitValue) (err : Error) → Because (SomeHasRisen meaning old new) (UnitsFail (meaning old.debug_info.0).is_plain (meaning old.debug_abbrev.0).size us) err → RefusesAny meaning old new us vs err
-units_refused meaning old new us vs err h before ws ks none first =
-    because-map {p = UnitsFail (meaning old.debug_info.0).is_plain (meaning old.debug_abbrev.0).size us}
-    {q = λ e. UnitsFail (meaning old.debug_info.0).is_plain (meaning old.debug_abbrev.0).size us e ⊎ ReferencesFail meaning before us vs ws ks e} (λ r. r) (λ e k. inl k) err h
+pub units_refused : {W : Type 0} (meaning : W → Meaning) (t : Tables) (old new : Sections W) (us vs : List UnitValue) (err : Error) → Because (SomeHasRisen meaning old new) (UnitsFail (meaning old.debug_info.0).is_plain t (meaning old.debug_abbrev.0).size us) err → RefusesAny meaning old new us vs t err
+units_refused meaning t old new us vs err h before ws ks none first =
+    because-map {p = UnitsFail (meaning old.debug_info.0).is_plain t (meaning old.debug_abbrev.0).size us}
+    {q = λ e. UnitsFail (meaning old.debug_info.0).is_plain t (meaning old.debug_abbrev.0).size us e ⊎ ReferencesFail meaning before us vs t ws ks e} (λ r. r) (λ e k. inl k) err h

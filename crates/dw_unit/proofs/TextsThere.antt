@@ -24,7 +24,7 @@ use Rattle.dw_writer.proofs.Laws.{followed-somes}
 use Rattle.dw_entries.specs.Values.{value_draft, value_fails}
 use Rattle.dw_entries.specs.declared.attribute.Attribute.{Attribute}
 use Rattle.dw_entries.specs.Entries.{EntryValue, has_sibling, entry_at}
-use Rattle.dw_entries.specs.Targets.{UnitTargets, HaveInfoPlaces}
+use Rattle.dw_entries.specs.Targets.{Tables, UnitTargets, HaveInfoPlaces}
 use Rattle.dw_entries.specs.Tree.{preorder}
 use Rattle.dw_entries.proofs.ValuesThere.{value_there}
 use Rattle.dw_unit.specs.Built.{at_zero}
@@ -130,10 +130,10 @@ module _ (big : Bool) (e : Encoding) (table : ℕ) (encodable : IsTrue (is_encod
 
 module _ (e : Encoding) (u : UnitTargets) (wide : IsTrue (is_width e.address_size))
     (places : (i n : ℕ) → u.place i ≡ Some n → IsTrue (fits (word_of e.format) n)) (pasts : (i : ℕ) → IsTrue (fits (word_of e.format) (u.past i))) where
-  attributes_there : (xs : List Attribute) → ((err : Error) → IsFalse (attributes_fail e u.place true xs err)) → IsThereFilled (attributes_draft e u xs)
+  attributes_there : (xs : List Attribute) → ((err : Error) → IsFalse (attributes_fail e u true xs err)) → IsThereFilled (attributes_draft e u xs)
   attributes_there [] sound = nothing_filled
   attributes_there (a ∷ xs) sound =
-      let parts = λ (err : Error). or_parts (value_fails e u.place true a.value err) (attributes_fail e u.place true xs err) (sound err) in
+      let parts = λ (err : Error). or_parts (value_fails e u true a.value err) (attributes_fail e u true xs err) (sound err) in
       then_filled (value_draft e u a.value) (attributes_draft e u xs)
       (λ info holes big. value_there big e u at_zero info a.value (λ s. refl) holes places (λ err. (parts err).0)) (attributes_there xs (λ err. (parts err).1))
 
@@ -145,7 +145,7 @@ module _ (e : Encoding) (u : UnitTargets) (wide : IsTrue (is_width e.address_siz
       either false = nothing_filled
 
   module _ (es : List EntryValue) where
-    mark_there : (shapes : List Shape) (m : Mark ℕ) → ((err : Error) → IsFalse (mark_fails e es u.place true m err)) → IsThereFilled (coded_draft e es u shapes m)
+    mark_there : (shapes : List Shape) (m : Mark ℕ) → ((err : Error) → IsFalse (mark_fails e es u true m err)) → IsThereFilled (coded_draft e es u shapes m)
     mark_there shapes (Open i) sound =
         let x = entry_at es i in
         let code = code_at e es shapes (Open i) in
@@ -154,14 +154,14 @@ module _ (e : Encoding) (u : UnitTargets) (wide : IsTrue (is_width e.address_siz
     mark_there shapes Null sound = whole_filled 1 (bytes_text (0 ∷ [])) (λ big. bytes_there big (0 ∷ []))
 
     -- marks whose values have no fault
-    pub marks_there : (shapes : List Shape) (ms : List (Mark ℕ)) → ((err : Error) → IsFalse (marks_fail e es u.place true ms err)) → IsThereFilled (marks_draft e es u shapes ms)
+    pub marks_there : (shapes : List Shape) (ms : List (Mark ℕ)) → ((err : Error) → IsFalse (marks_fail e es u true ms err)) → IsThereFilled (marks_draft e es u shapes ms)
     marks_there shapes [] sound = nothing_filled
     marks_there shapes (m ∷ ms) sound =
-        let parts = λ (err : Error). or_parts (mark_fails e es u.place true m err) (marks_fail e es u.place true ms err) (sound err) in
+        let parts = λ (err : Error). or_parts (mark_fails e es u true m err) (marks_fail e es u true ms err) (sound err) in
         then_filled (coded_draft e es u shapes m) (marks_draft e es u shapes ms) (mark_there shapes m (λ err. (parts err).0)) (marks_there shapes ms (λ err. (parts err).1))
 
     -- the entries of a tree
-    pub tree_there : ((err : Error) → IsFalse (marks_fail e es u.place true (preorder es) err)) → IsThereFilled (tree_draft e es u)
+    pub tree_there : ((err : Error) → IsFalse (marks_fail e es u true (preorder es) err)) → IsThereFilled (tree_draft e es u)
     tree_there sound = marks_there (tree_shapes e es) (preorder es) sound
 
 -- Units
@@ -179,13 +179,13 @@ found_fits w place i n fit h = either (place i == 0) h
     either false k = subst (λ x. IsTrue (fits w x)) (same_Some (place i) n k) fit
 
 -- A unit without a fault, whose entries stand at places that fit a word.
-pub unit_there : (e : Encoding) (es : List EntryValue) (table : ℕ) (p : Placement) → FitsWords e.format p → IsTrue (is_encodable e) →
-    ((err : Error) → IsFalse (unit_fails e es table (targets_of p) true err)) → IsThereFilled (unit_draft e table (tree_draft e es (targets_of p)))
-unit_there e es table p fit encodable sound =
+pub unit_there : (e : Encoding) (es : List EntryValue) (t : Tables) (table : ℕ) (p : Placement) → FitsWords e.format p → IsTrue (is_encodable e) →
+    ((err : Error) → IsFalse (unit_fails e es table (targets_of t p) true err)) → IsThereFilled (unit_draft e table (tree_draft e es (targets_of t p)))
+unit_there e es t table p fit encodable sound =
     let w : ℕ = word_of e.format in
-    let u : UnitTargets = targets_of p in
+    let u : UnitTargets = targets_of t p in
     let body : Draft = tree_draft e es u in
-    let parts = λ (err : Error). or_parts (header_fails e table true (unit_length e body.size) err) (marks_fail e es u.place true (preorder es) err) (sound err) in
+    let parts = λ (err : Error). or_parts (header_fails e table true (unit_length e body.size) err) (marks_fail e es u true (preorder es) err) (sound err) in
     let length = not_false (length_fits e.format (unit_length e body.size)) (parts errors.InitialLengthOverflow).0 in
     let place = not_false (offset_fits true w table) (parts errors.ValueTooLarge).0 in
     let wide = (and_parts (is_version e.version) (is_width e.address_size) encodable).1 in

@@ -35,7 +35,7 @@ module _ (e : Encoding) (es : List EntryValue) (table : ℕ) (u : UnitTargets) (
   header_fault err = header_fails e table plain long err
 
   abbrev pub marks_fault : List (Mark ℕ) → Error → Bool
-  marks_fault ms err = marks_fail e es u.place plain ms err
+  marks_fault ms err = marks_fail e es u plain ms err
 
   -- a fault of the header or of a value is one of the unit
   pub in_header : (err : Error) → IsTrue (header_fault err) → IsTrue (unit_fails e es table u plain err)

@@ -18,6 +18,7 @@ use Rattle.dw_entries.specs.Targets.{UnitTargets}
 use Rattle.dw_entries.specs.Tree.{preorder, children_in}
 use Rattle.dw_entries.proofs.Tagged.{root_within}
 use Rattle.dw_entries.proofs.TreeLaws.{preorder_one_tree}
+use Rattle.dw_entries.specs.Targets.{Tables}
 use Rattle.dw_unit.specs.Causes.{Because, TreeFails, RoomRefused}
 use Rattle.dw_unit.specs.Coded.{shapes_of}
 use Rattle.dw_unit.specs.Places.{Placement, targets_of}
@@ -57,45 +58,45 @@ second : (a b : Bool) → IsFalse (a || b) → IsFalse b
 second true b h = absurd (let x : true ≡ false = h in cc)
 second false b h = h
 
-module _ (e : Encoding) (es : List EntryValue) (p : Placement) (placed : IsTreePlacement e es p) (table : ℕ) (plain : Bool) where
+module _ (e : Encoding) (es : List EntryValue) (t : Tables) (p : Placement) (placed : IsTreePlacement e es p) (table : ℕ) (plain : Bool) where
   -- the length that is told is that of the sizes
-  length_is : unit_length e (tree_draft e es (targets_of p)).size ≡ unit_length e (tree_size e es p.place)
-  length_is = ap (unit_length e) (tree_draft-size e es p)
+  length_is : unit_length e (tree_draft e es (targets_of t p)).size ≡ unit_length e (tree_size e es p.place)
+  length_is = ap (unit_length e) (tree_draft-size e es t p)
 
   -- a tree without a fault where its entries stand can be written
   pub tree_writable : IsTrue (is_encodable e) → (end : ℕ) → end ≡ header_size e + tree_size e es p.place → end < 2 ^ 64 →
-      IsTrue (length_fits e.format (unit_length e (tree_draft e es (targets_of p)).size)) → ((err : Error) → IsFalse (unit_fails e es table (targets_of p) plain err)) → IsWritableTree plain e es
+      IsTrue (length_fits e.format (unit_length e (tree_draft e es (targets_of t p)).size)) → ((err : Error) → IsFalse (unit_fails e es table (targets_of t p) plain err)) → IsWritableTree plain e es t
   tree_writable encodable end is small fits sound = record {
     encodable = encodable;
     places = p;
     placed = placed;
     room = omega (arith, is);
     fits = ap (length_fits e.format) (sym length_is) ∙ fits;
-    sound = λ err. second (header_fault e es table (targets_of p) plain err) (marks_fault e es table (targets_of p) plain (preorder es) err) (sound err);
+    sound = λ err. second (header_fault e es table (targets_of t p) plain err) (marks_fault e es table (targets_of t p) plain (preorder es) err) (sound err);
   }
 
   -- a fault of the unit where its entries stand
-  pub faulty : (err : Error) → IsTrue (unit_fails e es table (targets_of p) plain err) → TreeFails e es table plain err
+  pub faulty : (err : Error) → IsTrue (unit_fails e es table (targets_of t p) plain err) → TreeFails e es t table plain err
   faulty err h = inr (record { places = p; placed = placed; fails = h })
 
   -- a length that is too long
-  pub too_long_faulty : IsTrue (not (length_fits e.format (unit_length e (tree_size e es p.place)))) → TreeFails e es table plain errors.InitialLengthOverflow
+  pub too_long_faulty : IsTrue (not (length_fits e.format (unit_length e (tree_size e es p.place)))) → TreeFails e es t table plain errors.InitialLengthOverflow
   too_long_faulty h =
-      faulty errors.InitialLengthOverflow (in_header e es table (targets_of p) plain errors.InitialLengthOverflow (ap (λ n. not (length_fits e.format n)) length_is ∙ h))
+      faulty errors.InitialLengthOverflow (in_header e es table (targets_of t p) plain errors.InitialLengthOverflow (ap (λ n. not (length_fits e.format n)) length_is ∙ h))
 
 -- no room for the entries
-pub room_refused : (rise : Type 0) (e : Encoding) (es : List EntryValue) (table : ℕ) (plain : Bool) (full : Type 0) → (full → TreeHasNoRoom e es) → (err : Error) → RoomRefused full err → Because rise (TreeFails e es table plain) err
-room_refused rise e es table plain full f errors.NoMemory h = tt
-room_refused rise e es table plain full f errors.ValueTooLarge h = inl (refl, f h)
-room_refused rise e es table plain full f err h = absurd h
+pub room_refused : (rise : Type 0) (e : Encoding) (es : List EntryValue) (t : Tables) (table : ℕ) (plain : Bool) (full : Type 0) → (full → TreeHasNoRoom e es) → (err : Error) → RoomRefused full err → Because rise (TreeFails e es t table plain) err
+room_refused rise e es t table plain full f errors.NoMemory h = tt
+room_refused rise e es t table plain full f errors.ValueTooLarge h = inl (refl, f h)
+room_refused rise e es t table plain full f err h = absurd h
 
 -- the place of the table of a unit without a fault has room
 pub place_fits : (e : Encoding) (es : List EntryValue) (table : ℕ) (u : UnitTargets) (plain : Bool) → ((err : Error) → IsFalse (unit_fails e es table u plain err)) → IsTrue (offset_fits plain (word_of e.format) table)
 place_fits e es table u plain sound =
-    let h = first (header_fails e table plain (unit_length e (tree_draft e es u).size) errors.ValueTooLarge) (marks_fail e es u.place plain (preorder es) errors.ValueTooLarge) (sound errors.ValueTooLarge) in
+    let h = first (header_fails e table plain (unit_length e (tree_draft e es u).size) errors.ValueTooLarge) (marks_fail e es u plain (preorder es) errors.ValueTooLarge) (sound errors.ValueTooLarge) in
     not_false (offset_fits plain (word_of e.format) table) h
 
 -- a unit's draft has the bytes of its header and of its tree
-pub unit_long : (e : Encoding) (es : List EntryValue) (p : Placement) (table : ℕ) → (unit_draft e table (tree_draft e es (targets_of p))).size ≡ header_size e + tree_size e es p.place
+pub unit_long : (e : Encoding) (es : List EntryValue) (t : Tables) (p : Placement) (table : ℕ) → (unit_draft e table (tree_draft e es (targets_of t p))).size ≡ header_size e + tree_size e es p.place
 unfolding then_draft
-unit_long e es p table = ap (λ n. header_size e + n) (tree_draft-size e es p)
+unit_long e es t p table = ap (λ n. header_size e + n) (tree_draft-size e es t p)

@@ -13,10 +13,9 @@ use Rattle.dw_writer.specs.Drafts.{Info, then_draft, started}
 use Rattle.dw_entries.specs.Targets.{targets_in}
 use Rattle.dw_entries.specs.Tree.{preorder}
 use Rattle.dw_unit.specs.Built.{Numbered, placement_read, places_read, unit_offsets_read, offsets_read, info_read, IsBuilt, AreBuilt, Starts, unit_size, past_unit, past_units}
-use Rattle.dw_unit.specs.Pending.{Kept, draft_of, units_draft, tables_of, past_kept, kept_offsets, kept_at, info_of, Stands, AreInRow}
+use Rattle.dw_unit.specs.Pending.{Kept, draft_at, units_draft, tables_of, past_kept, kept_offsets, kept_at, info_of, StandsAt, AreInRow}
 use Rattle.dw_unit.specs.Places.{Offsets, found, targets_of, in_info}
 use Rattle.dw_unit.specs.Read.{read_tree}
-use Rattle.dw_unit.specs.UnitValue.{UnitValue}
 use Rattle.dw_unit.specs.Whole.{tree_size, tree_table}
 use Rattle.dw_unit.proofs.ReadMarks.{tree_draft-size}
 use Rattle.dw_unit.proofs.ReadPlaces.{marks-rows_of, placement-read}
@@ -29,20 +28,20 @@ moved_place from start (Some n) = ap Some (let k : (from + start) + n ≡ from +
 
 module _ (big : Bool) (l : Layout) (info : Info) where
   -- the entries of a unit are read where they stand
-  unit_places : (at : Starts) (u : UnitValue) (k : Kept) (r : ReadUnit) → Stands at u.encoding u.entries k → IsReadAs big l info u k r → k.places ≡ places_read u r
+  unit_places : (at : Starts) (u : Numbered) (k : Kept) (r : ReadUnit) → StandsAt at u k → IsReadAs big l info u k r → k.places ≡ places_read u.unit r
   unit_places at u k r s h =
-      placement-read big u.encoding u.entries k.places l info h.marks s.placed h.read ∙ ap (λ q. placement_read (preorder u.entries) q.rows) (sym h.is)
+      placement-read big u.unit.encoding u.unit.entries u.tables k.places l info h.marks s.placed h.read ∙ ap (λ q. placement_read (preorder u.unit.entries) q.rows) (sym h.is)
 
   -- and the unit has as many bytes as is read
-  unit_long : (at : Starts) (u : UnitValue) (k : Kept) (r : ReadUnit) → Stands at u.encoding u.entries k → IsReadAs big l info u k r → unit_size u r ≡ (draft_of u.encoding u.entries k).size
+  unit_long : (at : Starts) (u : Numbered) (k : Kept) (r : ReadUnit) → StandsAt at u k → IsReadAs big l info u k r → unit_size u.unit r ≡ (draft_at u k).size
   unfolding then_draft
   unit_long at u k r s h =
-      ap (λ p. header_size u.encoding + tree_size u.encoding u.entries p.place) (sym (unit_places at u k r s h))
-      ∙ ap (λ n. header_size u.encoding + n) (sym (tree_draft-size u.encoding u.entries k.places))
+      ap (λ p. header_size u.unit.encoding + tree_size u.unit.encoding u.unit.entries p.place) (sym (unit_places at u k r s h))
+      ∙ ap (λ n. header_size u.unit.encoding + n) (sym (tree_draft-size u.unit.encoding u.unit.entries u.tables k.places))
 
   -- the offsets of the unit that has a number are those that are read
-  offsets_are : (at : Starts) (u : UnitValue) (k : Kept) (r : ReadUnit) → Stands at u.encoding u.entries k → IsReadAs big l info u k r → (i : ℕ) →
-      in_info (unit_offsets_read u r) i ≡ option_map (λ n. n + start_of l DebugInfo) (in_info (kept_offsets k) i)
+  offsets_are : (at : Starts) (u : Numbered) (k : Kept) (r : ReadUnit) → StandsAt at u k → IsReadAs big l info u k r → (i : ℕ) →
+      in_info (unit_offsets_read u.unit r) i ≡ option_map (λ n. n + start_of l DebugInfo) (in_info (kept_offsets k) i)
   offsets_are at u k r s h i =
       let start = start_of l DebugInfo in
       ap (λ p. option_map (λ n. r.from + n) (found p.place i)) (sym (unit_places at u k r s h))
@@ -63,18 +62,20 @@ module _ (big : Bool) (l : Layout) (info : Info) where
   info_is at (u ∷ us) (k ∷ ks) [] row h n i = absurd h
   info_is at (u ∷ us) (k ∷ ks) (r ∷ rs) row h n i =
       by_number (u.id == n) (unit_offsets_read u.unit r) (kept_offsets k) (offsets_read us rs n) (kept_at us ks n) (start_of l DebugInfo) i
-      (offsets_are at u.unit k r row.0 h.0 i) (info_is (past_kept at u.unit k) us ks rs row.1 h.1 n i)
+      (offsets_are at u k r row.0 h.0 i) (info_is (past_kept at u k) us ks rs row.1 h.1 n i)
 
   module _ (all : List Numbered) (rs : List ReadUnit) (same : info ≡ info_read all rs) where
-    built_one : (at : Starts) (u : UnitValue) (k : Kept) (r : ReadUnit) → Stands at u.encoding u.entries k → IsReadAs big l info u k r → IsBuilt big l all rs u r
+    built_one : (at : Starts) (u : Numbered) (k : Kept) (r : ReadUnit) → StandsAt at u k → IsReadAs big l info u k r → IsBuilt big l all rs u r
     built_one at u k r s h =
-        let e = u.encoding in
+        let e = u.unit.encoding in
+        let t = u.tables in
+        let es = u.unit.entries in
         record {
           encoding = ap (λ q. q.header.encoding) h.is;
           unit_type = ap (λ q. q.header.unit_type) h.is;
           entries =
-              ap (λ p. read_tree big e (targets_in (targets_of p) l (info_read all rs)) u.entries) (sym (unit_places at u k r s h))
-              ∙ ap (λ f. read_tree big e (targets_in (targets_of k.places) l f) u.entries) (sym same)
+              ap (λ p. read_tree big e (targets_in (targets_of t p) l (info_read all rs)) es) (sym (unit_places at u k r s h))
+              ∙ ap (λ f. read_tree big e (targets_in (targets_of t k.places) l f) es) (sym same)
               ∙ h.read
               ∙ ap Some (sym (ap (λ q. map (λ (row : Row). row.mark) q.rows) h.is ∙ marks-rows_of big e (header_size e) 0 h.marks));
           declarations = ap (λ q. q.table) h.is;
@@ -89,13 +90,13 @@ module _ (big : Bool) (l : Layout) (info : Info) where
     built_all at place (u ∷ us) (k ∷ ks) [] row h here tables_here = absurd h
     built_all at place (u ∷ us) (k ∷ ks) (r ∷ more) row h here tables_here =
         let s = row.0 in
-        let long = unit_long at u.unit k r s h.0 in (
-          built_one at u.unit k r s h.0,
+        let long = unit_long at u k r s h.0 in (
+          built_one at u k r s h.0,
           record {
             unit = ap (λ q. q.from) h.0.is ∙ omega (arith, here, ap (λ p. p.info) s.starts);
             table = ap (λ q. q.header.table_offset) h.0.is ∙ omega (arith, tables_here, ap (λ p. p.abbrevs) s.starts);
           },
-          built_all (past_kept at u.unit k) (past_unit place u.unit r) us ks more row.1 h.1 (omega (arith, here, long)) (omega (arith, tables_here)),
+          built_all (past_kept at u k) (past_unit place u.unit r) us ks more row.1 h.1 (omega (arith, here, long)) (omega (arith, tables_here)),
         )
 
   -- where units that are read end
@@ -108,8 +109,8 @@ module _ (big : Bool) (l : Layout) (info : Info) where
   past_is at place (u ∷ us) [] rs row h = absurd row
   past_is at place (u ∷ us) (k ∷ ks) [] row h = absurd h
   past_is at place (u ∷ us) (k ∷ ks) (r ∷ rs) row h =
-      let more = past_is (past_kept at u.unit k) (past_unit place u.unit r) us ks rs row.1 h.1 in
-      (omega (arith, more.0, unit_long at u.unit k r row.0 h.0), omega (arith, more.1, length-append (tree_table u.unit.encoding u.unit.entries) (tables_of us)))
+      let more = past_is (past_kept at u k) (past_unit place u.unit r) us ks rs row.1 h.1 in
+      (omega (arith, more.0, unit_long at u k r row.0 h.0), omega (arith, more.1, length-append (tree_table u.unit.encoding u.unit.entries) (tables_of us)))
 
 -- Units whose references hold the places that were kept are built where they are read.
 pub units_built : (big : Bool) (l : Layout) (at place : Starts) (us : List Numbered) (ks : List Kept) (rs : List ReadUnit) → AreInRow at us ks →

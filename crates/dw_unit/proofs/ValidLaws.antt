@@ -9,8 +9,9 @@ use Rattle.dw_base.specs.declared.error.Error.TheVariants as errors
 use Rattle.dw_writer.specs.Causes.{offset_fits}
 use Rattle.dw_entries.specs.Entries.{EntryValue}
 use Rattle.dw_entries.specs.Tree.{preorder}
+use Rattle.dw_entries.specs.Targets.{Tables}
 use Rattle.dw_unit.specs.Causes.{TreeFails, UnitFails}
-use Rattle.dw_unit.specs.Places.{Placement, found, targets_of}
+use Rattle.dw_unit.specs.Places.{Placement, targets_of}
 use Rattle.dw_unit.specs.UnitFaults.{is_version, is_encodable, encoding_fails, fields_fail, header_fails, marks_fail, unit_fails}
 use Rattle.dw_unit.specs.UnitText.{tree_draft, unit_length}
 use Rattle.dw_unit.specs.UnitValue.{UnitValue}
@@ -44,29 +45,29 @@ encoding_sound e (errors.UnsupportedWordSize n) h k =
     not_true (is_width n) (ap is_width (eqb-true n e.address_size parts.0) ∙ (and_parts (is_version e.version) (is_width e.address_size) h).1) parts.1
 encoding_sound e err h k = absurd (let x : false ≡ true = k in cc)
 
-module _ (plain : Bool) (e : Encoding) (es : List EntryValue) (table : ℕ) (room : IsTrue (offset_fits plain (word_of e.format) table)) where
+module _ (plain : Bool) (e : Encoding) (es : List EntryValue) (t : Tables) (table : ℕ) (room : IsTrue (offset_fits plain (word_of e.format) table)) where
   -- a tree that can be written has no fault where its entries stand
-  sound_there : (w : IsWritableTree plain e es) (p : Placement) → w.places ≡ p → (err : Error) → IsFalse (unit_fails e es table (targets_of p) plain err)
+  sound_there : (w : IsWritableTree plain e es t) (p : Placement) → w.places ≡ p → (err : Error) → IsFalse (unit_fails e es table (targets_of t p) plain err)
   sound_there w p same err =
       let at = w.places in
-      let fits = ap (λ n. length_fits e.format (unit_length e n)) (tree_draft-size e es at) ∙ w.fits in
-      let here = neither (header_fails e table plain (unit_length e (tree_draft e es (targets_of at)).size) err) (marks_fail e es (found at.place) plain (preorder es) err)
-      (header_sound e table plain (unit_length e (tree_draft e es (targets_of at)).size) (fields_sound e table plain room) fits err) (w.sound err) in
-      subst (λ q. IsFalse (unit_fails e es table (targets_of q) plain err)) same here
+      let fits = ap (λ n. length_fits e.format (unit_length e n)) (tree_draft-size e es t at) ∙ w.fits in
+      let here = neither (header_fails e table plain (unit_length e (tree_draft e es (targets_of t at)).size) err) (marks_fail e es (targets_of t at) plain (preorder es) err)
+      (header_sound e table plain (unit_length e (tree_draft e es (targets_of t at)).size) (fields_sound e table plain room) fits err) (w.sound err) in
+      subst (λ q. IsFalse (unit_fails e es table (targets_of t q) plain err)) same here
 
-  pub tree_unfailing : IsWritableTree plain e es → (err : Error) → TreeFails e es table plain err → ⊥
+  pub tree_unfailing : IsWritableTree plain e es t → (err : Error) → TreeFails e es t table plain err → ⊥
   tree_unfailing w err fails = by_case fails
     where
-      by_case : TreeFails e es table plain err → ⊥
+      by_case : TreeFails e es t table plain err → ⊥
       by_case (inl full) = room_enough e es w.places w.placed w.room full.1
       by_case (inr f) =
-          not_both (unit_fails e es table (targets_of f.places) plain err) f.fails
+          not_both (unit_fails e es table (targets_of t f.places) plain err) f.fails
           (sound_there w f.places (placement-same w.places f.places (one_placement e es w.places f.places w.placed f.placed)) err)
 
 -- A unit that can be written, and whose table's place has room, has no cause to be refused.
-pub unit_unfailing : (plain : Bool) (u : UnitValue) (table : ℕ) → IsTrue (offset_fits plain (word_of u.encoding.format) table) → IsWritable plain u → (err : Error) → UnitFails u table plain err → ⊥
-unit_unfailing plain u table room w err fails = by_case fails
+pub unit_unfailing : (plain : Bool) (t : Tables) (u : UnitValue) (table : ℕ) → IsTrue (offset_fits plain (word_of u.encoding.format) table) → IsWritable plain t u → (err : Error) → UnitFails u t table plain err → ⊥
+unit_unfailing plain t u table room w err fails = by_case fails
   where
-    by_case : UnitFails u table plain err → ⊥
+    by_case : UnitFails u t table plain err → ⊥
     by_case (inl h) = encoding_sound u.encoding err w.encodable h
-    by_case (inr h) = tree_unfailing plain u.encoding (settled u).entries table room w err h
+    by_case (inr h) = tree_unfailing plain u.encoding (settled u).entries t table room w err h

@@ -14,6 +14,7 @@ use Rattle.dw_entries.specs.declared.attribute.Attribute.{Attribute}
 use Rattle.dw_entries.specs.declared.value.AttributeValue.{AttributeValue}
 use Rattle.dw_entries.specs.declared.value.AttributeValue.TheVariants as values
 use Rattle.dw_entries.specs.Entries.{EntryValue, entry_at}
+use Rattle.dw_entries.specs.Targets.{Tables}
 use Rattle.dw_entries.specs.Tree.{preorder}
 use Rattle.dw_unit.specs.Built.{Numbered}
 use Rattle.dw_unit.specs.Causes.{Because, UnitFails}
@@ -45,22 +46,22 @@ abbrev pub has_info_reference : UnitValue → Bool
 has_info_reference u = tree_refers (settled u).entries
 
 -- a unit as the only one of its file
-abbrev pub only_unit : UnitValue → List Numbered
-only_unit u = record { id = 0; unit = u } ∷ []
+abbrev pub only_unit : Tables → UnitValue → List Numbered
+only_unit t u = record { id = 0; unit = u; tables = t } ∷ []
 
 -- The unit stands at the end of .debug_info, and its table at the end of .debug_abbrev. It keeps where its entries stand. No
 -- place in it is open, so it is the same wherever entries stand.
-pub record AppendsAlone {W : Type 0} (meaning : W → Meaning) (old new : Sections W) (u : UnitValue) (offsets : Option OffsetsValue) : Type 0 where
+pub record AppendsAlone {W : Type 0} (meaning : W → Meaning) (old new : Sections W) (u : UnitValue) (t : Tables) (offsets : Option OffsetsValue) : Type 0 where
   pub kept : Kept
-  pub appends : (info : Info) → AppendsUnits meaning old new info (only_unit u) (kept ∷ [])
-  pub closed : (units_draft (only_unit u) (kept ∷ [])).holes ≡ []
+  pub appends : (info : Info) → AppendsUnits meaning old new info (only_unit t u) (kept ∷ [])
+  pub closed : (units_draft (only_unit t u) (kept ∷ [])).holes ≡ []
   pub offsets_are : option_map offsets_in offsets ≡ Some (kept_offsets kept)
 
 -- a unit fails by itself, or names an entry by its place in .debug_info
-abbrev pub AloneFails : UnitValue → ℕ → Bool → Error → Type 0
-AloneFails u table is_plain err = UnitFails u table is_plain err ⊎ ((err ≡ errors.InvalidReference) × IsTrue (has_info_reference u))
+abbrev pub AloneFails : UnitValue → Tables → ℕ → Bool → Error → Type 0
+AloneFails u t table is_plain err = UnitFails u t table is_plain err ⊎ ((err ≡ errors.InvalidReference) × IsTrue (has_info_reference u))
 
 -- why a unit alone is refused
-abbrev pub AloneRefused : {W : Type 0} → (W → Meaning) → Sections W → Sections W → UnitValue → Error → Type 0
-AloneRefused meaning old new u err =
-    Because (SomeHasRisen meaning old new) (AloneFails u (meaning old.debug_abbrev.0).size (meaning old.debug_info.0).is_plain) err
+abbrev pub AloneRefused : {W : Type 0} → (W → Meaning) → Sections W → Sections W → UnitValue → Tables → Error → Type 0
+AloneRefused meaning old new u t err =
+    Because (SomeHasRisen meaning old new) (AloneFails u t (meaning old.debug_abbrev.0).size (meaning old.debug_info.0).is_plain) err

@@ -5,7 +5,7 @@ use Rattle.dw_base.specs.Info.{ReadUnit, read_info}
 use Rattle.dw_base.specs.Spelling.{header_size, unit_type_of}
 use Rattle.dw_writer.specs.Layout.{Layout}
 use Rattle.dw_writer.specs.Drafts.{Info}
-use Rattle.dw_entries.specs.Targets.{Targets, targets_in}
+use Rattle.dw_entries.specs.Targets.{Tables, Targets, targets_in}
 use Rattle.dw_entries.specs.Tree.{preorder}
 use Rattle.dw_unit.specs.Places.{Placement, Offsets, found, targets_of, info_from}
 use Rattle.dw_unit.specs.Read.{read_tree}
@@ -33,18 +33,19 @@ placement_read ms rows = record { place = place_read ms rows; past = past_read m
 abbrev pub places_read : UnitValue → ReadUnit → Placement
 places_read u r = placement_read (preorder u.entries) r.rows
 
--- a unit, and the number by which references name it
+-- A unit, the number by which references name it, and where what stands for it in other sections has its places.
 pub record Numbered : Type 0 where
   pub id : ℕ
   pub unit : UnitValue
+  pub tables : Tables
 
 -- units in the order of their numbers, the first of which has this one
-abbrev pub numbered_from : ℕ → List UnitValue → List Numbered
-numbered_from n [] = []
-numbered_from n (u ∷ us) = record { id = n; unit = u } ∷ numbered_from (suc n) us
+abbrev pub numbered_from : ℕ → Tables → List UnitValue → List Numbered
+numbered_from n t [] = []
+numbered_from n t (u ∷ us) = record { id = n; unit = u; tables = t } ∷ numbered_from (suc n) t us
 
-abbrev pub numbered : List UnitValue → List Numbered
-numbered us = numbered_from 0 us
+abbrev pub numbered : Tables → List UnitValue → List Numbered
+numbered t us = numbered_from 0 t us
 
 -- where the entries of a unit are read
 abbrev pub unit_offsets_read : UnitValue → ReadUnit → Offsets
@@ -61,19 +62,19 @@ abbrev pub info_read : List Numbered → List ReadUnit → Info
 info_read us rs = info_from (offsets_read us rs)
 
 -- what the operands of a unit lead to that is read among those of its file
-abbrev pub targets_read : List Numbered → List ReadUnit → Layout → UnitValue → ReadUnit → Targets
-targets_read us rs l u r = targets_in (targets_of (places_read u r)) l (info_read us rs)
+abbrev pub targets_read : List Numbered → List ReadUnit → Layout → Numbered → ReadUnit → Targets
+targets_read us rs l u r = targets_in (targets_of u.tables (places_read u.unit r)) l (info_read us rs)
 
 -- A unit that is read has the encoding that was built, and in version 5 the type of a compile unit. Its entries are the
 -- tree's, in preorder, with a closing zero behind each list of children that isn't empty: tags, names, forms and operands are
 -- those of the entries, and each code stands for the entry's shape. A reference holds the place where its entry is read, and
 -- a sibling attribute, which stands first, the place past its own entry. Its table declares the shapes, each once, in the
 -- order in which each first comes, with the codes 1, 2, 3 and so on.
-pub record IsBuilt (big : Bool) (l : Layout) (us : List Numbered) (rs : List ReadUnit) (u : UnitValue) (r : ReadUnit) : Type 0 where
-  pub encoding : r.header.encoding ≡ u.encoding
-  pub unit_type : r.header.unit_type ≡ unit_type_of u.encoding.version
-  pub entries : read_tree big u.encoding (targets_read us rs l u r) u.entries ≡ Some (map (λ row. row.mark) r.rows)
-  pub declarations : r.table ≡ tree_declared u.encoding u.entries
+pub record IsBuilt (big : Bool) (l : Layout) (us : List Numbered) (rs : List ReadUnit) (u : Numbered) (r : ReadUnit) : Type 0 where
+  pub encoding : r.header.encoding ≡ u.unit.encoding
+  pub unit_type : r.header.unit_type ≡ unit_type_of u.unit.encoding.version
+  pub entries : read_tree big u.unit.encoding (targets_read us rs l u r) u.unit.entries ≡ Some (map (λ row. row.mark) r.rows)
+  pub declarations : r.table ≡ tree_declared u.unit.encoding u.unit.entries
 
 -- the bytes of a unit that is read, and of its table, in the shortest spelling
 abbrev pub unit_size : UnitValue → ReadUnit → ℕ
@@ -103,7 +104,7 @@ module _ (big : Bool) (l : Layout) (us : List Numbered) (rs : List ReadUnit) whe
   AreBuilt at [] [] = Unit {0}
   AreBuilt at [] (r ∷ more) = ⊥
   AreBuilt at (u ∷ others) [] = ⊥
-  AreBuilt at (u ∷ others) (r ∷ more) = IsBuilt big l us rs u.unit r × BeginsAt at r × AreBuilt (past_unit at u.unit r) others more
+  AreBuilt at (u ∷ others) (r ∷ more) = IsBuilt big l us rs u r × BeginsAt at r × AreBuilt (past_unit at u.unit r) others more
 
 -- where as many units and their tables end
 abbrev pub past_units : Starts → List Numbered → List ReadUnit → Starts
@@ -141,5 +142,5 @@ abbrev pub at_zero : Layout
 at_zero = record { starts = []; own_start = 0; symbols = [] }
 
 -- one file whose sections are whole, as a plain writer holds them
-abbrev pub whole_file : List UnitValue → File
-whole_file us = record { units = numbered us; layout = at_zero }
+abbrev pub whole_file : Tables → List UnitValue → File
+whole_file t us = record { units = numbered t us; layout = at_zero }

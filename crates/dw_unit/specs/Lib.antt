@@ -4,6 +4,9 @@ pub mod Shapes
 pub mod Coded
 pub mod DistinctShapes
 pub mod Places
+pub mod Strings
+pub mod TargetsAt
+pub mod UnitIds
 pub mod Laid
 pub mod Laying
 pub mod Whole

@@ -12,7 +12,7 @@ use Rattle.dw_writer.specs.declared.sections.Sections.{Sections}
 use Rattle.dw_writer.specs.Drafts.{Draft, Info, no_draft, then_draft, filled_text, IsDraft, Drafts}
 use Rattle.dw_entries.specs.declared.attribute.Attribute.{Attribute}
 use Rattle.dw_entries.specs.Entries.{EntryValue, entry_at}
-use Rattle.dw_entries.specs.Targets.{HaveInfoPlaces}
+use Rattle.dw_entries.specs.Targets.{Tables, HaveInfoPlaces}
 use Rattle.dw_entries.specs.Tree.{preorder, children_in}
 use Rattle.dw_entries.specs.Values.{IsRanged}
 use Rattle.dw_unit.specs.Built.{Numbered, Starts, table_size, at_zero}
@@ -33,18 +33,21 @@ abbrev pub kept_in : Starts → Places → Kept
 kept_in at p = record { starts = at; places = placement_of p }
 
 -- a unit of these entries, as it is written there
-abbrev pub draft_of : Encoding → List EntryValue → Kept → Draft
-draft_of e es k = unit_draft e k.starts.abbrevs (tree_draft e es (targets_of k.places))
+abbrev pub draft_of : Encoding → List EntryValue → Tables → Kept → Draft
+draft_of e es t k = unit_draft e k.starts.abbrevs (tree_draft e es (targets_of t k.places))
+
+abbrev pub draft_at : Numbered → Kept → Draft
+draft_at u k = draft_of u.unit.encoding u.unit.entries u.tables k
 
 -- behind such a unit and its table
-abbrev pub past_kept : Starts → UnitValue → Kept → Starts
-past_kept at u k = record { info = at.info + (draft_of u.encoding u.entries k).size; abbrevs = at.abbrevs + table_size u }
+abbrev pub past_kept : Starts → Numbered → Kept → Starts
+past_kept at u k = record { info = at.info + (draft_at u k).size; abbrevs = at.abbrevs + table_size u.unit }
 
 -- units one behind another
 abbrev pub units_draft : List Numbered → List Kept → Draft
 units_draft [] ks = no_draft
 units_draft (u ∷ us) [] = no_draft
-units_draft (u ∷ us) (k ∷ ks) = then_draft (draft_of u.unit.encoding u.unit.entries k) (units_draft us ks)
+units_draft (u ∷ us) (k ∷ ks) = then_draft (draft_at u k) (units_draft us ks)
 
 -- the tables of units, one behind another
 abbrev pub tables_of : List Numbered → List ℕ
@@ -92,23 +95,26 @@ AreMarksRanged e es ms = All (IsMarkRanged e es) ms
 
 -- A unit begins at a place, its entries stand where their sizes put them, and all that its text doesn't tell has a spelling:
 -- encoding, length, numbers, what its table declares. The entries are one tree.
-pub record Stands (at : Starts) (e : Encoding) (es : List EntryValue) (k : Kept) : Type 0 where
+pub record Stands (at : Starts) (e : Encoding) (es : List EntryValue) (t : Tables) (k : Kept) : Type 0 where
   pub starts : k.starts ≡ at
   pub placed : IsTreePlacement e es k.places
-  pub draft : IsDraft (draft_of e es k)
+  pub draft : IsDraft (draft_of e es t k)
   pub encodable : IsTrue (is_encodable e)
-  pub fits : IsTrue (length_fits e.format (unit_length e (tree_draft e es (targets_of k.places)).size))
+  pub fits : IsTrue (length_fits e.format (unit_length e (tree_draft e es (targets_of t k.places)).size))
   pub ranged : AreMarksRanged e es (preorder es)
   pub declared : AreDeclarations (tree_declared e es)
   pub few : length (preorder es) < 2 ^ 64
   pub tree : IsTrue (is_one_tree (map (children_in es) (preorder es)))
+
+abbrev pub StandsAt : Starts → Numbered → Kept → Type 0
+StandsAt at u k = Stands at u.unit.encoding u.unit.entries u.tables k
 
 -- each unit begins where the one before it ends, and its table
 abbrev pub AreInRow : Starts → List Numbered → List Kept → Type 0
 AreInRow at [] [] = Unit {0}
 AreInRow at [] (k ∷ ks) = ⊥
 AreInRow at (u ∷ us) [] = ⊥
-AreInRow at (u ∷ us) (k ∷ ks) = Stands at u.unit.encoding u.unit.entries k × AreInRow (past_kept at u.unit k) us ks
+AreInRow at (u ∷ us) (k ∷ ks) = StandsAt at u k × AreInRow (past_kept at u k) us ks
 
 -- where the next unit and its table are to begin
 abbrev pub starts_of : {W : Type 0} → (W → Meaning) → Sections W → Starts
@@ -120,16 +126,16 @@ IsThereFilled d = (info : Info) → HaveInfoPlaces info d.holes → (big : Bool)
 
 -- A unit of these entries is added with its table, and its references across units are left open. Over a plain writer each
 -- number of it fits, so its text is there.
-pub record PendsTree {W : Type 0} (meaning : W → Meaning) (old new : Sections W) (e : Encoding) (es : List EntryValue) (kept : Kept) : Type 0 where
-  pub stands : Stands (starts_of meaning old) e es kept
-  pub unit : Drafts (meaning old.debug_info.0) (meaning new.debug_info.0) old.debug_info_fixups new.debug_info_fixups (draft_of e es kept)
+pub record PendsTree {W : Type 0} (meaning : W → Meaning) (old new : Sections W) (e : Encoding) (es : List EntryValue) (t : Tables) (kept : Kept) : Type 0 where
+  pub stands : Stands (starts_of meaning old) e es t kept
+  pub unit : Drafts (meaning old.debug_info.0) (meaning new.debug_info.0) old.debug_info_fixups new.debug_info_fixups (draft_of e es t kept)
   pub table : Adds (meaning old.debug_abbrev.0) (meaning new.debug_abbrev.0) (tree_table e es)
-  pub there : (meaning old.debug_info.0).is_plain ≡ true → IsThereFilled (draft_of e es kept)
+  pub there : (meaning old.debug_info.0).is_plain ≡ true → IsThereFilled (draft_of e es t kept)
 
 -- the same of a unit, which keeps where its entries stand
-pub record PendsUnit {W : Type 0} (meaning : W → Meaning) (old new : Sections W) (u : UnitValue) (offsets : Option OffsetsValue) : Type 0 where
+pub record PendsUnit {W : Type 0} (meaning : W → Meaning) (old new : Sections W) (u : UnitValue) (t : Tables) (offsets : Option OffsetsValue) : Type 0 where
   pub kept : Kept
-  pub tree : PendsTree meaning old new u.encoding u.entries kept
+  pub tree : PendsTree meaning old new u.encoding u.entries t kept
   pub offsets_are : option_map offsets_in offsets ≡ Some (kept_offsets kept)
 
 -- Units that were written since some sections were handed in stand behind these, in a row, each with the places that it
@@ -141,10 +147,10 @@ pub record Pending {W : Type 0} (meaning : W → Meaning) (old new : Sections W)
   pub there : (meaning old.debug_info.0).is_plain ≡ true → IsThereFilled (units_draft us kept)
 
 -- whatever units are pending, this one is pending behind them
-abbrev pub ExtendsPending : {W : Type 0} → (W → Meaning) → Sections W → Sections W → UnitValue → Option OffsetsValue → Type 0
-ExtendsPending {W} meaning old new u offsets =
+abbrev pub ExtendsPending : {W : Type 0} → (W → Meaning) → Sections W → Sections W → UnitValue → Tables → Option OffsetsValue → Type 0
+ExtendsPending {W} meaning old new u t offsets =
     (before : Sections W) (us : List Numbered) (ks : List Kept) (id : ℕ) → Pending meaning before old us ks →
-    (k : Kept) × (option_map offsets_in offsets ≡ Some (kept_offsets k)) × Pending meaning before new (us ++ record { id = id; unit = u } ∷ []) (ks ++ k ∷ [])
+    (k : Kept) × (option_map offsets_in offsets ≡ Some (kept_offsets k)) × Pending meaning before new (us ++ record { id = id; unit = u; tables = t } ∷ []) (ks ++ k ∷ [])
 
 -- Units are added whose tables begin at a place: in every layout they resolve to their text, in which each reference across
 -- units has the place of its entry. Over a plain writer the text is there.

@@ -4,7 +4,7 @@ use Rattle.std.specs.Option.{option_map}
 use Rattle.dw_base.specs.Numbers.{◌>>=◌, word_of, fits}
 use Rattle.dw_base.specs.declared.common.Format.{Format}
 use Rattle.dw_writer.specs.Drafts.{Info}
-use Rattle.dw_entries.specs.Targets.{UnitTargets}
+use Rattle.dw_entries.specs.Targets.{Tables, UnitTargets}
 use Rattle.dw_unit.specs.declared.places.Places.{Places}
 
 -- Where each entry stands in its unit, and the place past it: behind the zero that closes its children, or behind itself
@@ -21,17 +21,13 @@ has_place p i = not (p.place i == 0)
 abbrev pub found : (ℕ → ℕ) → ℕ → Option ℕ
 found place i = if place i == 0 then None else Some (place i)
 
--- what the operands of a unit lead to whose entries stand there
-abbrev pub targets_of : Placement → UnitTargets
-targets_of p = record { place = found p.place; past = p.past }
+-- what the operands of a unit lead to whose entries stand there, and what has its tables there
+abbrev pub targets_of : Tables → Placement → UnitTargets
+targets_of t p = record { place = found p.place; past = p.past; tables = t }
 
 -- the places that the code keeps, each under its entry's index
 abbrev pub placement_of : Places → Placement
 placement_of p = record { place = slice_index p.places.items; past = slice_index p.pasts.items }
-
--- and what a unit's operands lead to there
-abbrev pub targets_at : Places → UnitTargets
-targets_at p = targets_of (placement_of p)
 
 -- each place fits a word
 abbrev pub FitsWords : Format → Placement → Type 0

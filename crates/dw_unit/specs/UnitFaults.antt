@@ -30,16 +30,16 @@ encoding_fails e (errors.UnsupportedVersion v) = (v == e.version) && not (is_ver
 encoding_fails e (errors.UnsupportedWordSize n) = (n == e.address_size) && not (is_width n)
 encoding_fails e err = false
 
--- a value of an entry has a fault, where entries have these places
-abbrev pub attributes_fail : Encoding → (ℕ → Option ℕ) → Bool → List Attribute → Error → Bool
-attributes_fail e place is_plain xs err = list_any (λ a. value_fails e place is_plain a.value err) xs
+-- a value of an entry has a fault, where operands lead to these targets
+abbrev pub attributes_fail : Encoding → UnitTargets → Bool → List Attribute → Error → Bool
+attributes_fail e u is_plain xs err = list_any (λ a. value_fails e u is_plain a.value err) xs
 
-abbrev pub mark_fails : Encoding → List EntryValue → (ℕ → Option ℕ) → Bool → Mark ℕ → Error → Bool
-mark_fails e es place is_plain (Open i) err = attributes_fail e place is_plain (entry_at es i).attributes err
-mark_fails e es place is_plain Null err = false
+abbrev pub mark_fails : Encoding → List EntryValue → UnitTargets → Bool → Mark ℕ → Error → Bool
+mark_fails e es u is_plain (Open i) err = attributes_fail e u is_plain (entry_at es i).attributes err
+mark_fails e es u is_plain Null err = false
 
-abbrev pub marks_fail : Encoding → List EntryValue → (ℕ → Option ℕ) → Bool → List (Mark ℕ) → Error → Bool
-marks_fail e es place is_plain ms err = list_any (λ m. mark_fails e es place is_plain m err) ms
+abbrev pub marks_fail : Encoding → List EntryValue → UnitTargets → Bool → List (Mark ℕ) → Error → Bool
+marks_fail e es u is_plain ms err = list_any (λ m. mark_fails e es u is_plain m err) ms
 
 -- the place of the table has no room in a word
 abbrev pub fields_fail : Encoding → ℕ → Bool → Error → Bool
@@ -54,7 +54,7 @@ header_fails e table is_plain length err = fields_fail e table is_plain err
 -- a unit whose table is to stand at a place has this fault
 abbrev pub unit_fails : Encoding → List EntryValue → ℕ → UnitTargets → Bool → Error → Bool
 unit_fails e es table u is_plain err =
-    header_fails e table is_plain (unit_length e (tree_draft e es u).size) err || marks_fail e es u.place is_plain (preorder es) err
+    header_fails e table is_plain (unit_length e (tree_draft e es u).size) err || marks_fail e es u is_plain (preorder es) err
 
 -- a place has no room in so many bytes of a writer
 abbrev pub has_no_room : Bool → ℕ → Option ℕ → Bool

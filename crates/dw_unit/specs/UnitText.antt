@@ -1,6 +1,6 @@
 -- The text of a unit: a header, and entries with their codes, each with a zero behind its children (DWARF 5, 7.5.1 to 7.5.3).
-use Rattle.std.specs.Prelude.{ℕ, ◌+◌, List, [], ◌∷◌, length, map, None, ◌==◌, if◌then◌else◌}
-use Rattle.dw_base.specs.Numbers.{when, word_of, escape_of, length_fits}
+use Rattle.std.specs.Prelude.{ℕ, ◌+◌, List, [], ◌∷◌, length, map, Option, None, ◌==◌, if◌then◌else◌}
+use Rattle.dw_base.specs.Numbers.{◌>>=◌, when, word_of, escape_of, length_fits}
 use Rattle.dw_base.specs.Leb128.{uleb}
 use Rattle.dw_base.specs.Abbreviations.{Shape}
 use Rattle.dw_base.specs.Entries.{Mark, Open, Null}
@@ -10,6 +10,7 @@ use Rattle.dw_base.specs.declared.address.DebugInfoRef.TheVariants as refs
 use Rattle.dw_base.specs.declared.common.Encoding.{Encoding}
 use Rattle.dw_base.specs.declared.common.Format.{Format}
 use Rattle.dw_base.specs.declared.constants.TheConstants.{DW_UT_compile}
+use Rattle.dw_base.specs.declared.section_id.SectionId.{SectionId}
 use Rattle.dw_base.specs.declared.section_id.SectionId.TheVariants.{DebugAbbrev}
 use Rattle.dw_writer.specs.Texts.{num_text}
 use Rattle.dw_writer.specs.Meaning.{Model}
@@ -48,6 +49,10 @@ unit_length e size = fields_size e + size
 -- a header whose table stands at a place, before so many bytes of entries
 unfoldable pub header_text : Encoding → ℕ → ℕ → Model
 header_text e table size = after (bytes_text (escape_of e.format)) (after (length_text e.format (unit_length e size)) (fields_text e table))
+
+-- the place of what a table has, counted from where its section starts
+abbrev pub table_text : ℕ → SectionId → Option ℕ → Model
+table_text w section place big l = place >>= λ n. offset_text w section n big l
 
 -- the place of an entry in .debug_info, left open; an entry of another object has none
 abbrev pub info_draft : ℕ → InfoRef → Draft

@@ -11,11 +11,12 @@ ghost use Rattle.dw_entries.specs.Tree.{IsIn, AreIn, mark_of, marks};
 ghost use Rattle.dw_unit.specs.Causes.{Refused, Is};
 ghost use Rattle.dw_unit.specs.Coded.{shapes_of, code_at};
 ghost use Rattle.dw_unit.specs.Pending.{AreRanged, IsMarkRanged, AreMarksRanged};
-ghost use Rattle.dw_unit.specs.Places.{placement_of, targets_at, FitsWords};
+ghost use Rattle.dw_unit.specs.Places.{FitsWords};
+ghost use Rattle.dw_unit.specs.TargetsAt.{placement_at, targets_at};
 ghost use Rattle.dw_unit.specs.UnitFaults.{attributes_fail, mark_fails, marks_fail};
 ghost use Rattle.dw_unit.specs.UnitText.{sibling_draft, attributes_draft, entry_draft, mark_draft, marks_draft};
 
-use crate::places::Places;
+use crate::targets::Targets;
 use crate::value::write_value;
 use dw_base::{Encoding, Result};
 use dw_entries::{Attribute, DebuggingInformationEntry, Item};
@@ -25,27 +26,27 @@ use dw_writer::{FixupList, Writer};
 fn write_attributes<W: Writer>(
     encoding: Encoding,
     attributes: &[Attribute],
-    places: &Places,
+    targets: &Targets<'_>,
     w: &mut W,
     fixups: &mut FixupList,
 ) -> Result<()>
     requires width { IsTrue (is_width encoding.address_size) }
-    requires fit { FitsWords encoding.format (placement_of places.now) }
+    requires fit { FitsWords encoding.format (placement_at targets.now) }
     ensures ok { OnOk result
         (Drafts (W.meaning w.old) (W.meaning w.new) fixups.old fixups.new
-        (attributes_draft encoding (targets_at places.now) attributes.now)) }
+        (attributes_draft encoding (targets_at targets.now) attributes.now)) }
     ensures sound { OnOk result
-        ((e : AnError) → IsFalse (attributes_fail encoding (targets_at places.now).place
+        ((e : AnError) → IsFalse (attributes_fail encoding (targets_at targets.now)
         (W.meaning w.old).is_plain attributes.now e)) }
     ensures ranged { OnOk result (AreRanged encoding attributes.now) }
     ensures err { IfErr result
         (Refused (W.meaning w.old) (W.meaning w.new)
-        (Is (attributes_fail encoding (targets_at places.now).place (W.meaning w.old).is_plain
+        (Is (attributes_fail encoding (targets_at targets.now) (W.meaning w.old).is_plain
         attributes.now))) }
     ensures same { IsSameWriter (W.meaning w.old) (W.meaning w.new) }
 {
     for attribute in attributes {
-        write_value(encoding, places, attribute.get(), w, fixups)?;
+        write_value(encoding, targets, attribute.get(), w, fixups)?;
     }
     Ok(())
 }
@@ -76,28 +77,28 @@ fn write_entry<W: Writer>(
     entry: &DebuggingInformationEntry,
     index: usize,
     code: u64,
-    places: &Places,
+    targets: &Targets<'_>,
     w: &mut W,
     fixups: &mut FixupList,
 ) -> Result<()>
     requires width { IsTrue (is_width encoding.address_size) }
-    requires fit { FitsWords encoding.format (placement_of places.now) }
+    requires fit { FitsWords encoding.format (placement_at targets.now) }
     ensures ok { OnOk result
         (Drafts (W.meaning w.old) (W.meaning w.new) fixups.old fixups.new
-        (entry_draft encoding (targets_at places.now) code index entry.now)) }
+        (entry_draft encoding (targets_at targets.now) code index entry.now)) }
     ensures sound { OnOk result
-        ((e : AnError) → IsFalse (attributes_fail encoding (targets_at places.now).place
+        ((e : AnError) → IsFalse (attributes_fail encoding (targets_at targets.now)
         (W.meaning w.old).is_plain entry.now.attributes e)) }
     ensures ranged { OnOk result (AreRanged encoding entry.now.attributes) }
     ensures err { IfErr result
         (Refused (W.meaning w.old) (W.meaning w.new)
-        (Is (attributes_fail encoding (targets_at places.now).place (W.meaning w.old).is_plain
+        (Is (attributes_fail encoding (targets_at targets.now) (W.meaning w.old).is_plain
         entry.now.attributes))) }
     ensures same { IsSameWriter (W.meaning w.old) (W.meaning w.new) }
 {
     w.write_uleb128(code)?;
-    write_sibling(encoding, entry, places.past(index), w)?;
-    write_attributes(encoding, entry.attributes(), places, w, fixups)
+    write_sibling(encoding, entry, targets.places.past(index), w)?;
+    write_attributes(encoding, entry.attributes(), targets, w, fixups)
 }
 
 /// Writes an entry, or the zero that closes a list of children.
@@ -106,30 +107,30 @@ fn write_item<W: Writer>(
     entries: &[DebuggingInformationEntry],
     item: Item,
     code: u64,
-    places: &Places,
+    targets: &Targets<'_>,
     w: &mut W,
     fixups: &mut FixupList,
 ) -> Result<()>
     requires width { IsTrue (is_width encoding.address_size) }
     requires within { IsIn (length entries.now) (mark_of item) }
-    requires fit { FitsWords encoding.format (placement_of places.now) }
+    requires fit { FitsWords encoding.format (placement_at targets.now) }
     ensures ok { OnOk result
         (Drafts (W.meaning w.old) (W.meaning w.new) fixups.old fixups.new
-        (mark_draft encoding entries.now (targets_at places.now) code (mark_of item))) }
+        (mark_draft encoding entries.now (targets_at targets.now) code (mark_of item))) }
     ensures sound { OnOk result
-        ((e : AnError) → IsFalse (mark_fails encoding entries.now (targets_at places.now).place
+        ((e : AnError) → IsFalse (mark_fails encoding entries.now (targets_at targets.now)
         (W.meaning w.old).is_plain (mark_of item) e)) }
     ensures ranged { OnOk result (IsMarkRanged encoding entries.now (mark_of item)) }
     ensures err { IfErr result
         (Refused (W.meaning w.old) (W.meaning w.new)
-        (Is (mark_fails encoding entries.now (targets_at places.now).place
+        (Is (mark_fails encoding entries.now (targets_at targets.now)
         (W.meaning w.old).is_plain (mark_of item)))) }
     ensures same { IsSameWriter (W.meaning w.old) (W.meaning w.new) }
 {
     match item {
         Item::Open(index) => {
             let entry = &entries[index];
-            write_entry(encoding, entry, index, code, places, w, fixups)
+            write_entry(encoding, entry, index, code, targets, w, fixups)
         }
         Item::Null => w.write_u8(0),
     }
@@ -141,32 +142,32 @@ pub(crate) fn write_items<W: Writer>(
     entries: &[DebuggingInformationEntry],
     items: &[Item],
     codes: &[u64],
-    places: &Places,
+    targets: &Targets<'_>,
     w: &mut W,
     fixups: &mut FixupList,
 ) -> Result<()>
     requires width { IsTrue (is_width encoding.address_size) }
     requires within { AreIn (length entries.now) (marks items.now) }
-    requires fit { FitsWords encoding.format (placement_of places.now) }
+    requires fit { FitsWords encoding.format (placement_at targets.now) }
     requires codes { codes.now
         ≡ map (code_at encoding entries.now (shapes_of encoding entries.now [] (marks items.now)))
         (marks items.now) }
     ensures ok { OnOk result
         (Drafts (W.meaning w.old) (W.meaning w.new) fixups.old fixups.new
-        (marks_draft encoding entries.now (targets_at places.now)
+        (marks_draft encoding entries.now (targets_at targets.now)
         (shapes_of encoding entries.now [] (marks items.now)) (marks items.now))) }
     ensures sound { OnOk result
-        ((e : AnError) → IsFalse (marks_fail encoding entries.now (targets_at places.now).place
+        ((e : AnError) → IsFalse (marks_fail encoding entries.now (targets_at targets.now)
         (W.meaning w.old).is_plain (marks items.now) e)) }
     ensures ranged { OnOk result (AreMarksRanged encoding entries.now (marks items.now)) }
     ensures err { IfErr result
         (Refused (W.meaning w.old) (W.meaning w.new)
-        (Is (marks_fail encoding entries.now (targets_at places.now).place
+        (Is (marks_fail encoding entries.now (targets_at targets.now)
         (W.meaning w.old).is_plain (marks items.now)))) }
     ensures same { IsSameWriter (W.meaning w.old) (W.meaning w.new) }
 {
     for (k, item) in items.iter().enumerate() {
-        write_item(encoding, entries, *item, codes[k], places, w, fixups)?;
+        write_item(encoding, entries, *item, codes[k], targets, w, fixups)?;
     }
     Ok(())
 }

@@ -13,7 +13,9 @@ ghost use Rattle.dw_entries.specs.Tree.{AreIn, marks, preorder};
 ghost use Rattle.dw_unit.specs.Causes.{Because, Refused, Is, TreeFails};
 ghost use Rattle.dw_unit.specs.Coded.{code_at};
 ghost use Rattle.dw_unit.specs.Pending.{AreMarksRanged, PendsTree, kept_in, starts_of};
-ghost use Rattle.dw_unit.specs.Places.{placement_of, targets_at, FitsWords};
+ghost use Rattle.dw_unit.specs.Places.{placement_of, FitsWords};
+ghost use Rattle.dw_unit.specs.Strings.{tables_in};
+ghost use Rattle.dw_unit.specs.TargetsAt.{placement_at, targets_at};
 ghost use Rattle.dw_unit.specs.UnitFaults.{is_encodable, unit_fails};
 ghost use Rattle.dw_unit.specs.UnitText.{tree_draft, unit_draft, unit_length};
 ghost use Rattle.dw_unit.specs.Valid.{IsWritableTree};
@@ -25,8 +27,10 @@ use crate::codes::assign_codes;
 use crate::header::write_fields;
 use crate::layout::lay_out;
 use crate::places::Places;
+use crate::targets::Targets;
 use dw_base::{Encoding, Result};
 use dw_entries::{DebuggingInformationEntry, Item, flatten};
+use dw_strings::{LineStringTable, StringTable};
 use dw_writer::{FixupList, Sections, Writer};
 use std::alloc::Global;
 
@@ -37,29 +41,29 @@ fn write_compile_unit<W: Writer>(
     entries: &[DebuggingInformationEntry],
     items: &[Item],
     codes: &[u64],
-    places: &Places,
+    targets: &Targets<'_>,
     w: &mut W,
     fixups: &mut FixupList,
 ) -> Result<()>
     requires width { IsTrue (is_width encoding.address_size) }
     requires within { AreIn (length entries.now) (marks items.now) }
     requires tree { marks items.now ≡ preorder entries.now }
-    requires fit { FitsWords encoding.format (placement_of places.now) }
+    requires fit { FitsWords encoding.format (placement_at targets.now) }
     requires codes { codes.now
         ≡ map (code_at encoding entries.now (tree_shapes encoding entries.now)) (marks items.now) }
     ensures ok { OnOk result
         (Drafts (W.meaning w.old) (W.meaning w.new) fixups.old fixups.new
-        (unit_draft encoding table (tree_draft encoding entries.now (targets_at places.now)))) }
+        (unit_draft encoding table (tree_draft encoding entries.now (targets_at targets.now)))) }
     ensures fits { OnOk result
         (IsTrue (length_fits encoding.format (unit_length encoding
-        (tree_draft encoding entries.now (targets_at places.now)).size))) }
+        (tree_draft encoding entries.now (targets_at targets.now)).size))) }
     ensures ranged { OnOk result (AreMarksRanged encoding entries.now (preorder entries.now)) }
     ensures sound { OnOk result
-        ((e : AnError) → IsFalse (unit_fails encoding entries.now table (targets_at places.now)
+        ((e : AnError) → IsFalse (unit_fails encoding entries.now table (targets_at targets.now)
         (W.meaning w.old).is_plain e)) }
     ensures err { IfErr result
         (Refused (W.meaning w.old) (W.meaning w.new)
-        (Is (unit_fails encoding entries.now table (targets_at places.now)
+        (Is (unit_fails encoding entries.now table (targets_at targets.now)
         (W.meaning w.old).is_plain))) }
     ensures same { IsSameWriter (W.meaning w.old) (W.meaning w.new) }
     ensures room { OnOk result ((W.meaning w.new).size < 2 ^ 64) }
@@ -67,7 +71,7 @@ fn write_compile_unit<W: Writer>(
     let place = w.write_initial_length(encoding.format)?;
     let start = w.len();
     write_fields(encoding, table, w)?;
-    write_items(encoding, entries, items, codes, places, w, fixups)?;
+    write_items(encoding, entries, items, codes, targets, w, fixups)?;
     let length = (w.len() - start) as u64;
     w.write_initial_length_at(place, length, encoding.format)
 }
@@ -78,6 +82,8 @@ pub(crate) fn write_tree<W: Writer>(
     alloc: Global,
     encoding: Encoding,
     entries: &[DebuggingInformationEntry],
+    line_strings: &LineStringTable,
+    strings: &StringTable,
     sections: &mut Sections<W>,
 ) -> Result<Places>
     requires encodable { IsTrue (is_encodable encoding) }
@@ -85,18 +91,20 @@ pub(crate) fn write_tree<W: Writer>(
     requires rooted { (entry_at entries.now 0).tag ≢ 0 }
     ensures unit { IfOk result
         (λ p. PendsTree W.meaning sections.old sections.new encoding entries.now
-        (kept_in (starts_of W.meaning sections.old) p)) }
+        (tables_in line_strings.now strings.now) (kept_in (starts_of W.meaning sections.old) p)) }
     ensures room { IfOk result
         (λ p. (W.meaning sections.old.debug_info.0).size + p.end < 2 ^ 64) }
     ensures bounded { IfOk result (λ p. (i : ℕ) → (placement_of p).place i ≤ p.end) }
     ensures writable { OnOk result
-        (IsWritableTree (W.meaning sections.old.debug_info.0).is_plain encoding entries.now) }
+        (IsWritableTree (W.meaning sections.old.debug_info.0).is_plain encoding entries.now
+        (tables_in line_strings.now strings.now)) }
     ensures place { OnOk result
         (IsTrue (offset_fits (W.meaning sections.old.debug_info.0).is_plain
         (word_of encoding.format) (W.meaning sections.old.debug_abbrev.0).size)) }
     ensures err { IfErr result
         (Because (SomeHasRisen W.meaning sections.old sections.new)
-        (TreeFails encoding entries.now (W.meaning sections.old.debug_abbrev.0).size
+        (TreeFails encoding entries.now (tables_in line_strings.now strings.now)
+        (W.meaning sections.old.debug_abbrev.0).size
         (W.meaning sections.old.debug_info.0).is_plain)) }
     ensures others { KeepsOtherSections sections.old sections.new }
     ensures faults { fault_sum W.meaning sections.old ≤ fault_sum W.meaning sections.new }
@@ -107,6 +115,11 @@ pub(crate) fn write_tree<W: Writer>(
     let codes = assigned.codes.as_slice();
     let places = lay_out(alloc, encoding, entries, items, codes)?;
     places.check_length(encoding.format)?;
+    let targets = Targets {
+        places: &places,
+        line_strings,
+        strings,
+    };
     let place = sections.debug_abbrev.0.len();
     assigned.table.write(&mut sections.debug_abbrev)?;
     write_compile_unit(
@@ -115,7 +128,7 @@ pub(crate) fn write_tree<W: Writer>(
         entries,
         items,
         codes,
-        &places,
+        &targets,
         &mut sections.debug_info.0,
         &mut sections.debug_info_fixups,
     )?;

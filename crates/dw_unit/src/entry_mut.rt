@@ -106,7 +106,7 @@ impl<'a> EntryMut<'a> {
         unit.entries.delete_child(index, id);
     }
 
-    /// Makes room for more attributes.
+    /// Makes room for so many more attributes, and for no others.
     pub fn reserve(&mut self, additional: usize) -> Result<()>
         ensures same_unit { self.new.unit.ghost_name ≡ self.old.unit.ghost_name }
         ensures index { self.new.index ≡ self.old.index }

@@ -14,6 +14,7 @@ mod places;
 mod reference_tests;
 mod references;
 mod shape;
+mod targets;
 #[cfg(test)]
 mod tests;
 mod unit;

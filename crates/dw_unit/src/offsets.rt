@@ -55,7 +55,8 @@ impl UnitOffsets {
     /// The place of an entry in `.debug_info`. There is none exactly where the entry didn't stand
     /// in the tree that was written.
     pub fn debug_info_offset(&self, entry: UnitEntryId) -> Option<DebugInfoOffset>
-        ensures { result ≡ option_map (λ n. record { 0 = n }) (in_info (offsets_in self.now) entry.0) }
+        ensures { result
+            ≡ option_map (λ n. record { 0 = n }) (in_info (offsets_in self.now) entry.0) }
     {
         let place = self.unit_offset(entry)?;
         Some(DebugInfoOffset(self.start + place as usize))

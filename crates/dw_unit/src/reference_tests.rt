@@ -1,4 +1,5 @@
-//! References to entries by their place in `.debug_info`: left open by a unit, filled in by a table.
+//! References to entries by their place in `.debug_info`: left open by a unit, filled in by a
+//! table.
 
 use crate::line_program::LineProgram;
 use crate::unit::Unit;
@@ -9,6 +10,7 @@ use dw_base::{
     UnitId,
 };
 use dw_entries::AttributeValue;
+use dw_strings::{LineStringTable, StringTable};
 use dw_writer::{DebugInfoFixup, EndianVec, Sections, Writer};
 use std::alloc::Global;
 use std::test::Fail;
@@ -42,8 +44,10 @@ const FILLED: [u8; 17] = [13, 0, 0, 0, 5, 0, 1, 8, 0, 0, 0, 0, 1, 12, 0, 0, 0];
 fn a_place_is_open_until_its_table_is_written(rt: HostRuntime) -> std::result::Result<(), Fail> {
     let mut unit = unit_naming(rt.alloc(), 0)?;
     let mut sections = new_sections(rt.alloc())?;
+    let line_strings = LineStringTable::new(rt.alloc());
+    let strings = StringTable::new(rt.alloc());
     assert!(rt; !unit.is_written());
-    unit.write(&mut sections)?;
+    unit.write(&mut sections, &line_strings, &strings)?;
     assert_eq!(rt; sections.debug_info.0.slice(), OPEN.as_slice());
     let fixup = DebugInfoFixup {
         offset: 13,
@@ -55,7 +59,7 @@ fn a_place_is_open_until_its_table_is_written(rt: HostRuntime) -> std::result::R
     assert_eq!(rt; sections.debug_info_fixups.get(0), Some(fixup));
     let mut table = UnitTable::new(rt.alloc());
     table.add(unit)?;
-    table.write(&mut sections)?;
+    table.write(&mut sections, &line_strings, &strings)?;
     assert_eq!(rt; sections.debug_info.0.slice(), FILLED.as_slice());
     assert!(rt; sections.debug_info_fixups.is_empty());
     Ok(())
@@ -80,8 +84,10 @@ fn a_written_unit_tells_its_places(rt: HostRuntime) -> std::result::Result<(), F
     let reserved = unit.reserve();
     assert!(rt; unit.offsets().is_none());
     let mut sections = new_sections(rt.alloc())?;
+    let line_strings = LineStringTable::new(rt.alloc());
+    let strings = StringTable::new(rt.alloc());
     sections.debug_info.0.write(b"five.")?;
-    unit.write(&mut sections)?;
+    unit.write(&mut sections, &line_strings, &strings)?;
     for (entry, place) in [
         (root, Some((12, DebugInfoOffset(17)))),
         (base_type, Some((13, DebugInfoOffset(18)))),
@@ -104,7 +110,10 @@ fn a_skipped_unit_has_no_places(rt: HostRuntime) -> std::result::Result<(), Fail
     table.add(skipped)?;
     table.add(unit_naming(rt.alloc(), 0)?)?;
     let mut sections = new_sections(rt.alloc())?;
-    assert_eq!(rt; table.write(&mut sections), Err(Error::InvalidReference));
+    let line_strings = LineStringTable::new(rt.alloc());
+    let strings = StringTable::new(rt.alloc());
+    let answer = table.write(&mut sections, &line_strings, &strings);
+    assert_eq!(rt; answer, Err(Error::InvalidReference));
     Ok(())
 }
 
@@ -113,7 +122,9 @@ fn a_skipped_unit_has_no_places(rt: HostRuntime) -> std::result::Result<(), Fail
 fn a_freed_unit_keeps_its_places(rt: HostRuntime) -> std::result::Result<(), Fail> {
     let mut freed = Unit::new(rt.alloc(), ENCODING, LineProgram::none())?;
     let mut sections = new_sections(rt.alloc())?;
-    freed.write(&mut sections)?;
+    let line_strings = LineStringTable::new(rt.alloc());
+    let strings = StringTable::new(rt.alloc());
+    freed.write(&mut sections, &line_strings, &strings)?;
     freed.free();
     assert!(rt; freed.is_freed());
     assert_eq!(rt; freed.count(), 0);
@@ -122,7 +133,7 @@ fn a_freed_unit_keeps_its_places(rt: HostRuntime) -> std::result::Result<(), Fai
     let mut table = UnitTable::new(rt.alloc());
     table.add(freed)?;
     table.add(unit_naming(rt.alloc(), 0)?)?;
-    table.write(&mut sections)?;
+    table.write(&mut sections, &line_strings, &strings)?;
     let info = sections.debug_info.0.slice();
     assert_eq!(rt; info.len(), 30);
     assert!(rt; info.ends_with(&[1, 12, 0, 0, 0]));

@@ -14,6 +14,7 @@ use crate::line_program::LineProgram;
 use crate::offsets::UnitOffsets;
 use dw_base::{DwTag, Encoding, Error, Format, Result, UnitEntryId};
 use dw_entries::{DebuggingInformationEntry, Entries};
+use dw_strings::{LineStringTable, StringTable};
 use dw_writer::{Sections, Writer};
 use std::alloc::Global;
 use std::marker::Model;
@@ -246,6 +247,7 @@ impl Unit {
     ghost use Rattle.dw_unit.specs.Whole.{settled, marked_written};
     ghost use Rattle.dw_unit.specs.Valid.{IsWritableAt};
     ghost use Rattle.dw_unit.specs.Pending.{PendsUnit, ExtendsPending};
+    ghost use Rattle.dw_unit.specs.Strings.{tables_in};
     ghost use Rattle.dw_unit.specs.Written.{KeepsOtherSections};
     ghost use Rattle.dw_unit.specs.Causes.{UnitRefused};
 
@@ -258,32 +260,41 @@ impl Unit {
     /// Refused as `UnsupportedVersion` or `UnsupportedWordSize` where the version isn't 2 to 5 or
     /// the address size isn't 1, 2, 4 or 8, as `InvalidAttributeValue` where a string has a zero
     /// byte, as `InvalidReference` where a reference within the unit names an entry outside its
-    /// tree, or one by its place in `.debug_info` names a symbol, as
+    /// tree, one by its place in `.debug_info` names a symbol, or a string isn't in its table, as
     /// `InvalidAddress` where an address is a symbol's and the writer records no relocations, as
     /// `InitialLengthOverflow` where a 32-bit unit has 0xffff_fff0 bytes or more after its length
     /// (DWARF 5, 7.4), as `ValueTooLarge` where an address or an offset has no room in its width,
     /// the place of the table none in a word, or the unit's size none in 64 bits, and as
     /// `WriteFault` or `NoMemory`. A refused unit is as it was, or has its base types moved, and
     /// the two sections may have got some of the bytes.
-    pub fn write<W: Writer>(&mut self, sections: &mut Sections<W>) -> Result<()>
+    pub fn write<W: Writer>(
+        &mut self,
+        sections: &mut Sections<W>,
+        line_strings: &LineStringTable,
+        strings: &StringTable,
+    ) -> Result<()>
         requires { self.old.is_written ≡ false }
         ensures unit { OnOk result
             (PendsUnit W.meaning sections.old sections.new (settled self.old)
-            self.new.offsets) }
+            (tables_in line_strings.now strings.now) self.new.offsets) }
         ensures pending { OnOk result
             (ExtendsPending W.meaning sections.old sections.new (settled self.old)
-            self.new.offsets) }
+            (tables_in line_strings.now strings.now) self.new.offsets) }
         ensures writable { OnOk result
             (IsWritableAt (W.meaning sections.old.debug_info.0).is_plain
+            (tables_in line_strings.now strings.now)
             (W.meaning sections.old.debug_abbrev.0).size self.old) }
         ensures marked { OnOk result
             (self.new ≡ marked_written self.new.offsets (settled self.old)) }
 
-        ensures err { IfErr result (UnitRefused W.meaning sections.old sections.new self.old) }
+        ensures err { IfErr result
+            (UnitRefused W.meaning sections.old sections.new self.old
+            (tables_in line_strings.now strings.now)) }
         ensures kept { OnErr result ((self.new ≡ self.old) ⊎ (self.new ≡ settled self.old)) }
         // A unit that can be written is refused only for want of memory, or by a fault that was
         // counted. References across units are looked at when they are filled in.
         ensures complete { IsWritableAt (W.meaning sections.old.debug_info.0).is_plain
+            (tables_in line_strings.now strings.now)
             (W.meaning sections.old.debug_abbrev.0).size self.old →
             (SomeHasRisen W.meaning sections.old sections.new → ⊥) →
             IfErr result (λ e. e ≡ NoMemory) }
@@ -291,7 +302,7 @@ impl Unit {
         ensures others { KeepsOtherSections sections.old sections.new }
         ensures faults { fault_sum W.meaning sections.old ≤ fault_sum W.meaning sections.new }
     {
-        let offsets = self.write_open(sections)?;
+        let offsets = self.write_open(sections, line_strings, strings)?;
         self.mark_written(offsets);
         Ok(())
     }
@@ -301,27 +312,35 @@ impl Unit {
     /// Refused as `write` refuses it, and as `InvalidReference` where a reference names an entry by
     /// its place in `.debug_info`, also one of this unit: a unit alone has no number by which such
     /// a reference could name it.
-    pub fn write_alone<W: Writer>(&mut self, sections: &mut Sections<W>) -> Result<()>
+    pub fn write_alone<W: Writer>(
+        &mut self,
+        sections: &mut Sections<W>,
+        line_strings: &LineStringTable,
+        strings: &StringTable,
+    ) -> Result<()>
         requires unwritten { self.old.is_written ≡ false }
         requires none_open { sections.old.debug_info_fixups ≡ [] }
         ensures appends { OnOk result
             (AppendsAlone W.meaning sections.old sections.new (settled self.old)
-            self.new.offsets) }
+            (tables_in line_strings.now strings.now) self.new.offsets) }
         ensures alone { OnOk result (IsFalse (has_info_reference self.old)) }
         ensures closed { OnOk result (sections.new.debug_info_fixups ≡ []) }
         ensures writable { OnOk result
             (IsWritableAt (W.meaning sections.old.debug_info.0).is_plain
+            (tables_in line_strings.now strings.now)
             (W.meaning sections.old.debug_abbrev.0).size self.old) }
         ensures marked { OnOk result
             (self.new ≡ marked_written self.new.offsets (settled self.old)) }
 
-        ensures err { IfErr result (AloneRefused W.meaning sections.old sections.new self.old) }
+        ensures err { IfErr result
+            (AloneRefused W.meaning sections.old sections.new self.old
+            (tables_in line_strings.now strings.now)) }
         ensures kept { OnErr result ((self.new ≡ self.old) ⊎ (self.new ≡ settled self.old)) }
 
         ensures others { KeepsOtherSections sections.old sections.new }
         ensures faults { fault_sum W.meaning sections.old ≤ fault_sum W.meaning sections.new }
     {
-        let offsets = self.write_open(sections)?;
+        let offsets = self.write_open(sections, line_strings, strings)?;
         if !sections.debug_info_fixups.is_empty() {
             return Err(Error::InvalidReference);
         }
@@ -331,16 +350,25 @@ impl Unit {
 
     /// Settles the unit and writes it with its table, without a mark, and answers where its entries
     /// stand. Its references to entries by their place in `.debug_info` are left open.
-    fn write_open<W: Writer>(&mut self, sections: &mut Sections<W>) -> Result<UnitOffsets>
+    fn write_open<W: Writer>(
+        &mut self,
+        sections: &mut Sections<W>,
+        line_strings: &LineStringTable,
+        strings: &StringTable,
+    ) -> Result<UnitOffsets>
         requires { self.old.is_written ≡ false }
         ensures unit { IfOk result
-            (λ o. PendsUnit W.meaning sections.old sections.new (settled self.old) (Some o)) }
+            (λ o. PendsUnit W.meaning sections.old sections.new (settled self.old)
+            (tables_in line_strings.now strings.now) (Some o)) }
         ensures writable { OnOk result
             (IsWritableAt (W.meaning sections.old.debug_info.0).is_plain
+            (tables_in line_strings.now strings.now)
             (W.meaning sections.old.debug_abbrev.0).size self.old) }
         ensures settled { OnOk result (self.new ≡ settled self.old) }
 
-        ensures err { IfErr result (UnitRefused W.meaning sections.old sections.new self.old) }
+        ensures err { IfErr result
+            (UnitRefused W.meaning sections.old sections.new self.old
+            (tables_in line_strings.now strings.now)) }
         ensures kept { OnErr result ((self.new ≡ self.old) ⊎ (self.new ≡ settled self.old)) }
 
         ensures others { KeepsOtherSections sections.old sections.new }
@@ -350,7 +378,14 @@ impl Unit {
         self.settle()?;
         let start = sections.debug_info.0.len();
         let alloc = self.entries.allocator();
-        let places = write_tree(alloc, self.encoding, self.entries.as_slice(), sections)?;
+        let places = write_tree(
+            alloc,
+            self.encoding,
+            self.entries.as_slice(),
+            line_strings,
+            strings,
+            sections,
+        )?;
         Ok(UnitOffsets::of(start, places))
     }
 

@@ -2,7 +2,7 @@
 
 ghost use Rattle.std.specs.Prelude.{◌≡◌};
 ghost use Rattle.std.specs.Iterator.{YieldsFirstBy, item_count};
-ghost use Rattle.dw_unit.specs.Built.{numbered};
+ghost use Rattle.dw_unit.specs.UnitIds.{with_ids};
 
 use crate::unit::Unit;
 use dw_base::UnitId;
@@ -25,11 +25,11 @@ pub struct UnitIter<'a> {
 
 impl<'a> Model for UnitIter<'a> {
     ghost use Rattle.std.specs.Prelude.{List, length, ◌+◌, ◌<◌, ◌^◌};
-    ghost use Rattle.dw_unit.specs.Built.{Numbered, numbered_from};
+    ghost use Rattle.dw_unit.specs.UnitIds.{UnitWithId, with_ids_from};
 
-    ghost Value = { List Numbered };
+    ghost Value = { List UnitWithId };
 
-    ghost view = { λ it. numbered_from it.index it.units.now };
+    ghost view = { λ it. with_ids_from it.index it.units.now };
 
     // So each index is a number of its type.
     ghost invariant = { λ it. it.index + length it.units.now < 2 ^ 64 };
@@ -38,7 +38,7 @@ impl<'a> Model for UnitIter<'a> {
 impl<'a> UnitIter<'a> {
     /// All of these units, the first of which has the index 0.
     pub(crate) fn new(units: &'a [Unit]) -> UnitIter<'a>
-        ensures { result ≡ numbered units.now }
+        ensures { result ≡ with_ids units.now }
     {
         UnitIter { units, index: 0 }
     }

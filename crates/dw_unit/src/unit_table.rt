@@ -6,6 +6,7 @@ ghost use Rattle.dw_base.specs.declared.error.Error.TheVariants.{NoMemory};
 ghost use Rattle.dw_writer.specs.Causes.{IsNotMemory, NotAtAll};
 ghost use Rattle.dw_writer.specs.Sections.{fault_sum, SomeHasRisen, NoFixups};
 ghost use Rattle.dw_unit.specs.UnitValue.{UnitValue};
+ghost use Rattle.dw_unit.specs.Strings.{tables_in};
 ghost use Rattle.dw_unit.specs.Valid.{IsWritableAt, AreWritable, CanFollow};
 ghost use Rattle.dw_unit.specs.Pending.{starts_of};
 ghost use Rattle.dw_unit.specs.Whole.{IsRefused};
@@ -16,6 +17,7 @@ use crate::references::fill;
 use crate::unit::Unit;
 use crate::unit_iter::UnitIter;
 use dw_base::{Result, UnitId};
+use dw_strings::{LineStringTable, StringTable};
 use dw_writer::{Sections, Writer};
 use std::alloc::Global;
 use std::marker::Model;
@@ -33,7 +35,7 @@ impl Model for UnitTable {
 }
 
 impl UnitTable {
-    ghost use Rattle.dw_unit.specs.Built.{numbered};
+    ghost use Rattle.dw_unit.specs.UnitIds.{with_ids};
     ghost use Rattle.dw_unit.specs.TableLends.{LendsUnit};
 
     /// No units.
@@ -91,7 +93,7 @@ impl UnitTable {
 
     /// The units with their ids, in order.
     pub fn iter(&self) -> UnitIter<'_>
-        ensures { result ≡ numbered self.now }
+        ensures { result ≡ with_ids self.now }
     {
         UnitIter::new(self.units.as_slice())
     }
@@ -106,31 +108,41 @@ impl UnitTable {
     /// (`InvalidReference`), or where its place has no room (`ValueTooLarge`). The units before the
     /// one that was refused are written, it is as it was or has its base types moved, and those
     /// behind it are as they were. The two sections may have got some bytes.
-    pub fn write<W: Writer>(&mut self, sections: &mut Sections<W>) -> Result<()>
+    pub fn write<W: Writer>(
+        &mut self,
+        sections: &mut Sections<W>,
+        line_strings: &LineStringTable,
+        strings: &StringTable,
+    ) -> Result<()>
         ensures completes { OnOk result
-            (CompletesAny W.meaning sections.old sections.new self.old self.new) }
+            (CompletesAny W.meaning sections.old sections.new self.old self.new
+            (tables_in line_strings.now strings.now)) }
         ensures writable { OnOk result
             (AreWritable (W.meaning sections.old.debug_info.0).is_plain
+            (tables_in line_strings.now strings.now)
             (W.meaning sections.old.debug_abbrev.0).size self.old) }
         // Each unit that wasn't written before keeps where its entries stand: in a row from where
         // the sections ended.
         ensures marked { OnOk result
             (AreWritten (starts_of W.meaning sections.old) (starts_of W.meaning sections.new)
-            self.old self.new) }
+            (tables_in line_strings.now strings.now) self.old self.new) }
         ensures emptied { OnOk result (NoFixups sections.new) }
 
         ensures err { IfErr result
-            (RefusesAny W.meaning sections.old sections.new self.old self.new) }
-        // Where the units can be written behind those that are pending, and their references lead to
-        // entries, they are refused only for want of memory, or by a fault that was counted.
-        ensures complete { CanFollow W.meaning sections.old self.old →
+            (RefusesAny W.meaning sections.old sections.new self.old self.new
+            (tables_in line_strings.now strings.now)) }
+        // Where the units can be written behind those that are pending, and their references lead
+        // to entries, they are refused only for want of memory, or by a fault that was counted.
+        ensures complete { CanFollow W.meaning sections.old self.old
+            (tables_in line_strings.now strings.now) →
             (SomeHasRisen W.meaning sections.old sections.new → ⊥) →
             IfErr result (λ e. e ≡ NoMemory) }
         // Where every unit is written already, references are patched, and no memory is taken.
         ensures memory { IsTrue W.patches_in_place → All (λ u. u.is_written ≡ true) self.old →
             IfErr result IsNotMemory }
         ensures stopped { OnErr result
-            (AreStopped (starts_of W.meaning sections.old) self.old self.new) }
+            (AreStopped (starts_of W.meaning sections.old)
+            (tables_in line_strings.now strings.now) self.old self.new) }
 
         ensures others { sections.new
             ≡ record sections.old {
@@ -142,7 +154,7 @@ impl UnitTable {
             } }
         ensures faults { fault_sum W.meaning sections.old ≤ fault_sum W.meaning sections.new }
     {
-        self.write_units(sections)?;
+        self.write_units(sections, line_strings, strings)?;
         fill(
             self.units.as_slice(),
             &sections.debug_info_fixups,
@@ -155,46 +167,63 @@ impl UnitTable {
     }
 
     /// Writes the units. Their references across units stay open.
-    fn write_units<W: Writer>(&mut self, sections: &mut Sections<W>) -> Result<()>
+    fn write_units<W: Writer>(
+        &mut self,
+        sections: &mut Sections<W>,
+        line_strings: &LineStringTable,
+        strings: &StringTable,
+    ) -> Result<()>
         ensures pending { OnOk result
-            (PendsUnits W.meaning sections.old sections.new self.old self.new) }
+            (PendsUnits W.meaning sections.old sections.new self.old self.new
+            (tables_in line_strings.now strings.now)) }
         ensures writable { OnOk result
             (AreWritable (W.meaning sections.old.debug_info.0).is_plain
+            (tables_in line_strings.now strings.now)
             (W.meaning sections.old.debug_abbrev.0).size self.old) }
         ensures marked { OnOk result
             (AreWritten (starts_of W.meaning sections.old) (starts_of W.meaning sections.new)
-            self.old self.new) }
+            (tables_in line_strings.now strings.now) self.old self.new) }
 
         ensures err { IfErr result
             (Because (SomeHasRisen W.meaning sections.old sections.new)
             (UnitsFail (W.meaning sections.old.debug_info.0).is_plain
+            (tables_in line_strings.now strings.now)
             (W.meaning sections.old.debug_abbrev.0).size self.old)) }
         ensures idle { All (λ u. u.is_written ≡ true) self.old → IfErr result NotAtAll }
         ensures stopped { OnErr result
-            (AreStopped (starts_of W.meaning sections.old) self.old self.new) }
+            (AreStopped (starts_of W.meaning sections.old)
+            (tables_in line_strings.now strings.now) self.old self.new) }
 
         ensures others { KeepsOtherSections sections.old sections.new }
         ensures faults { fault_sum W.meaning sections.old ≤ fault_sum W.meaning sections.new }
     {
         for index in 0..self.units.len() {
-            write_if_new(&mut self.units[index], sections)?;
+            write_if_new(&mut self.units[index], sections, line_strings, strings)?;
         }
         Ok(())
     }
 }
 
 /// Writes a unit, unless it is written already.
-fn write_if_new<W: Writer>(unit: &mut Unit, sections: &mut Sections<W>) -> Result<()>
+fn write_if_new<W: Writer>(
+    unit: &mut Unit,
+    sections: &mut Sections<W>,
+    line_strings: &LineStringTable,
+    strings: &StringTable,
+) -> Result<()>
     ensures ok { OnOk result
-        (WritesIfNew W.meaning sections.old sections.new unit.old unit.new) }
+        (WritesIfNew W.meaning sections.old sections.new unit.old unit.new
+        (tables_in line_strings.now strings.now)) }
     ensures writable { OnOk result
         ((unit.old.is_written ≡ true)
         ⊎ IsWritableAt (W.meaning sections.old.debug_info.0).is_plain
+        (tables_in line_strings.now strings.now)
         (W.meaning sections.old.debug_abbrev.0).size unit.old) }
 
     ensures err { IfErr result
         (λ e. (unit.old.is_written ≡ false)
-        × UnitRefused W.meaning sections.old sections.new unit.old e) }
+        × UnitRefused W.meaning sections.old sections.new unit.old
+        (tables_in line_strings.now strings.now) e) }
     ensures stopped { OnErr result (IsRefused unit.old unit.new) }
 
     ensures others { KeepsOtherSections sections.old sections.new }
@@ -203,5 +232,5 @@ fn write_if_new<W: Writer>(unit: &mut Unit, sections: &mut Sections<W>) -> Resul
     if unit.is_written() {
         return Ok(());
     }
-    unit.write(sections)
+    unit.write(sections, line_strings, strings)
 }

@@ -8,13 +8,14 @@ ghost use Rattle.dw_writer.specs.Drafts.{Drafts};
 ghost use Rattle.dw_writer.specs.Meaning.{IsSameWriter, Adds, Appends};
 ghost use Rattle.dw_writer.specs.Causes.{BytesRefused};
 ghost use Rattle.dw_writer.specs.SectionTexts.{offset_text, address_text};
-ghost use Rattle.dw_entries.specs.Content.{number_fails, text_fails, address_fails, offset_fails, reference_fails, info_fails};
+ghost use Rattle.dw_entries.specs.Content.{number_fails, text_fails, address_fails, offset_fails, table_fails, reference_fails, info_fails};
 ghost use Rattle.dw_entries.specs.Values.{value_draft, value_fails, IsRanged};
-ghost use Rattle.dw_unit.specs.UnitText.{info_draft};
+ghost use Rattle.dw_unit.specs.UnitText.{info_draft, table_text};
 ghost use Rattle.dw_unit.specs.Causes.{Refused, Is};
-ghost use Rattle.dw_unit.specs.Places.{placement_of, targets_at, FitsWords};
+ghost use Rattle.dw_unit.specs.Places.{FitsWords};
+ghost use Rattle.dw_unit.specs.TargetsAt.{placement_at, tables_at, targets_at};
 
-use crate::places::Places;
+use crate::targets::{Targets, place_in_table};
 use dw_base::{Address, DebugInfoRef, Encoding, Error, Format, Result, SectionId, UnitEntryId};
 use dw_entries::{AttributeValue, Content, info_place_size};
 use dw_writer::{DebugInfoFixup, FixupList, Writer};
@@ -22,23 +23,23 @@ use dw_writer::{DebugInfoFixup, FixupList, Writer};
 /// Writes what stands for the value in an entry.
 pub(crate) fn write_value<W: Writer>(
     encoding: Encoding,
-    places: &Places,
+    targets: &Targets<'_>,
     value: &AttributeValue,
     w: &mut W,
     fixups: &mut FixupList,
 ) -> Result<()>
     requires width { IsTrue (is_width encoding.address_size) }
-    requires fit { FitsWords encoding.format (placement_of places.now) }
+    requires fit { FitsWords encoding.format (placement_at targets.now) }
     ensures ok { OnOk result
         (Drafts (W.meaning w.old) (W.meaning w.new) fixups.old fixups.new
-        (value_draft encoding (targets_at places.now) value.now)) }
+        (value_draft encoding (targets_at targets.now) value.now)) }
     ensures sound { OnOk result
-        ((e : AnError) → IsFalse (value_fails encoding (targets_at places.now).place
+        ((e : AnError) → IsFalse (value_fails encoding (targets_at targets.now)
         (W.meaning w.old).is_plain value.now e)) }
     ensures ranged { OnOk result (IsRanged encoding value.now) }
     ensures err { IfErr result
         (Refused (W.meaning w.old) (W.meaning w.new)
-        (Is (value_fails encoding (targets_at places.now).place (W.meaning w.old).is_plain
+        (Is (value_fails encoding (targets_at targets.now) (W.meaning w.old).is_plain
         value.now))) }
     ensures same { IsSameWriter (W.meaning w.old) (W.meaning w.new) }
 {
@@ -52,7 +53,10 @@ pub(crate) fn write_value<W: Writer>(
         Content::Closed(text) => write_text(text, w),
         Content::Target(address) => write_target(address, encoding.address_size, w),
         Content::Offset { value, section } => write_place(encoding.format, value, section, w),
-        Content::EntryPlace(entry) => write_reference(encoding.format, places, entry, w),
+        Content::InTable { section, index } => {
+            write_place_in_table(encoding.format, targets, section, index, w)
+        }
+        Content::EntryPlace(entry) => write_reference(encoding.format, targets, entry, w),
         Content::InfoPlace(entry) => {
             write_info_reference(entry, info_place_size(encoding), w, fixups)
         }
@@ -129,25 +133,53 @@ fn write_place<W: Writer>(format: Format, value: usize, section: SectionId, w: &
     w.write_offset(value, section, format.word_size())
 }
 
+/// Writes the place of what a table has under an index.
+fn write_place_in_table<W: Writer>(
+    format: Format,
+    targets: &Targets<'_>,
+    section: SectionId,
+    index: usize,
+    w: &mut W,
+) -> Result<()>
+    ensures ok { OnOk result
+        (Appends (W.meaning w.old) (W.meaning w.new) (word_of format)
+        (table_text (word_of format) section (tables_at targets.now section index))) }
+    ensures sound { OnOk result
+        ((e : AnError) →
+        IsFalse (table_fails (word_of format) (W.meaning w.old).is_plain
+        (tables_at targets.now section index) e)) }
+    ensures err { IfErr result
+        (Refused (W.meaning w.old) (W.meaning w.new)
+        (Is (table_fails (word_of format) (W.meaning w.old).is_plain
+        (tables_at targets.now section index)))) }
+    ensures same { IsSameWriter (W.meaning w.old) (W.meaning w.new) }
+{
+    let Some(place) = place_in_table(section, index, targets.line_strings, targets.strings) else {
+        return Err(Error::InvalidReference);
+    };
+    w.write_offset(place, section, format.word_size())
+}
+
 /// Writes the place of an entry, which has to stand in the tree.
 fn write_reference<W: Writer>(
     format: Format,
-    places: &Places,
+    targets: &Targets<'_>,
     entry: UnitEntryId,
     w: &mut W,
 ) -> Result<()>
-    requires { FitsWords format (placement_of places.now) }
+    requires { FitsWords format (placement_at targets.now) }
     ensures ok { OnOk result
         (Adds (W.meaning w.old) (W.meaning w.new)
-        (num (W.meaning w.old).is_big (word_of format) ((placement_of places.now).place entry.0))) }
+        (num (W.meaning w.old).is_big (word_of format)
+        ((placement_at targets.now).place entry.0))) }
     ensures sound { OnOk result
-        ((e : AnError) → IsFalse (reference_fails ((targets_at places.now).place entry.0) e)) }
+        ((e : AnError) → IsFalse (reference_fails ((targets_at targets.now).place entry.0) e)) }
     ensures err { IfErr result
         (Refused (W.meaning w.old) (W.meaning w.new)
-        (Is (reference_fails ((targets_at places.now).place entry.0)))) }
+        (Is (reference_fails ((targets_at targets.now).place entry.0)))) }
     ensures same { IsSameWriter (W.meaning w.old) (W.meaning w.new) }
 {
-    let Some(place) = places.place(entry) else {
+    let Some(place) = targets.places.place(entry) else {
         return Err(Error::InvalidReference);
     };
     w.write_udata(place, format.word_size())

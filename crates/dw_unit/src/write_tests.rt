@@ -7,6 +7,7 @@ use dw_base::constants::{
 };
 use dw_base::{Encoding, Error, Format, LittleEndian, Result, UnitEntryId};
 use dw_entries::AttributeValue;
+use dw_strings::{LineStringTable, StringTable};
 use dw_writer::{Bytes, EndianVec, Sections};
 use std::alloc::Global;
 use std::test::Fail;
@@ -39,7 +40,9 @@ fn entries_of_one_shape_share_a_code(rt: HostRuntime) -> std::result::Result<(),
     entry.set(DW_AT_name, string(rt.alloc(), b"char")?)?;
     entry.set(DW_AT_byte_size, AttributeValue::Data1(1))?;
     let mut sections = new_sections(rt.alloc())?;
-    unit.write(&mut sections)?;
+    let line_strings = LineStringTable::new(rt.alloc());
+    let strings = StringTable::new(rt.alloc());
+    unit.write(&mut sections, &line_strings, &strings)?;
     assert_eq!(rt;
         sections.debug_info.0.slice(),
         [
@@ -75,7 +78,9 @@ fn places_stand_for_entries(rt: HostRuntime) -> std::result::Result<(), Fail> {
     let mut entry = unit.get_mut(variable);
     entry.set(DW_AT_type, AttributeValue::UnitRef(int))?;
     let mut sections = new_sections(rt.alloc())?;
-    unit.write(&mut sections)?;
+    let line_strings = LineStringTable::new(rt.alloc());
+    let strings = StringTable::new(rt.alloc());
+    unit.write(&mut sections, &line_strings, &strings)?;
     assert_eq!(rt;
         sections.debug_info.0.slice(),
         [
@@ -94,8 +99,10 @@ fn a_zero_byte_in_a_string_is_refused(rt: HostRuntime) -> std::result::Result<()
     let mut entry = unit.get_mut(UnitEntryId::new(0));
     entry.set(DW_AT_name, string(rt.alloc(), b"a\0b")?)?;
     let mut sections = new_sections(rt.alloc())?;
+    let line_strings = LineStringTable::new(rt.alloc());
+    let strings = StringTable::new(rt.alloc());
     assert_eq!(rt;
-        unit.write(&mut sections),
+        unit.write(&mut sections, &line_strings, &strings),
         Err(Error::InvalidAttributeValue)
     );
     assert!(rt; !unit.is_written());
@@ -113,7 +120,10 @@ fn a_reference_to_an_entry_without_a_place_is_refused(
         let mut entry = unit.get_mut(UnitEntryId::new(0));
         entry.set(DW_AT_type, AttributeValue::UnitRef(UnitEntryId::new(named)))?;
         let mut sections = new_sections(rt.alloc())?;
-        assert_eq!(rt; unit.write(&mut sections), Err(Error::InvalidReference));
+        let line_strings = LineStringTable::new(rt.alloc());
+        let strings = StringTable::new(rt.alloc());
+        let answer = unit.write(&mut sections, &line_strings, &strings);
+        assert_eq!(rt; answer, Err(Error::InvalidReference));
     }
     Ok(())
 }

@@ -9,7 +9,7 @@ use Rattle.dw_entries.specs.Values.{value_fails}
 use Rattle.dw_entries.specs.Values.{IsRanged}
 use Rattle.dw_entries.specs.declared.attribute.Attribute.{Attribute}
 use Rattle.dw_unit.specs.Causes.{Is, Refused}
-use Rattle.dw_unit.specs.Places.{targets_at}
+use Rattle.dw_unit.specs.TargetsAt.{targets_at}
 use Rattle.dw_unit.specs.UnitFaults.{attributes_fail}
 use Rattle.dw_unit.specs.UnitText.{attribute_draft}
 use Rattle.dw_unit.proofs.Faults.{none_more, some_at, All-more, refused_after}
@@ -25,16 +25,16 @@ loop-attribute-init g c = record {
 pub loop-attribute-preserved : goal.loop-attribute-preserved
 loop-attribute-preserved g c =
     let e = c.args.encoding in
-    let u = targets_at c.args.places.now in
+    let u = targets_at c.args.targets.now in
     let xs = c.args.attributes.now in
     let i = c.loop-attribute.attribute-index in
     let x = c.attribute-item.result in
     let below : i < length xs = c.loop-attribute-test.true in
-    let fails : Attribute → Error → Bool = λ a. value_fails e u.place (g.W.Writer.meaning c.args.w.now).is_plain a.value in
+    let fails : Attribute → Error → Bool = λ a. value_fails e u (g.W.Writer.meaning c.args.w.now).is_plain a.value in
     let wrote = rw c.get.ensures at c.in_ok-write_value.ensures.ok in
     let passed = rw c.get.ensures at c.in_ok-write_value.ensures.sound in
     let ranged = rw c.get.ensures at c.in_ok-write_value.ensures.ranged in
-    let here : (err : Error) → IsFalse (fails x err) = subst (λ plain. (err : Error) → IsFalse (value_fails e u.place plain x.value err)) c.loop-attribute.invariant.added.text.same.kind passed in
+    let here : (err : Error) → IsFalse (fails x err) = subst (λ plain. (err : Error) → IsFalse (value_fails e u plain x.value err)) c.loop-attribute.invariant.added.text.same.kind passed in
     record {
       added = Drafts-more (attribute_draft e u) xs i x below c.attribute-item.is c.loop-attribute.invariant.added wrote;
       sound = none_more fails xs i x below c.attribute-item.is c.loop-attribute.invariant.sound here;
@@ -44,7 +44,7 @@ loop-attribute-preserved g c =
 pub returns-in_err-write_value-clause-err : goal.returns-in_err-write_value-clause-err
 returns-in_err-write_value-clause-err g c =
     let e = c.args.encoding in
-    let place = (targets_at c.args.places.now).place in
+    let place = targets_at c.args.targets.now in
     let xs = c.args.attributes.now in
     let i = c.loop-attribute.attribute-index in
     let x = c.attribute-item.result in
@@ -63,5 +63,5 @@ returns-clause-sound g c =
     let xs = c.args.attributes.now in
     let i = c.loop-attribute.attribute-index in
     let all : take i xs ≡ xs = take_all i xs (omega (arith, c.loop-attribute-test.false)) in
-    let fails : List Attribute → Error → Bool = attributes_fail c.args.encoding (targets_at c.args.places.now).place (g.W.Writer.meaning c.args.w.now).is_plain in
+    let fails : List Attribute → Error → Bool = attributes_fail c.args.encoding (targets_at c.args.targets.now) (g.W.Writer.meaning c.args.w.now).is_plain in
     subst (λ ys. (e : Error) → IsFalse (fails ys e)) all c.loop-attribute.invariant.sound

@@ -1,7 +1,7 @@
 use Rattle.dw_writer.proofs.Outcomes.{OnOk-map, IfErr-map}
 use Rattle.dw_writer.proofs.WriteLaws.{Drafts-then}
 use Rattle.dw_unit.specs.Causes.{Is}
-use Rattle.dw_unit.specs.Places.{targets_at}
+use Rattle.dw_unit.specs.TargetsAt.{targets_at}
 use Rattle.dw_unit.specs.UnitFaults.{attributes_fail}
 use Rattle.dw_unit.proofs.Drafted.{Drafts-bytes}
 use Rattle.dw_unit.proofs.Faults.{refused_after}
@@ -21,7 +21,7 @@ returns-clause-sound g c =
 
 pub returns-clause-err : goal.returns-clause-err
 returns-clause-err g c =
-    let fails = Is (attributes_fail c.args.encoding (targets_at c.args.places.now).place (g.W.Writer.meaning c.args.w.now).is_plain c.args.entry.now.attributes) in
+    let fails = Is (attributes_fail c.args.encoding (targets_at c.args.targets.now) (g.W.Writer.meaning c.args.w.now).is_plain c.args.entry.now.attributes) in
     let err = rw (c.attributes.ensures.value, c.in_ok-write_sibling.ensures.same.kind, c.in_ok-write_uleb128.ensures.ok.same.kind) at c.write_attributes.ensures.err in
     let same = IsSameWriter-trans c.in_ok-write_uleb128.ensures.same c.in_ok-write_sibling.ensures.same in
     IfErr-map c.write_attributes.result err

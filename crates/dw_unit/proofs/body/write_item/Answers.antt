@@ -4,7 +4,7 @@ use Rattle.dw_writer.proofs.Outcomes.{OnOk-map, IfErr-map}
 use Rattle.dw_entries.specs.Entries.{EntryValue}
 use Rattle.dw_entries.specs.Tree.{IsIn, mark_of}
 use Rattle.dw_entries.proofs.ChildReads.{indexed}
-use Rattle.dw_unit.specs.Places.{targets_at}
+use Rattle.dw_unit.specs.TargetsAt.{targets_at}
 use Rattle.dw_unit.specs.UnitFaults.{attributes_fail, mark_fails}
 use Rattle.dw_unit.proofs.Drafted.{Drafts-byte}
 use Rattle.dw_unit.proofs.Faults.{because-map}
@@ -18,7 +18,7 @@ pub returns-in-Open-clause-sound : goal.returns-in-Open-clause-sound
 returns-in-Open-clause-sound g c =
     let e = c.args.encoding in
     let es = c.args.entries.now in
-    let place = (targets_at c.args.places.now).place in
+    let place = targets_at c.args.targets.now in
     let plain = (g.W.Writer.meaning c.args.w.now).is_plain in
     let i = c.in-Open.index in
     let within = subst (λ item. IsIn (length es) (mark_of item)) c.in-Open.is c.requires.within in
@@ -30,7 +30,7 @@ pub returns-in-Open-clause-err : goal.returns-in-Open-clause-err
 returns-in-Open-clause-err g c =
     let e = c.args.encoding in
     let es = c.args.entries.now in
-    let place = (targets_at c.args.places.now).place in
+    let place = targets_at c.args.targets.now in
     let plain = (g.W.Writer.meaning c.args.w.now).is_plain in
     let i = c.in-Open.index in
     let within = subst (λ item. IsIn (length es) (mark_of item)) c.in-Open.is c.requires.within in

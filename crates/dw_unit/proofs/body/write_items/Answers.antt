@@ -11,7 +11,7 @@ use Rattle.dw_entries.specs.Tree.{mark_of, marks}
 use Rattle.dw_unit.specs.Causes.{Is, Refused}
 use Rattle.dw_unit.specs.Coded.{shapes_of}
 use Rattle.dw_unit.specs.Pending.{IsMarkRanged}
-use Rattle.dw_unit.specs.Places.{targets_at}
+use Rattle.dw_unit.specs.TargetsAt.{targets_at}
 use Rattle.dw_unit.specs.UnitFaults.{mark_fails, marks_fail}
 use Rattle.dw_unit.specs.UnitText.{coded_draft}
 use Rattle.dw_unit.proofs.Marks.{within_at, marks-below, mark_at}
@@ -33,7 +33,7 @@ pub loop-k-preserved : goal.loop-k-preserved
 loop-k-preserved g c =
     let e = c.args.encoding in
     let es = c.args.entries.now in
-    let u = targets_at c.args.places.now in
+    let u = targets_at c.args.targets.now in
     let items = c.args.items.now in
     let shapes = shapes_of e es [] (marks items) in
     let k = c.loop-k.k in
@@ -43,8 +43,8 @@ loop-k-preserved g c =
     let is = mark_at items k (its.Open 0) lt in
     let code = code_read e es shapes items c.args.codes.now k (its.Open 0) c.requires.codes lt in
     let added = rw code at c.in_ok-write_item.ensures.ok in
-    let fails : Mark ℕ → Error → Bool = mark_fails e es u.place (g.W.Writer.meaning c.args.w.now).is_plain in
-    let here : (err : Error) → IsFalse (fails m err) = subst (λ plain. (err : Error) → IsFalse (mark_fails e es u.place plain m err)) c.loop-k.invariant.added.text.same.kind c.in_ok-write_item.ensures.sound in
+    let fails : Mark ℕ → Error → Bool = mark_fails e es u (g.W.Writer.meaning c.args.w.now).is_plain in
+    let here : (err : Error) → IsFalse (fails m err) = subst (λ plain. (err : Error) → IsFalse (mark_fails e es u plain m err)) c.loop-k.invariant.added.text.same.kind c.in_ok-write_item.ensures.sound in
     record {
       added = Drafts-more (coded_draft e es u shapes) (marks items) k m below is c.loop-k.invariant.added added;
       sound = none_more fails (marks items) k m below is c.loop-k.invariant.sound here;
@@ -55,7 +55,7 @@ pub returns-in_err-write_item-clause-err : goal.returns-in_err-write_item-clause
 returns-in_err-write_item-clause-err g c =
     let e = c.args.encoding in
     let es = c.args.entries.now in
-    let place = (targets_at c.args.places.now).place in
+    let place = targets_at c.args.targets.now in
     let items = c.args.items.now in
     let k = c.loop-k.k in
     let m = mark_of (get_or items k (its.Open 0)) in
@@ -75,5 +75,5 @@ returns-clause-sound g c =
     let items = c.args.items.now in
     let k = c.loop-k.k in
     let all : take k (marks items) ≡ marks items = take_all k (marks items) (omega (arith, c.loop-k-test.false, length-map items mark_of)) in
-    let fails : List (Mark ℕ) → Error → Bool = marks_fail c.args.encoding c.args.entries.now (targets_at c.args.places.now).place (g.W.Writer.meaning c.args.w.now).is_plain in
+    let fails : List (Mark ℕ) → Error → Bool = marks_fail c.args.encoding c.args.entries.now (targets_at c.args.targets.now) (g.W.Writer.meaning c.args.w.now).is_plain in
     subst (λ ms. (e : Error) → IsFalse (fails ms e)) all c.loop-k.invariant.sound

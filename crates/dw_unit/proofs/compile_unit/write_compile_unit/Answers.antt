@@ -5,7 +5,7 @@ use Rattle.dw_writer.proofs.Steps.{IsSameWriter-trans}
 use Rattle.dw_entries.specs.Tree.{marks}
 use Rattle.dw_unit.specs.Causes.{Is}
 use Rattle.dw_unit.specs.Pending.{AreMarksRanged}
-use Rattle.dw_unit.specs.Places.{targets_at}
+use Rattle.dw_unit.specs.TargetsAt.{targets_at}
 use Rattle.dw_unit.specs.UnitFaults.{fields_fail, header_fails, marks_fail, unit_fails}
 use Rattle.dw_unit.specs.UnitText.{tree_draft, unit_length}
 use Rattle.dw_unit.proofs.Faults.{OnOk-both, refused_after}
@@ -21,7 +21,7 @@ write_items-requires-clause-codes g c =
 pub returns-clause-ok : goal.returns-clause-ok
 returns-clause-ok g c =
     let e = c.args.encoding in
-    let u = targets_at c.args.places.now in
+    let u = targets_at c.args.targets.now in
     let fields = c.in_ok-write_fields.ensures.ok in
     let body = tree_drafted e c.args.entries.now u (marks c.args.items.now) c.requires.tree c.in_ok-write_items.ensures.ok in
     let long = unit_length_is e c.args.table c.len.result c.len-start.result fields body c.len.ensures c.len-start.ensures in
@@ -32,7 +32,7 @@ returns-clause-ok g c =
 pub returns-clause-fits : goal.returns-clause-fits
 returns-clause-fits g c =
     let e = c.args.encoding in
-    let u = targets_at c.args.places.now in
+    let u = targets_at c.args.targets.now in
     let fields = c.in_ok-write_fields.ensures.ok in
     let body = tree_drafted e c.args.entries.now u (marks c.args.items.now) c.requires.tree c.in_ok-write_items.ensures.ok in
     let long = unit_length_is e c.args.table c.len.result c.len-start.result fields body c.len.ensures c.len-start.ensures in
@@ -47,7 +47,7 @@ pub returns-clause-sound : goal.returns-clause-sound
 returns-clause-sound g c =
     let e = c.args.encoding in
     let es = c.args.entries.now in
-    let u = targets_at c.args.places.now in
+    let u = targets_at c.args.targets.now in
     let plain = (g.W.Writer.meaning c.args.w.now).is_plain in
     let body = tree_drafted e es u (marks c.args.items.now) c.requires.tree c.in_ok-write_items.ensures.ok in
     let long = unit_length_is e c.args.table c.len.result c.len-start.result c.in_ok-write_fields.ensures.ok body c.len.ensures c.len-start.ensures in
@@ -60,7 +60,7 @@ pub returns-in_err-write_fields-clause-err : goal.returns-in_err-write_fields-cl
 returns-in_err-write_fields-clause-err g c =
     let e = c.args.encoding in
     let es = c.args.entries.now in
-    let u = targets_at c.args.places.now in
+    let u = targets_at c.args.targets.now in
     let m = g.W.Writer.meaning c.args.w.now in
     let long = unit_length e (tree_draft e es u).size in
     let here = rw (c.in_ok-place.ensures.same.kind) at c.in_err-write_fields.ensures.err in
@@ -73,21 +73,21 @@ pub returns-in_err-write_items-clause-err : goal.returns-in_err-write_items-clau
 returns-in_err-write_items-clause-err g c =
     let e = c.args.encoding in
     let es = c.args.entries.now in
-    let u = targets_at c.args.places.now in
+    let u = targets_at c.args.targets.now in
     let m = g.W.Writer.meaning c.args.w.now in
     let ms = marks c.args.items.now in
     let here = rw (c.in_ok-write_fields.ensures.same.kind, c.in_ok-place.ensures.same.kind) at c.in_err-write_items.ensures.err in
     let same = IsSameWriter-trans c.in_ok-place.ensures.same c.in_ok-write_fields.ensures.same in
     let p = err_from_is_err_and c.from_residual-in_err-write_items.result c.from_residual-in_err-write_items.ensures.1 in
     rw (p.1, p.2)
-    (refused_after m (g.W.Writer.meaning c.write_fields.new.w) (g.W.Writer.meaning c.write_items.new.w) (Is (marks_fail e es u.place m.is_plain ms)) (Is (unit_fails e es c.args.table u m.is_plain))
+    (refused_after m (g.W.Writer.meaning c.write_fields.new.w) (g.W.Writer.meaning c.write_items.new.w) (Is (marks_fail e es u m.is_plain ms)) (Is (unit_fails e es c.args.table u m.is_plain))
     same (in_marks e es c.args.table u m.is_plain ms c.requires.tree) c.in_err-write_items.field-0.0 here)
 
 pub returns-clause-err : goal.returns-clause-err
 returns-clause-err g c =
     let e = c.args.encoding in
     let es = c.args.entries.now in
-    let u = targets_at c.args.places.now in
+    let u = targets_at c.args.targets.now in
     let m = g.W.Writer.meaning c.args.w.now in
     let long : ℕ = unit_length e (tree_draft e es u).size in
     let start = c.in_ok-place.ensures.ok in

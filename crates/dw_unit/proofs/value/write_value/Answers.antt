@@ -9,8 +9,8 @@ use Rattle.dw_writer.proofs.WriteLaws.{Drafts-is, Drafts-whole, Drafts-nothing}
 use Rattle.dw_entries.specs.ContentView.{content_in}
 use Rattle.dw_entries.proofs.ContentLaws.{plain_width}
 use Rattle.dw_entries.proofs.ValueTexts.{info_width}
-use Rattle.dw_unit.specs.Places.{placement_of, targets_at}
-use Rattle.dw_unit.proofs.Drafted.{Drafts-bytes, Drafts-number, nothing_is, plain_is, wide_is, leb_is, signed_leb_is, block_is, closed_is, target_is, offset_is, entry_place_is, info_is}
+use Rattle.dw_unit.specs.TargetsAt.{placement_at, targets_at}
+use Rattle.dw_unit.proofs.Drafted.{Drafts-bytes, Drafts-number, nothing_is, plain_is, wide_is, leb_is, signed_leb_is, block_is, closed_is, target_is, offset_is, in_table_is, entry_place_is, info_is}
 use Rattle.dw_unit.proofs.Faults.{OnOk-both, fitting_number}
 use Rattle.dw_unit.proofs.PlaceLaws.{found_some}
 use Rattle.dw_unit.proofs.value.write_value.Goals as goal
@@ -18,7 +18,7 @@ use Rattle.dw_unit.proofs.value.write_value.Goals as goal
 pub returns-in-Nothing-clause-ok : goal.returns-in-Nothing-clause-ok
 returns-in-Nothing-clause-ok g c =
     let is = sym c.content.ensures ∙ ap content_in c.in-Nothing.is in
-    Drafts-is (Drafts-nothing (g.W.Writer.meaning c.args.w.now) c.args.fixups.now) (nothing_is c.args.encoding (targets_at c.args.places.now) c.args.value.now is)
+    Drafts-is (Drafts-nothing (g.W.Writer.meaning c.args.w.now) c.args.fixups.now) (nothing_is c.args.encoding (targets_at c.args.targets.now) c.args.value.now is)
 
 pub write_plain-requires : goal.write_plain-requires
 write_plain-requires g c =
@@ -31,62 +31,68 @@ returns-in-Plain-clause-ok g c =
     let w = c.in-Plain.size in
     let n = c.in-Plain.value in
     OnOk-both c.write_plain.result c.write_plain.ensures.ok c.write_plain.ensures.sound
-    (λ p h. Drafts-is (Drafts-number c.args.fixups.now w n p) (plain_is c.args.encoding (targets_at c.args.places.now) c.args.value.now w n is (fitting_number w n (h errors.ValueTooLarge))))
+    (λ p h. Drafts-is (Drafts-number c.args.fixups.now w n p) (plain_is c.args.encoding (targets_at c.args.targets.now) c.args.value.now w n is (fitting_number w n (h errors.ValueTooLarge))))
 
 pub returns-in-Wide-clause-ok : goal.returns-in-Wide-clause-ok
 returns-in-Wide-clause-ok g c =
     let is = sym c.content.ensures ∙ ap content_in c.in-Wide.is in
     let n = c.in-Wide.number in
     OnOk-map c.write_u128.result c.write_u128.ensures.ok
-    (λ p. Drafts-is (Drafts-number c.args.fixups.now 16 n p) (wide_is c.args.encoding (targets_at c.args.places.now) c.args.value.now n is))
+    (λ p. Drafts-is (Drafts-number c.args.fixups.now 16 n p) (wide_is c.args.encoding (targets_at c.args.targets.now) c.args.value.now n is))
 
 pub returns-in-Leb-clause-ok : goal.returns-in-Leb-clause-ok
 returns-in-Leb-clause-ok g c =
     let is = sym c.content.ensures ∙ ap content_in c.in-Leb.is in
     OnOk-map c.write_uleb128.result c.write_uleb128.ensures.ok
-    (λ p. Drafts-is (Drafts-bytes c.args.fixups.now p) (leb_is c.args.encoding (targets_at c.args.places.now) c.args.value.now c.in-Leb.number is))
+    (λ p. Drafts-is (Drafts-bytes c.args.fixups.now p) (leb_is c.args.encoding (targets_at c.args.targets.now) c.args.value.now c.in-Leb.number is))
 
 pub returns-in-SignedLeb-clause-ok : goal.returns-in-SignedLeb-clause-ok
 returns-in-SignedLeb-clause-ok g c =
     let is = sym c.content.ensures ∙ ap content_in c.in-SignedLeb.is in
     let wrote = rw (to_z-of_z w64 c.in-SignedLeb.number (omega arith)) at c.write_sleb128.ensures.ok in
     OnOk-map c.write_sleb128.result wrote
-    (λ p. Drafts-is (Drafts-bytes c.args.fixups.now p) (signed_leb_is c.args.encoding (targets_at c.args.places.now) c.args.value.now c.in-SignedLeb.number is))
+    (λ p. Drafts-is (Drafts-bytes c.args.fixups.now p) (signed_leb_is c.args.encoding (targets_at c.args.targets.now) c.args.value.now c.in-SignedLeb.number is))
 
 pub returns-in-Block-clause-ok : goal.returns-in-Block-clause-ok
 returns-in-Block-clause-ok g c =
     let is = sym c.content.ensures ∙ ap content_in c.in-Block.is in
     OnOk-map c.write_block.result c.write_block.ensures.ok
-    (λ p. Drafts-is (Drafts-bytes c.args.fixups.now p) (block_is c.args.encoding (targets_at c.args.places.now) c.args.value.now c.in-Block.bytes.now is))
+    (λ p. Drafts-is (Drafts-bytes c.args.fixups.now p) (block_is c.args.encoding (targets_at c.args.targets.now) c.args.value.now c.in-Block.bytes.now is))
 
 pub returns-in-Closed-clause-ok : goal.returns-in-Closed-clause-ok
 returns-in-Closed-clause-ok g c =
     let is = sym c.content.ensures ∙ ap content_in c.in-Closed.is in
     OnOk-both c.write_text.result c.write_text.ensures.ok c.write_text.ensures.sound
-    (λ p h. Drafts-is (Drafts-bytes c.args.fixups.now p) (closed_is c.args.encoding (targets_at c.args.places.now) c.args.value.now c.in-Closed.text.now is (h errors.InvalidAttributeValue)))
+    (λ p h. Drafts-is (Drafts-bytes c.args.fixups.now p) (closed_is c.args.encoding (targets_at c.args.targets.now) c.args.value.now c.in-Closed.text.now is (h errors.InvalidAttributeValue)))
 
 pub returns-in-Target-clause-ok : goal.returns-in-Target-clause-ok
 returns-in-Target-clause-ok g c =
     let is = sym c.content.ensures ∙ ap content_in c.in-Target.is in
     OnOk-map c.write_target.result c.write_target.ensures.ok
-    (λ p. Drafts-is (Drafts-whole c.args.fixups.now p) (target_is c.args.encoding (targets_at c.args.places.now) c.args.value.now c.in-Target.address is c.requires.width))
+    (λ p. Drafts-is (Drafts-whole c.args.fixups.now p) (target_is c.args.encoding (targets_at c.args.targets.now) c.args.value.now c.in-Target.address is c.requires.width))
 
 pub returns-in-Offset-clause-ok : goal.returns-in-Offset-clause-ok
 returns-in-Offset-clause-ok g c =
     let is = sym c.content.ensures ∙ ap content_in c.in-Offset.is in
     OnOk-map c.write_place.result c.write_place.ensures.ok
-    (λ p. Drafts-is (Drafts-whole c.args.fixups.now p) (offset_is c.args.encoding (targets_at c.args.places.now) c.args.value.now c.in-Offset.section c.in-Offset.value is))
+    (λ p. Drafts-is (Drafts-whole c.args.fixups.now p) (offset_is c.args.encoding (targets_at c.args.targets.now) c.args.value.now c.in-Offset.section c.in-Offset.value is))
+
+pub returns-in-InTable-clause-ok : goal.returns-in-InTable-clause-ok
+returns-in-InTable-clause-ok g c =
+    let is = sym c.content.ensures ∙ ap content_in c.in-InTable.is in
+    OnOk-map c.write_place_in_table.result c.write_place_in_table.ensures.ok
+    (λ p. Drafts-is (Drafts-whole c.args.fixups.now p) (in_table_is c.args.encoding (targets_at c.args.targets.now) c.args.value.now c.in-InTable.section c.in-InTable.index is))
 
 pub returns-in-EntryPlace-clause-ok : goal.returns-in-EntryPlace-clause-ok
 returns-in-EntryPlace-clause-ok g c =
     let e = c.args.encoding in
-    let u = targets_at c.args.places.now in
+    let u = targets_at c.args.targets.now in
     let is = sym c.content.ensures ∙ ap content_in c.in-EntryPlace.is in
     let i = c.in-EntryPlace.entry in
-    let n = (placement_of c.args.places.now).place i.0 in
+    let n = (placement_at c.args.targets.now).place i.0 in
     OnOk-both c.write_reference.result c.write_reference.ensures.ok c.write_reference.ensures.sound
     (λ p h. Drafts-is (Drafts-number c.args.fixups.now (word_of e.format) n p)
-    (entry_place_is e u c.args.value.now i.0 n is (found_some (placement_of c.args.places.now).place i.0 (h errors.InvalidReference)) (c.requires.fit i.0).0))
+    (entry_place_is e u c.args.value.now i.0 n is (found_some (placement_at c.args.targets.now).place i.0 (h errors.InvalidReference)) (c.requires.fit i.0).0))
 
 pub write_info_reference-requires : goal.write_info_reference-requires
 write_info_reference-requires g c = subst (λ n. IsTrue (is_width n)) (sym c.info_place_size.ensures) (info_width c.args.encoding c.requires.width)
@@ -96,4 +102,4 @@ returns-in-InfoPlace-clause-ok g c =
     let is = sym c.content.ensures ∙ ap content_in c.in-InfoPlace.is in
     let wrote = rw c.info_place_size.ensures at c.write_info_reference.ensures.ok in
     OnOk-map c.write_info_reference.result wrote
-    (λ p. Drafts-is p (info_is c.args.encoding (targets_at c.args.places.now) c.args.value.now c.in-InfoPlace.entry is c.requires.width))
+    (λ p. Drafts-is p (info_is c.args.encoding (targets_at c.args.targets.now) c.args.value.now c.in-InfoPlace.entry is c.requires.width))

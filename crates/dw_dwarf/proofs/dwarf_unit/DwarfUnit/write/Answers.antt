@@ -1,33 +1,88 @@
-use Rattle.dw_writer.proofs.Outcomes.{OnOk-map, IfErr-map}
+use Rattle.std.proofs.Common.{ap, inl, inr}
+use Rattle.std.proofs.lemmas.Result.{err_from_is_err_and}
+use Rattle.dw_writer.proofs.Outcomes.{OnOk-map, IfErr-map, OnErr-always}
+use Rattle.dw_unit.specs.Alone.{AloneFails}
+use Rattle.dw_unit.specs.Strings.{tables_in}
+use Rattle.dw_unit.specs.Whole.{settled}
 use Rattle.dw_dwarf.specs.Valid.{dwarf_of}
 use Rattle.dw_dwarf.proofs.Held.{dwarf_held, dwarf_resolved}
 use Rattle.dw_dwarf.proofs.OneUnit.{alone_whole, others_kept, no_fixups, alone_complete}
+use Rattle.dw_dwarf.proofs.StringSections.{appends_after, strings_after, strings_because, strings_memory, fixups_after}
 use Rattle.dw_dwarf.proofs.dwarf_unit.DwarfUnit.write.Goals as goal
+
+-- where the unit is refused
+
+pub returns-in_err-write_alone-clause-complete : goal.returns-in_err-write_alone-clause-complete
+returns-in_err-write_alone-clause-complete g c = λ writable alone calm.
+    let d = c.args.self.now in
+    let p = err_from_is_err_and c.from_residual.result c.from_residual.ensures.1 in
+    rw (p.1, p.2)
+    (alone_complete g.W.Writer.meaning c.args.sections.now c.write_alone.new.sections (tables_in d.line_strings d.strings) d.unit writable alone calm c.in_err-write_alone.field-0.0 c.in_err-write_alone.ensures.err)
+
+-- behind the unit
 
 pub returns-clause-built : goal.returns-clause-built
 returns-clause-built g c =
     let meaning = g.W.Writer.meaning in
     let old = c.args.sections.now in
-    let new = c.write_alone.new.sections in
-    let u = c.args.self.now.unit in
-    OnOk-map c.write_alone.result c.write_alone.ensures.appends
-    (λ p empty. dwarf_held meaning old new (dwarf_of u) (alone_whole meaning old new u c.write_alone.new.self.offsets p) g.met.W.Writer.plain_records_nothing empty (others_kept old new c.write_alone.ensures.others))
+    let mid = c.write_alone.new.sections in
+    let new = c.write_strings.new.sections in
+    let d = c.args.self.now in
+    let u = d.unit in
+    let others = c.in_ok-write_alone.ensures.others in
+    let same = c.write_strings.ensures.others in
+    let p = appends_after meaning old mid new (settled u) (tables_in d.line_strings d.strings) c.write_alone.new.self.offsets same c.in_ok-write_alone.ensures.appends in
+    OnOk-map c.write_strings.result c.write_strings.ensures.ok
+    (λ strings empty.
+    dwarf_held meaning old new (dwarf_of d.line_strings d.strings u) (alone_whole meaning old new d.line_strings d.strings u c.write_alone.new.self.offsets p) g.met.W.Writer.plain_records_nothing empty
+    (strings_after meaning old mid new d.line_strings d.strings (ap (λ s. s.debug_line_str) others) (ap (λ s. s.debug_str) others) strings) (others_kept old mid new others same))
 
 pub returns-clause-resolves : goal.returns-clause-resolves
 returns-clause-resolves g c =
     let meaning = g.W.Writer.meaning in
     let old = c.args.sections.now in
-    let new = c.write_alone.new.sections in
-    let u = c.args.self.now.unit in
-    OnOk-map c.write_alone.result c.write_alone.ensures.appends
-    (λ p empty. dwarf_resolved meaning old new (dwarf_of u) (alone_whole meaning old new u c.write_alone.new.self.offsets p) empty)
+    let new = c.write_strings.new.sections in
+    let d = c.args.self.now in
+    let p = appends_after meaning old c.write_alone.new.sections new (settled d.unit) (tables_in d.line_strings d.strings) c.write_alone.new.self.offsets c.write_strings.ensures.others c.in_ok-write_alone.ensures.appends in
+    OnOk-map c.write_strings.result c.write_strings.ensures.ok
+    (λ strings empty. dwarf_resolved meaning old new (dwarf_of d.line_strings d.strings d.unit) (alone_whole meaning old new d.line_strings d.strings d.unit c.write_alone.new.self.offsets p) empty)
+
+pub returns-clause-appends : goal.returns-clause-appends
+returns-clause-appends g c =
+    let d = c.args.self.now in
+    let p = appends_after g.W.Writer.meaning c.args.sections.now c.write_alone.new.sections c.write_strings.new.sections (settled d.unit) (tables_in d.line_strings d.strings) c.write_alone.new.self.offsets c.write_strings.ensures.others c.in_ok-write_alone.ensures.appends in
+    OnOk-map c.write_strings.result c.write_strings.ensures.ok (λ strings. p)
+
+pub returns-clause-strings : goal.returns-clause-strings
+returns-clause-strings g c =
+    let others = c.in_ok-write_alone.ensures.others in
+    OnOk-map c.write_strings.result c.write_strings.ensures.ok
+    (strings_after g.W.Writer.meaning c.args.sections.now c.write_alone.new.sections c.write_strings.new.sections c.args.self.now.line_strings c.args.self.now.strings (ap (λ s. s.debug_line_str) others) (ap (λ s. s.debug_str) others))
 
 pub returns-clause-emptied : goal.returns-clause-emptied
 returns-clause-emptied g c =
-    OnOk-map c.write_alone.result c.write_alone.ensures.closed
-    (λ closed. no_fixups c.args.sections.now c.write_alone.new.sections c.write_alone.ensures.others c.requires.fixups closed)
+    let mid = c.write_alone.new.sections in
+    let none = no_fixups c.args.sections.now mid c.in_ok-write_alone.ensures.others c.requires.fixups c.in_ok-write_alone.ensures.closed in
+    OnOk-map c.write_strings.result c.write_strings.ensures.ok
+    (λ strings. fixups_after g.W.Writer.meaning mid c.write_strings.new.sections c.write_strings.ensures.others none)
+
+pub returns-clause-err : goal.returns-clause-err
+returns-clause-err g c =
+    let meaning = g.W.Writer.meaning in
+    let old = c.args.sections.now in
+    let d = c.args.self.now in
+    let others = c.in_ok-write_alone.ensures.others in
+    IfErr-map c.write_strings.result c.write_strings.ensures.err
+    (λ err h.
+    strings_because meaning old c.write_alone.new.sections c.write_strings.new.sections
+    (AloneFails d.unit (tables_in d.line_strings d.strings) (meaning old.debug_abbrev.0).size (meaning old.debug_info.0).is_plain) err (ap (λ s. s.debug_line_str) others) (ap (λ s. s.debug_str) others) h)
 
 pub returns-clause-complete : goal.returns-clause-complete
 returns-clause-complete g c = λ writable alone calm.
-    IfErr-map c.write_alone.result c.write_alone.ensures.err
-    (λ err refused. alone_complete g.W.Writer.meaning c.args.sections.now c.write_alone.new.sections c.args.self.now.unit writable alone calm err refused)
+    let others = c.in_ok-write_alone.ensures.others in
+    IfErr-map c.write_strings.result c.write_strings.ensures.err
+    (λ err h. strings_memory g.W.Writer.meaning c.args.sections.now c.write_alone.new.sections c.write_strings.new.sections err (ap (λ s. s.debug_line_str) others) (ap (λ s. s.debug_str) others) calm h)
+
+pub returns-clause-others : goal.returns-clause-others
+returns-clause-others g c =
+    others_kept c.args.sections.now c.write_alone.new.sections c.write_strings.new.sections c.in_ok-write_alone.ensures.others c.write_strings.ensures.others
