@@ -9,7 +9,7 @@ use Rattle.dw_script.specs.declared.word.Word.{Word}
 use Rattle.dw_script.specs.declared.word.Word.TheVariants as word
 use Rattle.dw_script.specs.Pieces.{pieces, space}
 use Rattle.dw_script.specs.Fields.{Fields, Outcome, ◌>>=◌, word_field, end_of_fields, number_field, format_field, flag_field, byte_order_field}
-use Rattle.dw_script.specs.Values.{tag_field, attribute_field, value_field}
+use Rattle.dw_script.specs.Values.{tag_field, attribute_field, hex_field, value_field}
 
 -- an empty line, and one that begins with `#`, which is 35, asks for nothing
 abbrev pub passed_over : List ℕ → Bool
@@ -35,6 +35,20 @@ unit_line fields = do
   (format, fields) ← format_field fields
   _ ← end_of_fields fields
   Ok (command.Unit (record { address_size = address_size; format = format; version = version }))
+
+-- the fields after `str`: the bytes of a string of .debug_str
+abbrev pub string_line : Fields → Outcome Command
+string_line fields = do
+  (bytes, fields) ← hex_field fields
+  _ ← end_of_fields fields
+  Ok (command.String bytes)
+
+-- the fields after `line_str`: the bytes of a string of .debug_line_str
+abbrev pub line_string_line : Fields → Outcome Command
+line_string_line fields = do
+  (bytes, fields) ← hex_field fields
+  _ ← end_of_fields fields
+  Ok (command.LineString bytes)
 
 -- the fields after `add`: the unit, the entry above the new one, and the tag
 abbrev pub add_line : Fields → Outcome Command
@@ -110,6 +124,8 @@ line_of word.Sibling fields = sibling_line fields
 line_of word.Set fields = set_line fields
 line_of word.Delete fields = delete_line fields
 line_of word.DeleteChild fields = delete_child_line fields
+line_of word.Str fields = string_line fields
+line_of word.LineStr fields = line_string_line fields
 line_of _ fields = Err NotBuilt
 
 -- what the fields of a line ask for, from its word on

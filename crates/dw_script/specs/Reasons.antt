@@ -1,7 +1,7 @@
 -- The reasons for which a line is refused, as they are printed.
 use Rattle.std.specs.Prelude.{ℕ, List, codes}
 use Rattle.dw_script.specs.declared.reason.Reason.{Reason}
-use Rattle.dw_script.specs.declared.reason.Reason.TheVariants.{BadByte, UnknownWord, BadNumber, WrongFields, NotBuilt, OrderNotFirst, BadHex, NoSuchUnit, NoSuchEntry, NotReserved, BadTag, BadName}
+use Rattle.dw_script.specs.declared.reason.Reason.TheVariants.{BadByte, UnknownWord, BadNumber, WrongFields, NotBuilt, OrderNotFirst, BadHex, NoSuchUnit, NoSuchEntry, NotReserved, BadTag, BadName, ZeroByte}
 
 -- a reason's text
 abbrev pub reason_text : Reason → List ℕ
@@ -17,3 +17,4 @@ reason_text NoSuchEntry = codes "no such entry"
 reason_text NotReserved = codes "not reserved"
 reason_text BadTag = codes "bad tag"
 reason_text BadName = codes "bad name"
+reason_text ZeroByte = codes "zero byte"

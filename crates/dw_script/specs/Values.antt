@@ -85,6 +85,8 @@ value_of_kind kind.DebugMacroRef fields = made (λ n. value.DebugMacroRef (recor
 value_of_kind kind.DebugTypesRef fields = made (λ n. value.DebugTypesRef (record { 0 = n })) (number_field (2 ^ 64) fields)
 value_of_kind kind.DebugStrRefSup fields = made (λ n. value.DebugStrRefSup (record { 0 = n })) (number_field (2 ^ 64) fields)
 value_of_kind kind.String fields = made value.String (hex_field fields)
+value_of_kind kind.StringRef fields = made value.StringRef (number_field (2 ^ 64) fields)
+value_of_kind kind.LineStringRef fields = made value.LineStringRef (number_field (2 ^ 64) fields)
 value_of_kind (kind.Constant kind) fields = constant_of_kind kind fields
 value_of_kind kind.Unbuilt fields = Err NotBuilt
 

@@ -1,6 +1,7 @@
 //! What a line of a script asks for.
 
 use crate::change::Change;
+use crate::hex_bytes::HexBytes;
 use dw_base::{Encoding, RunTimeEndian};
 
 /// One line's request.
@@ -10,6 +11,10 @@ pub enum Command<'a> {
     Order(RunTimeEndian),
     /// A new unit, encoded so.
     Unit(Encoding),
+    /// A string of `.debug_str`.
+    String(HexBytes<'a>),
+    /// A string of `.debug_line_str`.
+    LineString(HexBytes<'a>),
     /// A change of the unit at an index.
     Change { unit: u64, change: Change<'a> },
 }

@@ -2,13 +2,13 @@
 
 ghost use Rattle.std.specs.Prelude.{◌≡◌};
 ghost use Rattle.dw_script.specs.Pieces.{pieces_left};
-ghost use Rattle.dw_script.specs.Lines.{add_line, add_reserved_line, all_printable, command_of, delete_child_line, delete_line, order_line, parsed_line, passed_over, reserve_line, set_line, sibling_line, unit_line};
+ghost use Rattle.dw_script.specs.Lines.{add_line, add_reserved_line, all_printable, command_of, delete_child_line, delete_line, line_string_line, order_line, parsed_line, passed_over, reserve_line, set_line, sibling_line, string_line, unit_line};
 
 use crate::change::Change;
 use crate::command::Command;
 use crate::field::{
-    expect_end, next_attribute, next_byte_order, next_flag, next_format, next_tag, next_u8,
-    next_u16, next_u64, next_word,
+    expect_end, next_attribute, next_byte_order, next_flag, next_format, next_hex_bytes, next_tag,
+    next_u8, next_u16, next_u64, next_word,
 };
 use crate::pieces::Pieces;
 use crate::reason::Reason;
@@ -61,6 +61,8 @@ fn parse_fields<'a>(fields: &mut Pieces<'a>) -> Result<Command<'a>, Reason>
         Word::Set => parse_set(fields),
         Word::Delete => parse_delete(fields),
         Word::DeleteChild => parse_delete_child(fields),
+        Word::Str => parse_string(fields),
+        Word::LineStr => parse_line_string(fields),
         _ => Err(Reason::NotBuilt),
     }
 }
@@ -91,6 +93,22 @@ fn parse_unit<'a>(fields: &mut Pieces<'a>) -> Result<Command<'a>, Reason>
         format,
         version,
     }))
+}
+
+fn parse_string<'a>(fields: &mut Pieces<'a>) -> Result<Command<'a>, Reason>
+    ensures { result ≡ string_line (pieces_left fields.old) }
+{
+    let bytes = next_hex_bytes(fields)?;
+    expect_end(fields)?;
+    Ok(Command::String(bytes))
+}
+
+fn parse_line_string<'a>(fields: &mut Pieces<'a>) -> Result<Command<'a>, Reason>
+    ensures { result ≡ line_string_line (pieces_left fields.old) }
+{
+    let bytes = next_hex_bytes(fields)?;
+    expect_end(fields)?;
+    Ok(Command::LineString(bytes))
 }
 
 fn parse_add<'a>(fields: &mut Pieces<'a>) -> Result<Command<'a>, Reason>

@@ -30,6 +30,8 @@ pub enum Reason {
     BadTag,
     /// The name is one that no attribute may have.
     BadName,
+    /// A string has a zero byte, which would close it.
+    ZeroByte,
 }
 
 impl Reason {
@@ -50,6 +52,7 @@ impl Reason {
             Reason::NotReserved => "not reserved",
             Reason::BadTag => "bad tag",
             Reason::BadName => "bad name",
+            Reason::ZeroByte => "zero byte",
         }
     }
 }

@@ -16,6 +16,8 @@ enum Request {
     Set(u64, u64, DwAt),
     Delete(u64, u64, DwAt),
     DeleteChild(u64, u64, u64),
+    String,
+    LineString,
 }
 
 fn request_of(line: &[u8]) -> Result<Request, Reason> {
@@ -23,6 +25,8 @@ fn request_of(line: &[u8]) -> Result<Request, Reason> {
         None => Ok(Request::Nothing),
         Some(Command::Order(order)) => Ok(Request::Order(order)),
         Some(Command::Unit(encoding)) => Ok(Request::Unit(encoding)),
+        Some(Command::String(_)) => Ok(Request::String),
+        Some(Command::LineString(_)) => Ok(Request::LineString),
         Some(Command::Change { unit, change }) => Ok(changed(unit, change)),
     }
 }
@@ -77,7 +81,7 @@ fn delete_child(unit: u64, parent: u64, entry: u64) -> Result<Request, Reason> {
 fn reads_lines(rt: HostRuntime) {
     let little = Ok(Request::Order(RunTimeEndian::Little));
     let big = Ok(Request::Order(RunTimeEndian::Big));
-    let rows: [(&[u8], Result<Request, Reason>); 33] = [
+    let rows: [(&[u8], Result<Request, Reason>); 39] = [
         (b"", Ok(Request::Nothing)),
         (b"#\x80\t unit", Ok(Request::Nothing)),
         (b"order little", little),
@@ -114,6 +118,12 @@ fn reads_lines(rt: HostRuntime) {
         (b"frob", Err(Reason::UnknownWord)),
         (b"next", Err(Reason::UnknownWord)),
         (b"symbol 0 1", Err(Reason::UnknownWord)),
+        (b"str 616263", Ok(Request::String)),
+        (b"str -", Ok(Request::String)),
+        (b"line_str 61", Ok(Request::LineString)),
+        (b"str", Err(Reason::WrongFields)),
+        (b"str 6", Err(Reason::BadHex)),
+        (b"line_str 61 62", Err(Reason::WrongFields)),
         (b"range x", Err(Reason::NotBuilt)),
         (b"end", Err(Reason::NotBuilt)),
         (b"add \x7f", Err(Reason::BadByte)),
@@ -291,7 +301,7 @@ fn reads_deletions(rt: HostRuntime) {
 #[test]
 fn refuses_words_that_are_not_built(rt: HostRuntime) -> Result<(), Fail> {
     let words = [
-        "str", "line_str", "range", "loc", "line", "dir", "file", "sequence", "row", "end",
+        "range", "loc", "line", "dir", "file", "sequence", "row", "end",
     ];
     for word in words {
         let line = format!(in rt.alloc(); "{word} x")?;
@@ -305,8 +315,7 @@ fn refuses_words_that_are_not_built(rt: HostRuntime) -> Result<(), Fail> {
 }
 
 /// The kinds of values that aren't built.
-const UNBUILT_KINDS: &str = "exprloc line_program_ref loc_ref range_ref str_ref line_str_ref
-file_index";
+const UNBUILT_KINDS: &str = "exprloc line_program_ref loc_ref range_ref file_index";
 
 /// The fields after a kind that isn't built aren't looked at.
 #[test]
@@ -534,6 +543,10 @@ fn reads_flags_and_places(rt: HostRuntime) -> Result<(), Fail> {
         ),
         ("types_ref -1", "bad number"),
         ("str_ref_sup 5", "DebugStrRefSup(DebugStrOffset(5))"),
+        ("str_ref 5", "StringRef(5)"),
+        ("str_ref -1", "bad number"),
+        ("line_str_ref 0x10", "LineStringRef(16)"),
+        ("line_str_ref", "wrong fields"),
         ("str_ref_sup none", "bad number"),
     ];
     for (line, want) in rows {

@@ -65,6 +65,10 @@ pub enum Value<'a> {
     DebugStrRefSup(DebugStrOffset),
     /// Bytes in place, with a zero after them (7.5.5).
     String(HexBytes<'a>),
+    /// A string of `.debug_str`, by its index; a word of the format (7.5.5).
+    StringRef(u64),
+    /// A string of `.debug_line_str`, by its index; a word of the format (7.5.5).
+    LineStringRef(u64),
     /// The encoding of a base type (7.8).
     Encoding(DwAte),
     /// The sign of a decimal type (7.8).
@@ -117,6 +121,8 @@ pub(crate) fn next_value<'a>(fields: &mut Pieces<'a>) -> Result<Value<'a>, Reaso
         Kind::DebugTypesRef => Value::DebugTypesRef(DebugTypeSignature(next_u64(fields)?)),
         Kind::DebugStrRefSup => Value::DebugStrRefSup(DebugStrOffset(next_usize(fields)?)),
         Kind::String => Value::String(next_hex_bytes(fields)?),
+        Kind::StringRef => Value::StringRef(next_u64(fields)?),
+        Kind::LineStringRef => Value::LineStringRef(next_u64(fields)?),
         Kind::Constant(kind) => next_constant(kind, fields)?,
         Kind::Unbuilt => return Err(Reason::NotBuilt),
     };

@@ -6,9 +6,9 @@ use Rattle.dw_base.specs.declared.error.Error.TheVariants.{NoMemory}
 use Rattle.dw_writer.specs.Contents.{Meaning}
 use Rattle.dw_writer.specs.Sections.{SomeHasRisen}
 use Rattle.dw_writer.specs.declared.sections.Sections.{Sections}
-use Rattle.dw_unit.specs.Built.{numbered, at_begin}
+use Rattle.dw_unit.specs.Built.{at_begin}
 use Rattle.dw_unit.specs.Causes.{UnitsFail}
-use Rattle.dw_dwarf.specs.Valid.{AreUnwritten, IsValid, SomeReferenceFails, DwarfRefused, settled_dwarf}
+use Rattle.dw_dwarf.specs.Valid.{AreUnwritten, IsValid, SomeReferenceFails, DwarfRefused, settled_units, string_tables}
 use Rattle.dw_dwarf.specs.Written.{AreNewPlain, AreNew}
 use Rattle.dw_dwarf.specs.declared.dwarf.Dwarf.{Dwarf}
 use Rattle.dw_dwarf.proofs.Complete.{AreNew-from_plain, dwarf_fails, valid_unfailing}
@@ -23,7 +23,7 @@ pub dwarf_faulty : {W : Type 0} {meaning : W → Meaning} {old : Sections W} {Cl
     (old.debug_info_fixups ≡ [] → AreUnwritten d → DwarfRefused meaning old new d e) → (SomeHasRisen meaning old new → ⊥) → HasFault d e
 dwarf_faulty {W} {meaning} {old} clause new empty d e unwritten some refused calm =
     let fails = dwarf_fails meaning old new (AreNew-from_plain meaning old empty) calm d e some (refused empty.fixups.info unwritten) in
-    subst (λ b. UnitsFail b 0 d.units e ⊎ SomeReferenceFails b at_begin (numbered (settled_dwarf d).units) e) empty.writers.debug_info.plain fails
+    subst (λ b. UnitsFail b (string_tables d) 0 d.units e ⊎ SomeReferenceFails b at_begin (settled_units d) e) empty.writers.debug_info.plain fails
 
 -- what is said of a script that is refused
 pub says_refused : (s : Script) (status : Status) (text : List ℕ) (e : Error) → status ≡ WriteRefused → text ≡ refused_text e → HasFault s.dwarf e → SaysOf s status text

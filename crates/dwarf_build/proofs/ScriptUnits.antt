@@ -8,13 +8,14 @@ use Rattle.dw_script.specs.Lines.{parsed_line}
 use Rattle.dw_script.specs.Pieces.{newline, pieces}
 use Rattle.dw_script.specs.Fields.{Outcome, ◌>>=◌}
 use Rattle.dw_script.specs.declared.command.Command.{Command}
-use Rattle.dw_script.specs.declared.command.Command.TheVariants.{Order, Unit as AddUnit, Change as ChangeUnit}
+use Rattle.dw_script.specs.declared.command.Command.TheVariants.{Order, Unit as AddUnit, String as AddString, LineString as AddLineString, Change as ChangeUnit}
 use Rattle.dw_script.specs.declared.change.Change.{Change}
 use Rattle.dw_script.specs.declared.change.Change.TheVariants as change
 use Rattle.dw_script.specs.declared.reason.Reason.{Reason}
-use Rattle.dw_script.specs.declared.reason.Reason.TheVariants.{OrderNotFirst, NoSuchUnit, NoSuchEntry, NotReserved, BadTag, BadName}
+use Rattle.dw_script.specs.declared.reason.Reason.TheVariants.{OrderNotFirst, NoSuchUnit, NoSuchEntry, NotReserved, BadTag, BadName, ZeroByte}
+use Rattle.dw_entries.specs.Content.{has_zero}
 use Rattle.dw_unit.specs.UnitValue.{UnitValue, new_unit, is_reserved, no_line_program}
-use Rattle.dwarf_build.specs.Script.{with_units, with_unit_changed, after_change, after_command, after_asked, after_line, after_lines, empty_script, script, IsOpen, AreOpen}
+use Rattle.dwarf_build.specs.Script.{with_units, with_unit_changed, after_change, after_string, after_line_string, after_command, after_asked, after_line, after_lines, empty_script, script, IsOpen, AreOpen}
 use Rattle.dwarf_build.specs.declared.script.Script.{Script}
 use Rattle.dwarf_build.specs.declared.script.Refusal.{Refusal}
 
@@ -40,6 +41,11 @@ order_open false s t h = h
 
 unit_open : (s : Script) (e : Encoding) → AreOpen s.dwarf.units → IfBuilds {E = Reason} (Ok (with_units s (s.dwarf.units ++ new_unit e no_line_program ∷ [])))
 unit_open s e h = All-append IsOpen s.dwarf.units (new_unit e no_line_program ∷ []) h (one_open (new_unit e no_line_program) (refl, refl))
+
+strings_open : (after : List ℕ → Script) → ((text : List ℕ) → AreOpen (after text).dwarf.units) → (bytes : List ℕ) (b : Bool) →
+    IfBuilds {E = Reason} ((let r : Outcome (List ℕ) = if b then Err ZeroByte else Ok bytes in r) >>= λ text. Ok (after text))
+strings_open after h bytes true = tt
+strings_open after h bytes false = h bytes
 
 -- a change of a unit doesn't end it
 abbrev LeavesOpen : (UnitValue → Outcome UnitValue) → Type 0
@@ -82,6 +88,8 @@ change_leaves (change.DeleteChild parent entry) u v e h =
 command_open : (s : Script) (c : Command) → AreOpen s.dwarf.units → IfBuilds (after_command s c)
 command_open s (Order o) h = order_open s.has_begun s (record s { endian = o; has_begun = true }) h
 command_open s (AddUnit e) h = unit_open s e h
+command_open s (AddString bytes) h = strings_open (after_string s) (λ text. h) bytes (has_zero bytes)
+command_open s (AddLineString bytes) h = strings_open (after_line_string s) (λ text. h) bytes (has_zero bytes)
 command_open s (ChangeUnit unit c) h = changed_open (after_change c) s s.dwarf.units unit (change_leaves c) h
 
 asked_open : (s : Script) (r : Outcome (Option Command)) → AreOpen s.dwarf.units → IfBuilds (r >>= after_asked s)

@@ -2,9 +2,9 @@
 use Rattle.std.specs.Prelude.{◌≡◌, ◌⊎◌, ℕ, ◌+◌, ◌<◌, ◌≤◌, true, false, List, [], ◌∷◌, length, Option, Some, None, Ok, Err, codes, bytes_eq, if◌then◌else◌}
 use Rattle.dw_base.specs.Order.{is_big_of}
 use Rattle.dw_base.specs.declared.error.Error.{Error}
-use Rattle.dw_unit.specs.Built.{numbered, at_begin}
+use Rattle.dw_unit.specs.Built.{at_begin}
 use Rattle.dw_unit.specs.Causes.{UnitsFail}
-use Rattle.dw_dwarf.specs.Valid.{IsValid, SomeReferenceFails, settled_dwarf}
+use Rattle.dw_dwarf.specs.Valid.{IsValid, SomeReferenceFails, settled_dwarf, settled_units, string_tables}
 use Rattle.dw_dwarf.specs.Written.{SectionTexts, AreTextsOf}
 use Rattle.dw_dwarf.specs.declared.dwarf.Dwarf.{Dwarf}
 use Rattle.dw_base.specs.Faults.{HasRisen}
@@ -62,7 +62,7 @@ pub record ListsScript (s : Script) (text : List ℕ) : Type 0 where
 -- A plain writer can't take some unit, where its table stands behind those of the units before it, or some reference across
 -- units leads to no entry, or to one whose place has no room.
 abbrev pub HasFault : Dwarf → Error → Type 0
-HasFault d error = UnitsFail true 0 d.units error ⊎ SomeReferenceFails true at_begin (numbered (settled_dwarf d).units) error
+HasFault d error = UnitsFail true (string_tables d) 0 d.units error ⊎ SomeReferenceFails true at_begin (settled_units d) error
 
 -- some unit of the script, or a reference across them, can't be written, and the text says why
 pub record IsWriteRefusal (s : Script) (text : List ℕ) : Type 0 where

@@ -66,4 +66,4 @@ generated_units n (suc k) = generated_units n k ++ generated_unit (k * unit_vari
 
 -- what is generated for so many variables
 abbrev pub generated : ℕ → Dwarf
-generated n = record { units = generated_units n (n / unit_variables + 1) }
+generated n = record { units = generated_units n (n / unit_variables + 1); line_strings = []; strings = [] }

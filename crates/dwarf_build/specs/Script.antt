@@ -5,12 +5,14 @@ use Rattle.dw_script.specs.Fields.{Outcome, ◌>>=◌}
 use Rattle.dw_script.specs.Lines.{parsed_line}
 use Rattle.dw_script.specs.Pieces.{newline, pieces}
 use Rattle.dw_script.specs.declared.command.Command.{Command}
-use Rattle.dw_script.specs.declared.command.Command.TheVariants.{Order, Unit as AddUnit, Change as ChangeUnit}
+use Rattle.dw_script.specs.declared.command.Command.TheVariants.{Order, Unit as AddUnit, String as AddString, LineString as AddLineString, Change as ChangeUnit}
 use Rattle.dw_script.specs.declared.change.Change.{Change}
 use Rattle.dw_script.specs.declared.change.Change.TheVariants as change
-use Rattle.dw_script.specs.declared.reason.Reason.TheVariants.{OrderNotFirst, NoSuchUnit, NoSuchEntry, NotReserved, BadTag, BadName}
+use Rattle.dw_script.specs.declared.reason.Reason.TheVariants.{OrderNotFirst, NoSuchUnit, NoSuchEntry, NotReserved, BadTag, BadName, ZeroByte}
 use Rattle.dw_script.specs.declared.value.Value.{Value}
 use Rattle.dw_script.specs.declared.value.Value.TheVariants as value
+use Rattle.dw_strings.specs.Strings.{with_string}
+use Rattle.dw_entries.specs.Content.{has_zero}
 use Rattle.dw_entries.specs.Entries.{EntryValue, with_changed, filled_up, with_new_child, with_sibling, with_attribute, without_attribute, without_child}
 use Rattle.dw_unit.specs.UnitValue.{UnitValue, new_unit, is_reserved, no_line_program}
 use Rattle.dw_entries.specs.declared.value.AttributeValue.{AttributeValue}
@@ -24,7 +26,7 @@ use Rattle.dwarf_build.specs.declared.script.ScriptError.TheVariants as whole
 
 -- before the first line: no units, little-endian
 abbrev pub empty_script : Script
-empty_script = record { endian = Little; dwarf = record { units = [] }; has_begun = false }
+empty_script = record { endian = Little; dwarf = record { units = []; line_strings = []; strings = [] }; has_begun = false }
 
 -- the value that an attribute gets
 abbrev pub attribute_value : Value → AttributeValue
@@ -48,6 +50,8 @@ attribute_value (value.DebugMacroRef n) = stored.DebugMacroRef n
 attribute_value (value.DebugTypesRef n) = stored.DebugTypesRef n
 attribute_value (value.DebugStrRefSup n) = stored.DebugStrRefSup n
 attribute_value (value.String bytes) = stored.String bytes
+attribute_value (value.StringRef i) = stored.StringRef (record { 0 = i })
+attribute_value (value.LineStringRef i) = stored.LineStringRef (record { 0 = i })
 attribute_value (value.Encoding n) = stored.Encoding n
 attribute_value (value.DecimalSign n) = stored.DecimalSign n
 attribute_value (value.Endianity n) = stored.Endianity n
@@ -112,12 +116,25 @@ with_unit_changed i change us = do
 
 -- a script with other units
 abbrev pub with_units : Script → List UnitValue → Script
-with_units s us = record s { dwarf = record { units = us }; has_begun = true }
+with_units s us = record s { dwarf = record s.dwarf { units = us }; has_begun = true }
+
+-- a text without a zero byte
+abbrev pub text_of : List ℕ → Outcome (List ℕ)
+text_of bytes = if has_zero bytes then Err ZeroByte else Ok bytes
+
+-- a script with one more string, if none equals it
+abbrev pub after_string : Script → List ℕ → Script
+after_string s text = record s { dwarf = record s.dwarf { strings = with_string s.dwarf.strings text }; has_begun = true }
+
+abbrev pub after_line_string : Script → List ℕ → Script
+after_line_string s text = record s { dwarf = record s.dwarf { line_strings = with_string s.dwarf.line_strings text }; has_begun = true }
 
 -- after a command
 abbrev pub after_command : Script → Command → Outcome Script
 after_command s (Order o) = if s.has_begun then Err OrderNotFirst else Ok (record s { endian = o; has_begun = true })
 after_command s (AddUnit e) = Ok (with_units s (s.dwarf.units ++ new_unit e no_line_program ∷ []))
+after_command s (AddString bytes) = text_of bytes >>= λ text. Ok (after_string s text)
+after_command s (AddLineString bytes) = text_of bytes >>= λ text. Ok (after_line_string s text)
 after_command s (ChangeUnit unit c) = with_unit_changed unit (after_change c) s.dwarf.units >>= λ us. Ok (with_units s us)
 
 -- after a line that may ask for nothing

@@ -7,7 +7,7 @@ ghost use Rattle.dwarf_build.specs.Script.{attribute_value, after_change, after_
 
 use crate::script::CommandError;
 use dw_base::constants::DW_AT_sibling;
-use dw_base::{DwAt, DwTag, UnitEntryId};
+use dw_base::{DwAt, DwTag, LineStringId, StringId, UnitEntryId};
 use dw_script::{Change, Reason, Value};
 use dw_unit::{AttributeValue, Unit};
 use dw_writer::Bytes;
@@ -208,6 +208,10 @@ fn owned_value(alloc: Global, value: Value<'_>) -> Result<AttributeValue, AllocE
         Value::DebugTypesRef(signature) => AttributeValue::DebugTypesRef(signature),
         Value::DebugStrRefSup(offset) => AttributeValue::DebugStrRefSup(offset),
         Value::String(bytes) => AttributeValue::String(Bytes::from(bytes.decode(alloc)?)),
+        Value::StringRef(string) => AttributeValue::StringRef(StringId::new(string as usize)),
+        Value::LineStringRef(string) => {
+            AttributeValue::LineStringRef(LineStringId::new(string as usize))
+        }
         Value::Encoding(code) => AttributeValue::Encoding(code),
         Value::DecimalSign(code) => AttributeValue::DecimalSign(code),
         Value::Endianity(code) => AttributeValue::Endianity(code),

@@ -12,6 +12,8 @@ mod reference_tests;
 pub mod run;
 mod script;
 mod status;
+#[cfg(test)]
+mod string_tests;
 mod summary;
 #[cfg(test)]
 mod tests;

@@ -1,11 +1,13 @@
 //! Scripts: each line is a call.
 
 ghost use Rattle.std.specs.Prelude.{◌≡◌, ◌≤◌, length, Ok, Err, OnOk, IfOk, IfErr};
+ghost use Rattle.dw_base.specs.Spellable.{IsText};
+ghost use Rattle.dwarf_build.specs.Script.{text_of as text_in, RefusedFor};
 
 use crate::entries::{apply_change, index_below};
 use dw_base::{Encoding, RunTimeEndian, UnitId};
 use dw_dwarf::Dwarf;
-use dw_script::{Change, Command, Reason, lines, parse_line};
+use dw_script::{Change, Command, HexBytes, Reason, lines, parse_line};
 use dw_unit::{LineProgram, Unit};
 use std::alloc::Global;
 
@@ -17,7 +19,7 @@ pub const SCRIPT_LIMIT: usize = 16_777_216;
 pub struct Script {
     /// The byte order of the sections.
     pub endian: RunTimeEndian,
-    /// The units.
+    /// The units and strings.
     pub dwarf: Dwarf,
     /// Whether there was a line that isn't passed over.
     pub has_begun: bool,
@@ -45,7 +47,7 @@ pub enum CommandError {
 }
 
 impl Script {
-    ghost use Rattle.dwarf_build.specs.Script.{empty_script, after_command, after_line, AreOpen, RefusedFor, LineRefused};
+    ghost use Rattle.dwarf_build.specs.Script.{empty_script, after_command, after_line, AreOpen, LineRefused};
 
     // Before the first line.
     fn new(alloc: Global) -> Script
@@ -84,6 +86,8 @@ impl Script {
         match command {
             Command::Order(endian) => self.set_order(endian),
             Command::Unit(encoding) => self.add_unit(alloc, encoding),
+            Command::String(bytes) => self.add_string(alloc, &bytes),
+            Command::LineString(bytes) => self.add_line_string(alloc, &bytes),
             Command::Change { unit, change } => self.change_unit(alloc, unit, change),
         }
     }
@@ -115,6 +119,35 @@ impl Script {
         Ok(())
     }
 
+    fn add_string(&mut self, alloc: Global, bytes: &HexBytes<'_>) -> Result<(), CommandError>
+        ensures ok { OnOk result (after_command self.old (Command.String bytes.now) ≡ Ok self.new) }
+        ensures err { IfErr result
+            (RefusedFor (after_command self.old (Command.String bytes.now))) }
+    {
+        let text = text_of(alloc, bytes)?;
+        self.dwarf
+            .strings
+            .add(text.as_slice())
+            .map_err(|_| CommandError::NoMemory)?;
+        self.has_begun = true;
+        Ok(())
+    }
+
+    fn add_line_string(&mut self, alloc: Global, bytes: &HexBytes<'_>) -> Result<(), CommandError>
+        ensures ok { OnOk result
+            (after_command self.old (Command.LineString bytes.now) ≡ Ok self.new) }
+        ensures err { IfErr result
+            (RefusedFor (after_command self.old (Command.LineString bytes.now))) }
+    {
+        let text = text_of(alloc, bytes)?;
+        self.dwarf
+            .line_strings
+            .add(text.as_slice())
+            .map_err(|_| CommandError::NoMemory)?;
+        self.has_begun = true;
+        Ok(())
+    }
+
     fn change_unit(
         &mut self,
         alloc: Global,
@@ -133,6 +166,19 @@ impl Script {
         self.has_begun = true;
         Ok(())
     }
+}
+
+// The bytes of a string, which has no zero byte.
+fn text_of(alloc: Global, bytes: &HexBytes<'_>) -> Result<Vec<u8>, CommandError>
+    ensures ok { IfOk result (λ text. Ok text.items ≡ text_in bytes.now) }
+    ensures text { IfOk result (λ text. IsText text.items) }
+    ensures err { IfErr result (RefusedFor (text_in bytes.now)) }
+{
+    let text = bytes.decode(alloc).map_err(|_| CommandError::NoMemory)?;
+    if text.contains(&0) {
+        return Err(CommandError::Refused(Reason::ZeroByte));
+    }
+    Ok(text)
 }
 
 fn refused(line: usize, reason: Reason) -> ScriptError

@@ -209,7 +209,9 @@ fn refuses_lines_about_entries(rt: HostRuntime) -> Result<(), Fail> {
         ("set 9 9 0 info_ref 0:x y", "line 2: bad number\n"),
         ("set 9 9 0 info_ref 0:0", "line 2: no such unit\n"),
         ("set 9 9 0 range_ref x y", "line 2: not built\n"),
-        ("str 61", "line 2: not built\n"),
+        ("range 0", "line 2: not built\n"),
+        ("str 6100", "line 2: zero byte\n"),
+        ("line_str 00", "line 2: zero byte\n"),
         ("set 0 0 3 udata 1\norder big", "line 3: order not first\n"),
     ];
     for (line, want) in rows {

@@ -12,7 +12,7 @@ returns-clause-order c =
     let empty = rw c.new.ensures at c.in_ok-sections.ensures.writers in
     let new = IsNewPlain-from_all_mean _ (is_big_of c.args.endian) _ _ empty c.in_ok-sections.ensures.fixups
     (record { bytes = refl; size = refl; records = refl; order = refl; plain = refl }) in
-    same_order _ _ _ _ _ new.fixups.info c.in_ok-write.ensures.completes ∙ new.writers.debug_info.order
+    same_order _ _ _ _ _ _ new.fixups.info c.in_ok-write.ensures.completes ∙ new.writers.debug_info.order
 
 pub returns-in_err-write-clause-err : goal.returns-in_err-write-clause-err
 returns-in_err-write-clause-err c =
