@@ -62,6 +62,17 @@ fn refuses_headers(rt: HostRuntime) {
     assert_eq!(rt; first(length).err(), Some(ReadError::UnknownReservedLength));
 }
 
+// Lengths of 0xffffffef, 2^60 and 2^64 - 1 bytes.
+#[test]
+fn refuses_huge_units(rt: HostRuntime) {
+    let cut = Some(ReadError::UnexpectedEof);
+    assert_eq!(rt; first(b"\xef\xff\xff\xff\x05\x00\x01\x08").err(), cut);
+    let long = b"\xff\xff\xff\xff\x00\x00\x00\x00\x00\x00\x00\x10\x05\x00\x01\x08";
+    assert_eq!(rt; first(long).err(), cut);
+    let longest = b"\xff\xff\xff\xff\xff\xff\xff\xff\xff\xff\xff\xff\x05\x00\x01\x08";
+    assert_eq!(rt; first(longest).err(), cut);
+}
+
 #[test]
 fn ends_after_an_error(rt: HostRuntime) -> Result<(), Fail> {
     let mut headers = UnitHeadersIter::new(EndianSlice::new(UNITS, LittleEndian));

@@ -28,6 +28,28 @@ fn refuses_uleb128_past_64_bits(rt: HostRuntime) -> Result<(), Fail> {
     Ok(())
 }
 
+// A number may have any length as far as its value fits.
+#[test]
+fn reads_leb128_of_any_length(rt: HostRuntime) -> Result<(), Fail> {
+    let mut padded = [0x80u8; 300];
+    padded[0] = 0x85;
+    padded[299] = 0x00;
+    assert_eq!(rt; little(&padded).read_uleb128()?, 5);
+    assert_eq!(rt; little(&padded).read_sleb128()?, 5);
+    padded[299] = 0x01;
+    let large = Some(ReadError::BadLeb128);
+    assert_eq!(rt; little(&padded).read_uleb128().err(), large);
+    assert_eq!(rt; little(&padded).read_sleb128().err(), large);
+    let mut negative = [0xffu8; 300];
+    let cut = Some(ReadError::UnexpectedEof);
+    assert_eq!(rt; little(&negative).read_uleb128().err(), cut);
+    assert_eq!(rt; little(&negative).read_sleb128().err(), cut);
+    negative[299] = 0x7f;
+    assert_eq!(rt; little(&negative).read_sleb128()?, -1);
+    assert_eq!(rt; little(&negative).read_uleb128().err(), large);
+    Ok(())
+}
+
 #[test]
 fn reads_sleb128(rt: HostRuntime) -> Result<(), Fail> {
     let mut reader = little(b"\x02\x7e\xff\x00\x81\x7f\x80\x01\x80\x7f\xff\x7f");
@@ -90,7 +112,7 @@ fn reads_initial_lengths(rt: HostRuntime) -> Result<(), Fail> {
     );
     let mut long = little(b"\xff\xff\xff\xff\x07\x00\x00\x00\x00\x00\x00\x00");
     assert_eq!(rt; long.read_initial_length()?, (7, Format::Dwarf64));
-    let mut reserved = little(b"\xf0\xff\xff\xff\x00\x00\x00\x00");
+    let mut reserved = little(b"\xf0\xff\xff\xff");
     let refused = reserved.read_initial_length().err();
     assert_eq!(rt; refused, Some(ReadError::UnknownReservedLength));
     assert_eq!(rt; reserved.place(), 0);

@@ -51,6 +51,22 @@ fn finds_codes_out_of_order(rt: HostRuntime) -> Result<(), Fail> {
     Ok(())
 }
 
+// Codes are kept by what was read of them, however large they are: 2^60, 2^64 - 1 and 1.
+#[test]
+fn finds_huge_codes(rt: HostRuntime) -> Result<(), Fail> {
+    let bytes = b"\x80\x80\x80\x80\x80\x80\x80\x80\x10\x11\x00\x00\x00\
+        \xff\xff\xff\xff\xff\xff\xff\xff\xff\x01\x12\x00\x00\x00\
+        \x01\x13\x00\x00\x00\x00";
+    let table = parse(rt.alloc(), bytes)?;
+    assert_eq!(rt; table.get(1 << 60).ok_or("2^60")?.tag().0, 0x11);
+    assert_eq!(rt; table.get(u64::MAX).ok_or("the last")?.tag().0, 0x12);
+    assert_eq!(rt; table.get(1).ok_or("one")?.tag().0, 0x13);
+    assert_eq!(rt; table.get(2).is_none(), true);
+    let refused = parse(rt.alloc(), &bytes[..27]).err();
+    assert_eq!(rt; refused, Some(ReadError::UnexpectedEof));
+    Ok(())
+}
+
 #[test]
 fn refuses_tables(rt: HostRuntime) {
     let doubled = b"\x01\x11\x00\x00\x00\x01\x11\x00\x00\x00\x00";
