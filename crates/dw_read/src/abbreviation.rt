@@ -7,6 +7,14 @@ use dw_base::{DwAt, DwForm, DwTag};
 use std::marker::Model;
 
 /// An attribute in a declaration.
+///
+/// ```
+/// for specification in abbreviation.attributes() {
+///     if specification.form() == DW_FORM_implicit_const {
+///         let constant = specification.implicit_const_value(); // `Some`
+///     }
+/// }
+/// ```
 #[derive(Clone, Copy, Debug, PartialEq, Eq, Hash)]
 pub struct AttributeSpecification {
     pub(crate) name: DwAt,
@@ -38,6 +46,11 @@ impl AttributeSpecification {
 }
 
 /// A declaration: what entries of one code share.
+///
+/// ```
+/// let Some(abbreviation) = table.get(1) else { return Ok(()) };
+/// let tag = abbreviation.tag();
+/// ```
 #[derive(Drop)]
 pub struct Abbreviation {
     pub(crate) code: u64,

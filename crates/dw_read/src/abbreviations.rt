@@ -22,6 +22,12 @@ use std::marker::Model;
 ///
 /// Writers give the codes 1, 2, 3 and so on: the declaration of such a code stands at its place
 /// in the table. The places of all others are kept beside it, in the order of their codes.
+///
+/// ```
+/// let mut input = EndianSlice::new(b"\x01\x11\x00\x00\x00\x00", LittleEndian);
+/// let table = Abbreviations::parse(alloc, &mut input)?;
+/// let unit = table.get(1); // the declaration of a compile unit
+/// ```
 #[derive(Drop)]
 pub struct Abbreviations {
     declarations: Vec<Abbreviation>,

@@ -7,6 +7,14 @@ use crate::reader::Reader;
 use dw_base::{DwAt, DwForm, Encoding};
 
 /// An attribute of an entry. Its value is read when it is asked for.
+///
+/// ```
+/// for attribute in &entry.attrs {
+///     if attribute.name() == DW_AT_name {
+///         let name = attribute.value();
+///     }
+/// }
+/// ```
 #[derive(Drop)]
 pub struct Attribute<R: Reader> {
     pub(crate) name: DwAt,

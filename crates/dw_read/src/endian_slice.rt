@@ -9,7 +9,10 @@ use dw_base::Endianity;
 
 /// Reads a section that lies in a slice. It keeps the slice, and hands out parts of it.
 ///
-/// `EndianSlice::new(&bytes, LittleEndian)` reads all the bytes with the lowest of a number first.
+/// ```
+/// let mut reader = EndianSlice::new(b"\x01\x02", LittleEndian);
+/// let number = reader.read_u16()?; // 0x0201
+/// ```
 #[derive(Drop)]
 pub struct EndianSlice<'a, E: Endianity> {
     section: &'a [u8],

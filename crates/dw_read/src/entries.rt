@@ -17,6 +17,16 @@ use crate::unit_header::UnitHeader;
 use dw_base::UnitOffset;
 
 /// The rows of a unit, one after the other. After an error it stands where it stood.
+///
+/// ```
+/// let mut rows = EntriesRaw::new(&header, &abbreviations);
+/// let mut entry = DebuggingInformationEntry::new(alloc);
+/// while !rows.is_empty() {
+///     if rows.read_entry(&mut entry)? {
+///         let depth = entry.depth; // 0 for the root
+///     }
+/// }
+/// ```
 #[derive(Drop)]
 pub struct EntriesRaw<'a, R: Reader> {
     pub(crate) input: R,
@@ -115,7 +125,8 @@ impl<'a, R: Reader> EntriesRaw<'a, R> {
         Ok(())
     }
 
-    /// Reads the next row. False tells that it is a null entry, and the entry is as before.
+    /// Reads the next row. False tells that it is a null entry, and the entry is as before. After an
+    /// error the entry may have lost its attributes.
     pub fn read_entry(&mut self, entry: &mut DebuggingInformationEntry<R>) -> ReadResult<bool>
         ensures { ReadsRow R.reading self.old self.new entry.old entry.new result }
     {

@@ -9,6 +9,11 @@ use std::alloc::Global;
 
 /// An entry of a unit. It is read again and again in the same place, so that its attributes take
 /// memory once.
+///
+/// ```
+/// let mut entry = DebuggingInformationEntry::new(alloc);
+/// let is_entry = rows.read_entry(&mut entry)?;
+/// ```
 #[derive(Drop)]
 pub struct DebuggingInformationEntry<R: Reader> {
     /// The entry's place in its unit.

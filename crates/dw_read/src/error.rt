@@ -10,6 +10,11 @@ use thiserror::Error as ThisError;
 pub type ReadResult<T> = std::result::Result<T, ReadError>;
 
 /// Why a call that reads refuses.
+///
+/// ```
+/// let refused = EndianSlice::new(b"\x80", LittleEndian).read_uleb128();
+/// assert_eq!(refused.err(), Some(ReadError::UnexpectedEof));
+/// ```
 #[derive(Clone, Copy, Debug, PartialEq, Eq, ThisError)]
 pub enum ReadError {
     /// A read passes the end of its section, or of the part of it that is read.

@@ -21,6 +21,12 @@ use dw_base::{Endianity, Format};
 /// Reads a part of a section, from a place on to an end. After an error a reader is unchanged.
 ///
 /// `EndianSlice` is the reader of a section that lies in a slice.
+///
+/// ```
+/// let mut reader = EndianSlice::new(b"\x80\x01a\x00", LittleEndian);
+/// let number = reader.read_uleb128()?; // 128
+/// let text = reader.read_null_terminated()?; // the byte `a`, at place 2
+/// ```
 pub trait Reader: Sized + Drop {
     type Endian: Endianity;
 

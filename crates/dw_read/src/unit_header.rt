@@ -15,6 +15,12 @@ use dw_base::constants::DW_UT_compile;
 use dw_base::{DebugAbbrevOffset, DebugInfoOffset, DwUt, Encoding, UnitOffset};
 
 /// The header of a unit, with what follows it in the unit.
+///
+/// ```
+/// if header.unit_type() == DW_UT_type {
+///     let signature = header.identity(); // `Some`
+/// }
+/// ```
 #[derive(Drop)]
 pub struct UnitHeader<R: Reader> {
     pub(crate) offset: DebugInfoOffset,
@@ -76,6 +82,13 @@ impl<R: Reader> UnitHeader<R> {
 }
 
 /// The headers of the units of `.debug_info`, without their entries.
+///
+/// ```
+/// let mut headers = UnitHeadersIter::new(debug_info);
+/// while let Some(header) = headers.next()? {
+///     let version = header.encoding().version;
+/// }
+/// ```
 #[derive(Drop)]
 pub struct UnitHeadersIter<R: Reader> {
     pub(crate) input: R,

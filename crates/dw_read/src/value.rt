@@ -8,10 +8,24 @@ use dw_base::{
 };
 
 /// The bytes of an expression, which are a part of the section.
+///
+/// ```
+/// if let AttributeValue::Exprloc(expression) = attribute.value() {
+///     let bytes = expression.0.to_slice();
+/// }
+/// ```
 #[derive(Drop)]
 pub struct Expression<R: Reader>(pub R);
 
 /// The value of an attribute. Blocks, texts and expressions are parts of the section.
+///
+/// ```
+/// match attribute.value() {
+///     AttributeValue::String(text) => text.to_slice(),
+///     AttributeValue::DebugStrRef(offset) => unit.string(offset)?.to_slice(),
+///     _ => b"",
+/// }
+/// ```
 #[derive(Drop)]
 pub enum AttributeValue<R: Reader> {
     /// An address on the target.

@@ -7,6 +7,13 @@ use dw_base::{DebugLineOffset, DwoId};
 use dw_read::{Abbreviations, Reader, UnitHeader, UnitHeadersIter};
 
 /// The sections of a file. A section that a file lacks is one without bytes.
+///
+/// ```
+/// let mut headers = dwarf.units();
+/// while let Some(header) = headers.next()? {
+///     let unit = dwarf.unit(alloc, header)?;
+/// }
+/// ```
 #[derive(Drop)]
 pub struct Dwarf<R: Reader> {
     pub debug_abbrev: R,
@@ -23,6 +30,11 @@ pub struct Dwarf<R: Reader> {
 }
 
 /// A unit: its header, its abbreviation table, and what its root says of other sections.
+///
+/// ```
+/// let unit = dwarf.unit(alloc, header)?;
+/// let name = unit.name.as_ref().map(|name| name.to_slice());
+/// ```
 #[derive(Drop)]
 pub struct Unit<R: Reader> {
     pub header: UnitHeader<R>,

@@ -1,4 +1,6 @@
 mod bases;
+mod lookups;
+mod strings;
 
 use crate::{Dwarf, Unit, UnitRef};
 use dw_base::constants::*;

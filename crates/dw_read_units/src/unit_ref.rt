@@ -19,6 +19,12 @@ use dw_read::{EntriesRaw, ReadResult, Reader};
 use std::alloc::Global;
 
 /// A unit with the sections of its file.
+///
+/// ```
+/// let both = UnitRef { dwarf: &dwarf, unit: &unit };
+/// let mut rows = both.entries_raw(alloc, None)?;
+/// let text = both.string(DebugStrOffset(0))?;
+/// ```
 #[derive(Drop)]
 #[derive_where(Clone, Copy)]
 pub struct UnitRef<'a, R: Reader> {
