@@ -1,3 +1,4 @@
+mod bits;
 mod cuts;
 mod fixture;
 mod flips;
