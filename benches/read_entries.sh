@@ -7,8 +7,8 @@ set -eu
 entries=${1:-100000}
 cd "$(dirname "$0")/../crates"
 # Proves and builds both programs, which stay in out/.
-(cd dwarf_build && rt run -- build < stdin > out/first_listing)
-(cd example_read && rt run < stdin > out/first_entries)
+(cd dwarf_build && rt run -- build < stdin > /dev/null)
+(cd example_read && rt run < stdin > /dev/null)
 listing=$(mktemp)
 trap 'rm -f "$listing"' EXIT
 ../benches/mixed_script.sh "$entries" | dwarf_build/out/dwarf_build build > "$listing"

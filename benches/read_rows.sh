@@ -9,7 +9,7 @@ entries=${1:-100000}
 times=${2:-11}
 cd "$(dirname "$0")/../crates"
 # Proves and builds both programs, which stay in out/.
-(cd dwarf_build && rt run -- build < stdin > out/first_listing)
+(cd dwarf_build && rt run -- build < stdin > /dev/null)
 (cd bench_read && rt run -- 1 < stdin)
 listing=$(mktemp)
 trap 'rm -f "$listing"' EXIT
