@@ -20,11 +20,12 @@ use Rattle.dw_frame.specs.PointerParts.{pointer}
 use Rattle.dw_frame.specs.Entries.{counted, padded}
 use Rattle.dw_frame.specs.Cies.{cie_id, is_known, version_fails, version_part, byte_if, letters, sizes, has_byte_register, register_part, encoding_if, personality_part, cie_data, is_augmented, has_encoding, first_instructions, cie_head, cie_measures, cie_contents, cie_part}
 use Rattle.dw_frame.specs.ReadPointers.{pointer_at}
-use Rattle.dw_frame.specs.ReadCies.{place_of, string_at, Announced, nothing_announced, letters_at, announced_at, CieRead, register_at, cie_at, IsPointer, IsShort, IsRangedCie, ReadsCie}
+use Rattle.dw_frame.specs.ReadCies.{place_of, behind_id_at, string_at, Announced, nothing_announced, letters_at, announced_at, CieRead, register_at, cie_at, IsPointer, IsShort, IsRangedCie, ReadsCie}
 use Rattle.dw_frame.specs.Reading.{at_zero, IsWide}
 use Rattle.dw_frame.proofs.PointerLaws.{pointer-again}
 use Rattle.dw_frame.proofs.TextParts.{IsText, Split, split, turned, number_again, measured_parts, counted_parts}
 use Rattle.dw_frame.proofs.FdeLaws.{pointer_known, known_text, turn_wide}
+use Rattle.dw_frame.proofs.IdLaws.{behind_id}
 
 -- a byte where something holds
 abbrev bif : Bool → ℕ → List ℕ
@@ -355,10 +356,10 @@ fields_again kind big w at format size v code register signed string announced h
     let g5 : ℕ → List ℕ → Option (List ℕ × List ℕ) → Option CieRead = λ n t o. o >>= λ q. g6 n t (uleb_at q.1) in
     let g4 : ℕ → Option (List ℕ × List ℕ) → Option CieRead = λ n o. o >>= λ t. g5 n t.0 (bytes_at (if n == 4 then 2 else 0) t.1) in
     let g3 : Option (ℕ × List ℕ) → Option CieRead = λ o. o >>= λ n. g4 n.0 (string_at n.1) in
-    let g2 : Option (List ℕ × List ℕ) → Option CieRead = λ o. o >>= λ i. g3 (number_at big 1 i.1) in
-    let g1 : Option ((Format × ℕ) × List ℕ) → Option CieRead = λ o. o >>= λ n. g2 (bytes_at (length (cie_id kind n.0.0)) n.1) in
+    let g2 : Option (List ℕ) → Option CieRead = λ o. o >>= λ b. g3 (number_at big 1 b) in
+    let g1 : Option ((Format × ℕ) × List ℕ) → Option CieRead = λ o. o >>= λ n. g2 (behind_id_at kind big n.0.0 n.1) in
     ap (λ ys. g1 (initial_length_at big ys)) whole ∙ ap g1 (initial_length-again big format size (h1 ++ (h2 ++ r4)) fit)
-    ∙ ap g2 (bytes_at_is (length (cie_id kind format)) h1 (h2 ++ r4) (sym (ap length id)))
+    ∙ ap g2 (behind_id kind big format h1 (h2 ++ r4) id)
     ∙ ap (λ ys. g3 (number_at big 1 (ys ++ r4))) (sym is) ∙ ap g3 (number_byte v big r4)
     ∙ ap (g4 v) s ∙ ap (g5 v string) z ∙ ap (g6 v string) u ∙ ap (f7 code) l ∙ ap (f8 signed) r ∙ ap f9 a
 

@@ -16,11 +16,11 @@ use Rattle.dw_frame.specs.declared.kind.FrameKind.{FrameKind}
 use Rattle.dw_frame.specs.declared.kind.FrameKind.TheVariants.{Debug, Eh}
 use Rattle.dw_frame.specs.declared.cie.CommonInformationEntry.{CommonInformationEntry}
 use Rattle.dw_frame.specs.declared.fde.FrameDescriptionEntry.{FrameDescriptionEntry}
-use Rattle.dw_frame.specs.Pieces.{both}
-use Rattle.dw_frame.specs.Parts.{Placed, in_turn, numbered}
-use Rattle.dw_frame.specs.PointerParts.{pointer, address, pointer_data}
-use Rattle.dw_frame.specs.Cies.{has_encoding}
-use Rattle.dw_frame.specs.Fdes.{cie_pointer, range_part}
+use Rattle.dw_frame.specs.Pieces.{missing, both}
+use Rattle.dw_frame.specs.Parts.{Placed, caused, in_turn, numbered}
+use Rattle.dw_frame.specs.PointerParts.{pointer, address, pointer_data, frame_offset}
+use Rattle.dw_frame.specs.Cies.{cie_number, has_encoding}
+use Rattle.dw_frame.specs.Fdes.{too_large, cie_pointer, range_part}
 use Rattle.dw_frame.specs.Reading.{IsWide, at_zero, cie_field_at}
 use Rattle.dw_frame.proofs.NumberSteps.{data_wide}
 use Rattle.dw_frame.proofs.TextParts.{IsText, split, turned, number_again}
@@ -63,11 +63,23 @@ pub number_is_data : (w n : ℕ) (big : Bool) (xs : List ℕ) → num_text big w
 unfolding data_text
 number_is_data w n big xs e = e
 
+-- an offset of a CIE that is written isn't the id of a CIE
+pub offset_by : (b : Bool) (w cie at : ℕ) (big : Bool) (xs : List ℕ) → IsText big ((if b then caused missing too_large else frame_offset w cie) at) xs → (b ≡ false) × IsText big (frame_offset w cie at) xs
+offset_by true w cie at big xs e = cc
+offset_by false w cie at big xs e = (refl, e)
+
+offset_wide : (b : Bool) (w cie at : ℕ) → IsWide ((if b then caused missing too_large else frame_offset w cie) at)
+unfolding offset_text
+offset_wide true w cie at big xs e = cc
+offset_wide false w cie at big xs e = length-num_text big w (cie + 0) xs e
+
 -- the field that leads to the CIE
 pub field_again : (kind : FrameKind) (format : Format) (cie at : ℕ) (big : Bool) (xs rest : List ℕ) → cie ≤ at → IsText big (cie_pointer kind format cie at) xs →
     cie_field_at kind big format at (xs ++ rest) ≡ Some (cie, rest)
 unfolding offset_text
-field_again Debug format cie at big xs rest before e = number_again big (word_of format) cie xs rest (ap (num_text big (word_of format)) (omega arith) ∙ e)
+field_again Debug format cie at big xs rest before e =
+    let t = offset_by (cie == cie_number Debug format) (word_of format) cie at big xs e in
+    number_again big (word_of format) cie xs rest (ap (num_text big (word_of format)) (omega arith) ∙ t.1)
 field_again Eh format cie at big xs rest before e =
     let back : ℕ = at - cie in
     ap (λ o. o >>= λ x. when (nat_le x.0 at) (Some (at - x.0, x.1))) (number_again big 4 back xs rest e)
@@ -75,8 +87,7 @@ field_again Eh format cie at big xs rest before e =
     ∙ ap (λ n. Some (n, rest)) (omega (arith, before))
 
 pub field_wide : (kind : FrameKind) (format : Format) (cie at : ℕ) → IsWide (cie_pointer kind format cie at)
-unfolding offset_text
-field_wide Debug format cie at big xs e = length-num_text big (word_of format) (cie + 0) xs e
+field_wide Debug format cie at big xs e = offset_wide (cie == cie_number Debug format) (word_of format) cie at big xs e
 field_wide Eh format cie at big xs e = length-num_text big 4 (at - cie) xs e
 
 -- Ranges

@@ -11,10 +11,12 @@ pub mod EntrySteps
 pub mod PointerLaws
 pub mod TextParts
 pub mod FdeLaws
+pub mod IdLaws
 pub mod CieSteps
 pub mod FdeSteps
 pub mod TableSteps
 pub mod FdeReading
 pub mod CieReading
 pub mod TableReading
+pub mod TableWhole
 pub mod Worked

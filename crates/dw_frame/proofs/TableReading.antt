@@ -19,7 +19,7 @@ use Rattle.dw_frame.specs.Fdes.{fde_part}
 use Rattle.dw_frame.specs.Tables.{Places, no_places, with_place, place_at, new_cie, fde_of, frame, frames_from, frames_part}
 use Rattle.dw_frame.specs.Reading.{at_zero, ShowsCie, ShowsFrame, ShowsFrames, AreTold}
 use Rattle.dw_frame.proofs.Steps.{nothing-followed}
-use Rattle.dw_frame.proofs.TextParts.{IsText, turned}
+use Rattle.dw_frame.proofs.TextParts.{IsText, turned, turn_size}
 use Rattle.dw_frame.specs.ReadCies.{IsRangedCie}
 use Rattle.dw_frame.proofs.FdeReading.{fde_again}
 use Rattle.dw_frame.proofs.CieReading.{cie_again}
@@ -78,13 +78,9 @@ module _ (kind : FrameKind) (big : Bool) (cies : List CommonInformationEntry) wh
   shown_more places bytes more all i p c e f = let s = all i p c e f in (omega (arith, s.0, length-append bytes more), more_shown bytes more s.1)
 
   -- there is a CIE wherever an FDE has a text
-  some_cie : (p at : ℕ) (o : Option CommonInformationEntry) (f : FrameDescriptionEntry) (ys : List ℕ) → IsText big (fde_of kind p o f at) ys → (c : CommonInformationEntry) × (o ≡ Some c)
+  pub some_cie : (p at : ℕ) (o : Option CommonInformationEntry) (f : FrameDescriptionEntry) (ys : List ℕ) → IsText big (fde_of kind p o f at) ys → (c : CommonInformationEntry) × (o ≡ Some c)
   some_cie p at None f ys e = cc
   some_cie p at (Some c) f ys e = (c, refl)
-
-  turn_size : (p q : Placed) (at : ℕ) → (in_turn p q at).piece.size ≡ (p at).piece.size + (q (at + (p at).piece.size)).piece.size
-  unfolding in_turn both
-  turn_size p q at = refl
 
   frames_again : (fdes : List (CieId × FrameDescriptionEntry)) (places : Places) (before zs rest : List ℕ) → AreShown places before → AreTold kind cies places fdes (length before) →
       IsText big (frames_from kind cies places fdes (length before)) zs → ShowsFrames kind big cies fdes (before ++ (zs ++ rest))
@@ -148,7 +144,7 @@ shown_plain true big t e = refl
 shown_plain false big t e = cc
 
 -- what a plain writer holds that held nothing is what was added
-plain_text : {a b : Meaning} {n : ℕ} {t : Model} (bytes : List ℕ) → Appends a b n t → IsEmptyPlainWriter a a.is_big → b.records ≡ [] → b.bytes ≡ Some bytes → t a.is_big at_zero ≡ Some bytes
+pub plain_text : {a b : Meaning} {n : ℕ} {t : Model} (bytes : List ℕ) → Appends a b n t → IsEmptyPlainWriter a a.is_big → b.records ≡ [] → b.bytes ≡ Some bytes → t a.is_big at_zero ≡ Some bytes
 plain_text {a} {b} {n} {t} bytes p e none is =
     let itself : IsSameWriter a a = record { order = refl; kind = refl; faults = omega arith } in
     let before : resolved at_zero a ≡ Some [] = resolved-same at_zero a a [] (Some []) itself e.records e.bytes ∙ shown_plain a.is_plain a.is_big (Some []) e.plain in

@@ -13,7 +13,8 @@ use Rattle.dw_frame.specs.ReadCies.{IsRangedCie}
 use Rattle.dw_frame.specs.Reading.{at_zero, IsRanged, IsWide, IsTold}
 use Rattle.dw_frame.specs.Parts.{Placed, Puts}
 use Rattle.dw_frame.specs.Fdes.{fde_part}
-use Rattle.dw_frame.specs.Tables.{Places, no_places, with_place, place_at, new_cie, fde_of, frame, have_cies}
+use Rattle.dw_frame.specs.Tables.{Places, no_places, with_place, place_at, new_cie, fde_of, frame}
+use Rattle.dw_frame.specs.Owners.{have_cies}
 use Rattle.dw_frame.proofs.PartSteps.{Puts-then, Puts-first}
 use Rattle.dw_frame.specs.Places.{AreBefore}
 

@@ -33,6 +33,10 @@ pub turned : (p q : Placed) (at : ℕ) (big : Bool) (zs : List ℕ) → IsText b
 unfolding in_turn both
 turned p q at big zs e = split ((p at).piece.text big at_zero) ((q (at + (p at).piece.size)).piece.text big at_zero) zs e
 
+pub turn_size : (p q : Placed) (at : ℕ) → (in_turn p q at).piece.size ≡ (p at).piece.size + (q (at + (p at).piece.size)).piece.size
+unfolding in_turn both
+turn_size p q at = refl
+
 pub some_if : (b : Bool) (ys xs : List ℕ) → ◌≡◌ {A = Text} (if b then Some ys else None) (Some xs) → IsTrue b × (ys ≡ xs)
 some_if true ys xs e = (refl, cc)
 some_if false ys xs e = cc

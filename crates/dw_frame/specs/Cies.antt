@@ -22,6 +22,12 @@ cie_id Debug Dwarf32 = 0xff ∷ 0xff ∷ 0xff ∷ 0xff ∷ []
 cie_id Debug Dwarf64 = 0xff ∷ 0xff ∷ 0xff ∷ 0xff ∷ 0xff ∷ 0xff ∷ 0xff ∷ 0xff ∷ []
 cie_id Eh format = 0 ∷ 0 ∷ 0 ∷ 0 ∷ []
 
+-- the number that a reader finds there
+abbrev pub cie_number : FrameKind → Format → ℕ
+cie_number Debug Dwarf32 = 0xffff_ffff
+cie_number Debug Dwarf64 = 0xffff_ffff_ffff_ffff
+cie_number Eh format = 0
+
 -- the versions that a section knows
 abbrev pub is_known : FrameKind → ℕ → Bool
 is_known Debug v = (v == 1) || ((v == 3) || (v == 4))

@@ -1,5 +1,5 @@
 -- Frame description entries (DWARF 5, 6.4.1; Linux Standard Base Core 5.0, 10.6.1.2).
-use Rattle.std.specs.Prelude.{ℕ, ◌-◌, Bool, true, false, [], Option, Some, None, if◌then◌else◌}
+use Rattle.std.specs.Prelude.{ℕ, ◌-◌, ◌==◌, Bool, true, false, [], Option, Some, None, if◌then◌else◌}
 use Rattle.dw_base.specs.Numbers.{word_of}
 use Rattle.dw_base.specs.Pointers.{format_of}
 use Rattle.dw_base.specs.declared.address.Address.{Address}
@@ -11,16 +11,24 @@ use Rattle.dw_frame.specs.declared.cie.CommonInformationEntry.{CommonInformation
 use Rattle.dw_frame.specs.declared.fde.FrameDescriptionEntry.{FrameDescriptionEntry}
 use Rattle.dw_frame.specs.declared.kind.FrameKind.{FrameKind}
 use Rattle.dw_frame.specs.declared.kind.FrameKind.TheVariants.{Debug, Eh}
-use Rattle.dw_frame.specs.Parts.{Placed, free, refused_if, only_if, in_turn, numbered}
-use Rattle.dw_frame.specs.Pieces.{bytes}
+use Rattle.dw_frame.specs.Parts.{Placed, free, caused, refused_if, only_if, in_turn, numbered}
+use Rattle.dw_frame.specs.Pieces.{bytes, missing}
 use Rattle.dw_frame.specs.PointerParts.{pointer, address, pointer_data, frame_offset}
 use Rattle.dw_frame.specs.Programs.{program_piece, program_fails}
 use Rattle.dw_frame.specs.Entries.{entry, counted}
-use Rattle.dw_frame.specs.Cies.{has_encoding, is_augmented}
+use Rattle.dw_frame.specs.Cies.{cie_number, has_encoding, is_augmented}
+
+abbrev pub too_large : Error → Bool
+too_large errors.ValueTooLarge = true
+too_large err = false
+
+-- an offset of a CIE, which can't be the number that tells a CIE
+abbrev pub cie_offset : Format → ℕ → Placed
+cie_offset format cie = if cie == cie_number Debug format then caused missing too_large else frame_offset (word_of format) cie
 
 -- where the CIE stands: its offset in the section, or how far it stands before this field
 abbrev pub cie_pointer : FrameKind → Format → ℕ → Placed
-cie_pointer Debug format cie at = frame_offset (word_of format) cie at
+cie_pointer Debug format cie at = cie_offset format cie at
 cie_pointer Eh format cie at = numbered 4 (at - cie) at
 
 -- where the function begins, and how many bytes it has

@@ -11,8 +11,10 @@ pub mod Entries
 pub mod Opened
 pub mod Cies
 pub mod Fdes
+pub mod Owners
 pub mod Tables
 pub mod Places
 pub mod ReadPointers
 pub mod ReadCies
 pub mod Reading
+pub mod ReadTables

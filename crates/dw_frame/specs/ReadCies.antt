@@ -5,15 +5,24 @@ use Rattle.dw_base.specs.Leb128.{uleb_at, sleb_at, fits_i64}
 use Rattle.dw_base.specs.Numbers.{Parser, ◌>>=◌, when, bytes_at, number_at, initial_length_at}
 use Rattle.dw_base.specs.declared.address.Address.{Address}
 use Rattle.dw_base.specs.declared.address.Address.TheVariants.{Constant, Symbol}
+use Rattle.dw_base.specs.declared.common.Format.{Format}
 use Rattle.dw_base.specs.declared.constants.DwEhPe.{DwEhPe}
 use Rattle.dw_frame.specs.declared.cie.CommonInformationEntry.{CommonInformationEntry}
 use Rattle.dw_frame.specs.declared.kind.FrameKind.{FrameKind}
-use Rattle.dw_frame.specs.Cies.{cie_id, has_byte_register, has_encoding}
+use Rattle.dw_frame.specs.Cies.{cie_id, cie_number, has_byte_register, has_encoding}
 use Rattle.dw_frame.specs.ReadPointers.{pointer_at}
 
 -- where the rest of bytes stands, which themselves stand at a place
 abbrev pub place_of : ℕ → List ℕ → List ℕ → ℕ
 place_of at bytes rest = at + (length bytes - length rest)
+
+-- what stands first behind the length: whether it is the id of a CIE, and what follows
+abbrev pub id_at : FrameKind → Bool → Format → Parser Bool
+id_at kind big format bytes = number_at big (length (cie_id kind format)) bytes >>= λ i. Some (i.0 == cie_number kind format, i.1)
+
+-- what follows the id of a CIE
+abbrev pub behind_id_at : FrameKind → Bool → Format → List ℕ → Option (List ℕ)
+behind_id_at kind big format bytes = id_at kind big format bytes >>= λ i. when i.0 (Some i.1)
 
 -- bytes up to a zero
 abbrev pub string_at : Parser (List ℕ)
@@ -59,8 +68,8 @@ register_at kind big v bytes = if has_byte_register kind v then number_at big 1 
 abbrev pub cie_at : FrameKind → Bool → ℕ → ℕ → List ℕ → Option CieRead
 cie_at kind big w at bytes =
     initial_length_at big bytes >>= λ n.
-    bytes_at (length (cie_id kind n.0.0)) n.1 >>= λ i.
-    number_at big 1 i.1 >>= λ v.
+    behind_id_at kind big n.0.0 n.1 >>= λ b.
+    number_at big 1 b >>= λ v.
     string_at v.1 >>= λ s.
     bytes_at (if v.0 == 4 then 2 else 0) s.1 >>= λ z.
     uleb_at z.1 >>= λ c.

@@ -1,10 +1,12 @@
 -- The call frames of a file as a section's text: each CIE just before the first FDE that uses it.
-use Rattle.std.specs.Prelude.{ℕ, ◌==◌, Bool, nat_lt, List, [], ◌∷◌, Option, Some, None, slice_get, if◌then◌else◌}
-use Rattle.std.specs.List.{list_all}
+use Rattle.std.specs.Prelude.{ℕ, ◌==◌, Bool, List, [], ◌∷◌, Option, Some, None, slice_get, if◌then◌else◌}
+use Rattle.dw_base.specs.declared.error.Error.{Error}
 use Rattle.dw_base.specs.declared.ids.CieId.{CieId}
+use Rattle.dw_writer.specs.Meaning.{Meaning}
 use Rattle.dw_frame.specs.declared.cie.CommonInformationEntry.{CommonInformationEntry}
 use Rattle.dw_frame.specs.declared.fde.FrameDescriptionEntry.{FrameDescriptionEntry}
 use Rattle.dw_frame.specs.declared.kind.FrameKind.{FrameKind}
+use Rattle.dw_frame.specs.declared.table.FrameTable.{FrameTable}
 use Rattle.dw_frame.specs.Pieces.{bytes, missing}
 use Rattle.dw_frame.specs.Causes.{never}
 use Rattle.dw_frame.specs.Parts.{Placed, free, caused, in_turn}
@@ -52,6 +54,10 @@ module _ (kind : FrameKind) (cies : List CommonInformationEntry) where
 abbrev pub frames_part : FrameKind → List CommonInformationEntry → List (CieId × FrameDescriptionEntry) → Placed
 frames_part kind cies fdes = frames_from kind cies no_places fdes
 
--- each FDE has its CIE among so many
-abbrev pub have_cies : ℕ → List (CieId × FrameDescriptionEntry) → Bool
-have_cies n fdes = list_all (λ x. nat_lt x.0.0 n) fdes
+-- the text of a table at a place of a section, with the causes for which a writer refuses it
+abbrev pub frames_at : FrameKind → FrameTable → Placed
+frames_at kind t = frames_part kind t.cies.keys t.fdes.items
+
+-- the causes for which this writer refuses it, which begins at the writer's length
+abbrev pub causes_of : FrameKind → FrameTable → Meaning → Error → Bool
+causes_of kind t m = (frames_at kind t m.size).fails m.is_plain

@@ -8,7 +8,7 @@ ghost use Rattle.dw_frame.specs.Programs.{a_step};
 ghost use Rattle.dw_frame.specs.ReadCies.{IsShort};
 ghost use Rattle.dw_frame.specs.Reading.{IsRanged};
 ghost use Rattle.dw_frame.specs.Cies.{is_augmented};
-ghost use Rattle.dw_frame.specs.Fdes.{cie_pointer, encoded_range, plain_range, range_part, lsda_part, fde_contents, fde_part};
+ghost use Rattle.dw_frame.specs.Fdes.{cie_offset, cie_pointer, encoded_range, plain_range, range_part, lsda_part, fde_contents, fde_part};
 
 use crate::cie::{CommonInformationEntry, tell_width};
 use crate::entry::{OpenBlock, OpenEntry};
@@ -144,8 +144,8 @@ impl FrameDescriptionEntry {
     /// Writes the data that the CIE announces, behind its length.
     fn write_block<W: Writer>(&self, w: &mut W, cie: &CommonInformationEntry) -> Result<()>
         ensures { Puts result (W.meaning w.old) (W.meaning w.new)
-            (only_if (is_augmented cie.now)
-            (counted (lsda_part cie.now.encoding.address_size cie.now.lsda_encoding self.now.lsda))) }
+            (only_if (is_augmented cie.now) (counted
+            (lsda_part cie.now.encoding.address_size cie.now.lsda_encoding self.now.lsda))) }
     {
         if !cie.is_augmented() {
             return Ok(());
@@ -197,12 +197,22 @@ fn write_cie_pointer<W: Writer>(
     ensures { Puts result (W.meaning w.old) (W.meaning w.new) (cie_pointer kind format cie_at) }
 {
     match kind {
-        FrameKind::Debug => w.write_offset(cie_at, SectionId::DebugFrame, format.word_size()),
+        FrameKind::Debug => write_cie_offset(w, format, cie_at),
         FrameKind::Eh => {
             let distance = w.len() - cie_at;
             w.write_udata(distance as u64, 4)
         }
     }
+}
+
+/// Writes the offset of a CIE. The one that is the id of CIEs would make its FDE a CIE for readers.
+pub(crate) fn write_cie_offset<W: Writer>(w: &mut W, format: Format, cie_at: usize) -> Result<()>
+    ensures { Puts result (W.meaning w.old) (W.meaning w.new) (cie_offset format cie_at) }
+{
+    if cie_at as u64 == FrameKind::Debug.cie_number(format) {
+        return Err(Error::ValueTooLarge);
+    }
+    w.write_offset(cie_at, SectionId::DebugFrame, format.word_size())
 }
 
 /// The numbers of an FDE have the widths of their types, which laws over all numbers have to be

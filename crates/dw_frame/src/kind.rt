@@ -1,7 +1,7 @@
 //! The two sections of call frames.
 
 ghost use Rattle.std.specs.Prelude.{◌≡◌};
-ghost use Rattle.dw_frame.specs.Cies.{cie_id, is_known, has_byte_register};
+ghost use Rattle.dw_frame.specs.Cies.{cie_id, cie_number, is_known, has_byte_register};
 
 use dw_base::Format;
 
@@ -25,6 +25,19 @@ impl FrameKind {
                 Format::Dwarf64 => &[0xff, 0xff, 0xff, 0xff, 0xff, 0xff, 0xff, 0xff],
             },
             FrameKind::Eh => &[0, 0, 0, 0],
+        }
+    }
+
+    /// The number that a reader finds there.
+    pub fn cie_number(self, format: Format) -> u64
+        ensures { result ≡ cie_number self format }
+    {
+        match self {
+            FrameKind::Debug => match format {
+                Format::Dwarf32 => u64::from(u32::MAX),
+                Format::Dwarf64 => u64::MAX,
+            },
+            FrameKind::Eh => 0,
         }
     }
 

@@ -1,6 +1,6 @@
 //! How a call frame instruction is spelled: a code, and up to two operands (DWARF 5, 7.24).
 
-ghost use Rattle.std.specs.Prelude.{◌≡◌, ℤ, Some, None, MatchResult, IsTrue};
+ghost use Rattle.std.specs.Prelude.{◌≡◌, ℤ, Some, None, MatchResult, OnErr, IfOk, IfErr, IsTrue};
 ghost use Rattle.dw_base.specs.declared.error.Error.TheVariants.{InvalidFrameDataOffset};
 ghost use Rattle.dw_frame.specs.Operands.{Nothing, Uleb, operand_in};
 ghost use Rattle.dw_frame.specs.Instructions.{spell, spelling_in, spelled, restored, offset_rule, value_rule, frame_rule, frame_offset_rule, factor_fails, offset_of};
@@ -112,8 +112,9 @@ fn value_rule<'a>(register: Register, offset: i32) -> Spelling<'a>
 
 /// The frame's address is at an offset from a register.
 fn frame_rule<'a>(register: Register, offset: i32, factor: i8) -> Result<Spelling<'a>>
-    ensures { MatchResult result (λ s. frame_rule factor register offset ≡ Some (spelling_in s))
-        (λ e. (e ≡ InvalidFrameDataOffset offset) × (frame_rule factor register offset ≡ None)) }
+    ensures ok { IfOk result (λ s. frame_rule factor register offset ≡ Some (spelling_in s)) }
+    ensures err { IfErr result (λ e. e ≡ InvalidFrameDataOffset offset) }
+    ensures none { OnErr result (frame_rule factor register offset ≡ None) }
 {
     match unsigned(offset) {
         Some(above) => {
@@ -129,8 +130,9 @@ fn frame_rule<'a>(register: Register, offset: i32, factor: i8) -> Result<Spellin
 
 /// The frame's address is at another offset.
 fn frame_offset_rule<'a>(offset: i32, factor: i8) -> Result<Spelling<'a>>
-    ensures { MatchResult result (λ s. frame_offset_rule factor offset ≡ Some (spelling_in s))
-        (λ e. (e ≡ InvalidFrameDataOffset offset) × (frame_offset_rule factor offset ≡ None)) }
+    ensures ok { IfOk result (λ s. frame_offset_rule factor offset ≡ Some (spelling_in s)) }
+    ensures err { IfErr result (λ e. e ≡ InvalidFrameDataOffset offset) }
+    ensures none { OnErr result (frame_offset_rule factor offset ≡ None) }
 {
     match unsigned(offset) {
         Some(above) => {

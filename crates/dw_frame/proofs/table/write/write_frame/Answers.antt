@@ -5,7 +5,7 @@ use Rattle.dw_writer.proofs.Outcomes.{OnOk-map}
 use Rattle.dw_frame.specs.Places.{known, AreBefore}
 use Rattle.dw_frame.proofs.TableSteps.{got_at, place_before, before_more, frame_puts, frame_refused, frame_told, written_size}
 use Rattle.dw_frame.specs.Fdes.{fde_part}
-use Rattle.dw_frame.proofs.table.write_frame.Goals as goal
+use Rattle.dw_frame.proofs.table.write.write_frame.Goals as goal
 
 pub write-requires : goal.write-requires
 write-requires g c =

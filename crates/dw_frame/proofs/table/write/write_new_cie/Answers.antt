@@ -1,5 +1,5 @@
 use Rattle.dw_frame.proofs.PartSteps.{Puts-nothing}
-use Rattle.dw_frame.proofs.table.write_new_cie.Goals as goal
+use Rattle.dw_frame.proofs.table.write.write_new_cie.Goals as goal
 
 pub returns-in-Some-clause-part : goal.returns-in-Some-clause-part
 returns-in-Some-clause-part g c =

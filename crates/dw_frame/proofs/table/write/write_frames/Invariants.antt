@@ -5,7 +5,7 @@ use Rattle.dw_frame.specs.Parts.{Puts}
 use Rattle.dw_frame.specs.Reading.{AreTold}
 use Rattle.dw_frame.specs.Places.{known, AreBefore}
 use Rattle.dw_frame.specs.Tables.{frames_from, no_places}
-use Rattle.dw_frame.proofs.table.write_frames.Given as goal
+use Rattle.dw_frame.proofs.table.write.write_frames.Given as goal
 
 -- what becomes of the rest becomes of all
 abbrev pub invariant-loop-fde : goal.invariant-loop-fde

@@ -9,7 +9,7 @@ use Rattle.dw_frame.specs.Tables.{frame, frames_from, with_place, place_at}
 use Rattle.dw_frame.proofs.PartSteps.{Puts-then, Puts-first, Puts-nothing}
 use Rattle.dw_frame.proofs.ProgramSteps.{drop_cons, drop_all}
 use Rattle.dw_frame.proofs.TableSteps.{none_before}
-use Rattle.dw_frame.proofs.table.write_frames.Goals as goal
+use Rattle.dw_frame.proofs.table.write.write_frames.Goals as goal
 
 pub loop-fde-init : goal.loop-fde-init
 loop-fde-init g c =
