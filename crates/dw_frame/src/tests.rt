@@ -2,6 +2,7 @@
 //! the tables of the standard (DWARF 5, 7.24).
 
 mod entries;
+mod limits;
 mod pointers;
 mod refusals;
 

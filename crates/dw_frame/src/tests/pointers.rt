@@ -2,11 +2,11 @@
 //! Base Core 5.0, 10.5.1).
 
 use super::a_cie;
-use super::entries::{check_section, debug_frame, eh_frame, table_of};
+use super::entries::{check_section, debug_frame, eh_frame, small_table, table_of};
 use crate::{FrameDescriptionEntry, FrameTable};
 use dw_base::constants::DW_EH_PE_absptr;
-use dw_base::{Address, DwEhPe, Result, RunTimeEndian};
-use dw_writer::{EhFrame, EndianVec, RelocVec};
+use dw_base::{Address, DwEhPe, Error, Result, RunTimeEndian, SectionId};
+use dw_writer::{DebugFrame, EhFrame, EndianVec, RelocVec, RelocationTarget};
 use std::alloc::Global;
 use std::process::Abort;
 use std::test::Fail;
@@ -81,8 +81,82 @@ fn counts_addresses_from_their_places(rt: HostRuntime) -> std::result::Result<()
         0, 0, 0, 0, 0, 0, 0, 0,
     ];
     check_encoded(&rt, a, 0x10, &pointed)?;
-    let signed = [0x0c, 0, 0, 0, 0, 0, 0, 0, 0xe0, 0x0f, 0x10, 0, 0, 0, 0, 0];
-    check_encoded(&rt, a, 0x1a, &signed)?;
+    check_encoded(&rt, a, 0x14, &pointed)?;
+    check_encoded(&rt, a, 0x1c, &pointed)?;
+    Ok(())
+}
+
+#[test]
+fn counts_short_addresses_from_their_places(rt: HostRuntime) -> std::result::Result<(), Fail> {
+    let a = rt.alloc();
+    let leb128 = [0x0c, 0, 0, 0, 0, 0, 0, 0, 0xe0, 0x1f, 0x10, 0, 0, 0, 0, 0];
+    check_encoded(&rt, a, 0x11, &leb128)?;
+    check_encoded(&rt, a, 0x19, &leb128)?;
+    let two = [0x0c, 0, 0, 0, 0, 0, 0, 0, 0xe0, 0x0f, 0x10, 0, 0, 0, 0, 0];
+    check_encoded(&rt, a, 0x12, &two)?;
+    check_encoded(&rt, a, 0x1a, &two)?;
+    let four = [
+        0x14, 0, 0, 0, 0, 0, 0, 0, 0xe0, 0x0f, 0, 0, 0x10, 0, 0, 0, 0, 0, 0, 0, 0, 0, 0, 0,
+    ];
+    check_encoded(&rt, a, 0x13, &four)?;
+    check_encoded(&rt, a, 0x1b, &four)?;
+    Ok(())
+}
+
+/// `.debug_frame` of an FDE that lies 16 bytes before the place of its address.
+fn backward(alloc: Global, encoding: u8) -> Result<EndianVec<RunTimeEndian>> {
+    let mut frames = FrameTable::new(alloc);
+    let mut cie = a_cie(alloc, 1, 8);
+    cie.fde_address_encoding = DwEhPe(encoding);
+    let cie = frames.add_cie(cie)?;
+    let fde = FrameDescriptionEntry::new(alloc, Address::Constant(0x10), 0x10);
+    frames.add_fde(cie, fde)?;
+    debug_frame(alloc, &frames)
+}
+
+#[test]
+fn counts_backward_in_signed_formats_alone(rt: HostRuntime) -> std::result::Result<(), Fail> {
+    let a = rt.alloc();
+    let signed = backward(a, 0x1b)?;
+    check_section(
+        &rt,
+        &signed,
+        &[
+            0x14, 0, 0, 0, 0xff, 0xff, 0xff, 0xff, 1, b'z', b'R', 0, 1, 8, 0x10, 1, 0x1b, 0, 0, 0,
+            0, 0, 0, 0, //
+            0x14, 0, 0, 0, 0, 0, 0, 0, 0xf0, 0xff, 0xff, 0xff, 0x10, 0, 0, 0, 0, 0, 0, 0, 0, 0, 0,
+            0,
+        ],
+    );
+    let unsigned = match backward(a, 0x13) {
+        Ok(_) => None,
+        Err(error) => Some(error),
+    };
+    assert_eq!(rt; unsigned, Some(Error::ValueTooLarge));
+    Ok(())
+}
+
+#[test]
+fn points_to_data_alone(rt: HostRuntime) -> std::result::Result<(), Fail> {
+    let a = rt.alloc();
+    let mut frames = FrameTable::new(a);
+    let mut cie = a_cie(a, 1, 8);
+    cie.lsda_encoding = Some(DW_EH_PE_absptr);
+    let cie = frames.add_cie(cie)?;
+    let mut fde = FrameDescriptionEntry::new(a, Address::Constant(0x1000), 0x10);
+    fde.lsda = Some(Address::Constant(0x2000));
+    frames.add_fde(cie, fde)?;
+    let section = debug_frame(a, &frames)?;
+    check_section(
+        &rt,
+        &section,
+        &[
+            0x14, 0, 0, 0, 0xff, 0xff, 0xff, 0xff, 1, b'z', b'L', 0, 1, 8, 0x10, 1, 0, 0, 0, 0, 0,
+            0, 0, 0, //
+            0x24, 0, 0, 0, 0, 0, 0, 0, 0, 0x10, 0, 0, 0, 0, 0, 0, 0x10, 0, 0, 0, 0, 0, 0, 0, //
+            8, 0, 0x20, 0, 0, 0, 0, 0, 0, 0, 0, 0, 0, 0, 0, 0,
+        ],
+    );
     Ok(())
 }
 
@@ -135,6 +209,22 @@ fn records_a_pointer_to_a_symbol(rt: HostRuntime) -> std::result::Result<(), Fai
     assert_eq!(rt; records[0].size, 4);
     assert_eq!(rt; records[0].addend, 5);
     assert_eq!(rt; records[0].eh_pe, Some(DwEhPe(0x1b)));
+    Ok(())
+}
+
+#[test]
+fn records_where_a_common_entry_stands(rt: HostRuntime) -> std::result::Result<(), Fail> {
+    let a = rt.alloc();
+    let mut w = DebugFrame(RelocVec::new(a, RunTimeEndian::Little));
+    small_table(a)?.write_debug_frame(&mut w)?;
+    let records = w.0.relocations();
+    assert_eq!(rt; records.len(), 1);
+    assert_eq!(rt; records[0].offset, 20);
+    assert_eq!(rt;
+        records[0].target,
+        RelocationTarget::Section(SectionId::DebugFrame)
+    );
+    assert_eq!(rt; records[0].addend, 0);
     Ok(())
 }
 

@@ -2,6 +2,7 @@
 
 use super::a_cie;
 use super::entries::{debug_frame, eh_frame, table_of};
+use crate::fde::write_cie_offset;
 use crate::{CommonInformationEntry, FrameDescriptionEntry, FrameTable};
 use dw_base::{Address, DwEhPe, Encoding, Error, Format, Register, Result, RunTimeEndian};
 use dw_writer::EndianVec;
@@ -97,5 +98,29 @@ fn refuses_symbols_in_plain_sections(rt: HostRuntime) -> std::result::Result<(),
     };
     let refused = debug_frame(a, &with_data(a, Some(DwEhPe(0)), Some(symbol))?);
     assert_eq!(rt; error_of(refused), Some(Error::InvalidAddress));
+    Ok(())
+}
+
+#[test]
+fn refuses_numbers_without_room(rt: HostRuntime) -> std::result::Result<(), Fail> {
+    let a = rt.alloc();
+    // The address 0x1000 has no room in one byte.
+    let address = eh_frame(a, &table_of(a, versioned(a, 1, 1))?);
+    assert_eq!(rt; error_of(address), Some(Error::ValueTooLarge));
+    let mut frames = FrameTable::new(a);
+    let cie = frames.add_cie(versioned(a, 1, 2))?;
+    let long = FrameDescriptionEntry::new(a, Address::Constant(0), 0x1_0000);
+    frames.add_fde(cie, long)?;
+    assert_eq!(rt; error_of(eh_frame(a, &frames)), Some(Error::ValueTooLarge));
+    Ok(())
+}
+
+#[test]
+fn refuses_the_id_of_common_entries_as_an_offset(rt: HostRuntime) -> std::result::Result<(), Fail> {
+    let mut w = EndianVec::new(rt.alloc(), RunTimeEndian::Little);
+    let id = write_cie_offset(&mut w, Format::Dwarf32, 0xffff_ffff);
+    assert_eq!(rt; id, Err(Error::ValueTooLarge));
+    write_cie_offset(&mut w, Format::Dwarf32, 0xffff_fffe)?;
+    assert_eq!(rt; w.slice(), [0xfe, 0xff, 0xff, 0xff].as_slice());
     Ok(())
 }
