@@ -19,4 +19,5 @@ pub mod FdeReading
 pub mod CieReading
 pub mod TableReading
 pub mod TableWhole
+pub mod EqualSteps
 pub mod Worked

@@ -1,5 +1,5 @@
 -- Common information entries (DWARF 5, 6.4.1; Linux Standard Base Core 5.0, 10.6.1.1).
-use Rattle.std.specs.Prelude.{ℕ, Bool, true, false, not, ◌&&◌, ◌||◌, ◌==◌, List, [], ◌∷◌, Option, Some, None, is_some, if◌then◌else◌}
+use Rattle.std.specs.Prelude.{◌≡◌, ℕ, Bool, true, false, not, ◌&&◌, ◌||◌, ◌==◌, List, [], ◌∷◌, Option, Some, None, is_some, if◌then◌else◌}
 use Rattle.dw_base.specs.Leb128.{uleb, sleb}
 use Rattle.dw_base.specs.declared.address.Address.{Address}
 use Rattle.dw_base.specs.declared.common.Format.{Format}
@@ -15,6 +15,11 @@ use Rattle.dw_frame.specs.Parts.{Placed, free, caused, only_if, in_turn, numbere
 use Rattle.dw_frame.specs.PointerParts.{pointer}
 use Rattle.dw_frame.specs.Programs.{instructions_piece, instructions_fail}
 use Rattle.dw_frame.specs.Entries.{entry, counted}
+
+-- the same in each field, and in each instruction
+pub record IsSameCie (c d : CommonInformationEntry) : Type 0 where
+  pub fields : c ≡ record d { instructions = c.instructions }
+  pub instructions : c.instructions.items ≡ d.instructions.items
 
 -- what tells a CIE from an FDE: a word of ones, or four zeros
 abbrev pub cie_id : FrameKind → Format → List ℕ

@@ -1,6 +1,6 @@
 //! Common information entries (DWARF 5, 6.4.1).
 
-ghost use Rattle.std.specs.Prelude.{◌≡◌, ◌<◌, ◌^◌, [], ◌∷◌, ◌++◌, None, false, IsTrue, IfSome, OnOk, OnErr, IfOk, IfErr};
+ghost use Rattle.std.specs.Prelude.{◌≡◌, ◌<◌, ◌^◌, ◌↔◌, [], ◌∷◌, ◌++◌, None, false, IsTrue, IfSome, OnOk, OnErr, IfOk, IfErr};
 ghost use Rattle.dw_base.specs.declared.error.Error.TheVariants.{NoMemory};
 ghost use Rattle.dw_base.specs.declared.constants.TheConstants.{DW_EH_PE_absptr};
 ghost use Rattle.dw_base.specs.Leb128.{fits_i64};
@@ -8,7 +8,7 @@ ghost use Rattle.dw_frame.specs.ReadCies.{IsShort, IsRangedCie};
 ghost use Rattle.dw_frame.specs.Causes.{never, Writes};
 ghost use Rattle.dw_frame.specs.Parts.{only_if, Puts};
 ghost use Rattle.dw_frame.specs.Entries.{counted};
-ghost use Rattle.dw_frame.specs.Cies.{is_augmented, has_encoding, byte_if, letters, encoding_if, sizes, version_part, register_part, personality_part, cie_data, cie_head, cie_measures, cie_contents, cie_part};
+ghost use Rattle.dw_frame.specs.Cies.{IsSameCie, is_augmented, has_encoding, byte_if, letters, encoding_if, sizes, version_part, register_part, personality_part, cie_data, cie_head, cie_measures, cie_contents, cie_part};
 
 use crate::entry::{OpenBlock, OpenEntry};
 use crate::instruction::CallFrameInstruction;
@@ -205,6 +205,14 @@ impl CommonInformationEntry {
             self.return_address_register,
         );
         tell_personality(self.personality);
+    }
+
+    /// Tells that another entry is the same in each field and in each instruction.
+    pub fn is_same(&self, other: &CommonInformationEntry) -> bool
+        ensures eq { result ≡ ⟦<CommonInformationEntry as PartialEq>⟧.eq self.now other.now }
+        ensures value { IsTrue result ↔ IsSameCie self.now other.now }
+    {
+        self == other
     }
 
     /// A second entry that equals this one.

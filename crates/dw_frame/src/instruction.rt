@@ -1,6 +1,6 @@
 //! Call frame instructions (DWARF 5, 6.4.2).
 
-ghost use Rattle.std.specs.Prelude.{◌≡◌, IfOk, IfErr};
+ghost use Rattle.std.specs.Prelude.{◌≡◌, ◌↔◌, IfOk, IfErr, IsTrue};
 ghost use Rattle.dw_base.specs.declared.error.Error.TheVariants.{NoMemory};
 ghost use Rattle.dw_frame.specs.Causes.{Writes};
 ghost use Rattle.dw_frame.specs.Instructions.{instruction_piece, instruction_fails};
@@ -64,6 +64,13 @@ impl CallFrameInstruction {
         w.write(&[spelling.code])?;
         spelling.first.write(w, encoding)?;
         spelling.second.write(w, encoding)
+    }
+
+    /// Tells that another instruction is the same.
+    pub fn is_same(&self, other: &CallFrameInstruction) -> bool
+        ensures { IsTrue result ↔ (self.now ≡ other.now) }
+    {
+        self == other
     }
 
     /// A second instruction that equals this one.

@@ -314,3 +314,14 @@ fn keeps_equal_entries_once(rt: HostRuntime) -> std::result::Result<(), Fail> {
     assert_eq!(rt; frames.fde_count(), 1);
     Ok(())
 }
+
+#[test]
+fn tells_equal_entries(rt: HostRuntime) -> std::result::Result<(), Fail> {
+    let a = rt.alloc();
+    let cie = a_cie(a, 1, -8);
+    assert_eq!(rt; cie.is_same(&a_cie(a, 1, -8)), true);
+    assert_eq!(rt; cie.is_same(&a_cie(a, 1, 8)), false);
+    let state = CallFrameInstruction::RememberState;
+    assert_eq!(rt; state.is_same(&CallFrameInstruction::RestoreState), false);
+    Ok(())
+}
