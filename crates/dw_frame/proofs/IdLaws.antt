@@ -1,8 +1,8 @@
 -- What tells a CIE from an FDE is read again.
-use Rattle.std.specs.Prelude.{◌≡◌, ℕ, ◌+◌, ◌-◌, ◌<◌, ◌≤◌, ◌==◌, Bool, true, false, List, [], ◌++◌, length, Option, Some, None, refl, if◌then◌else◌}
+use Rattle.std.specs.Prelude.{◌≡◌, ℕ, ◌+◌, ◌-◌, ◌<◌, ◌≤◌, ◌==◌, Bool, true, false, List, [], ◌++◌, length, Option, Some, refl}
 use Rattle.std.proofs.Common.{sym, ◌∙◌, ap, subst, arith, append_assoc, length-append}
 use Rattle.std.proofs.lemmas.Bool.{eq-eqb, ne_eqb}
-use Rattle.dw_base.specs.Numbers.{◌>>=◌, when, bytes_at, number_at, initial_length_at, value_of, num, word_of, length_size, escape_of}
+use Rattle.dw_base.specs.Numbers.{◌>>=◌, when, number_at, initial_length_at, value_of, num, word_of, length_size, escape_of}
 use Rattle.dw_base.specs.declared.common.Format.{Format}
 use Rattle.dw_base.specs.declared.common.Format.TheVariants.{Dwarf32, Dwarf64}
 use Rattle.dw_base.proofs.NumberLaws.{bytes_at_is, initial_length-again}

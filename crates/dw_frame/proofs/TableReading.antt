@@ -12,8 +12,7 @@ use Rattle.dw_writer.proofs.Steps.{shown, resolved-same}
 use Rattle.dw_frame.specs.declared.cie.CommonInformationEntry.{CommonInformationEntry}
 use Rattle.dw_frame.specs.declared.fde.FrameDescriptionEntry.{FrameDescriptionEntry}
 use Rattle.dw_frame.specs.declared.kind.FrameKind.{FrameKind}
-use Rattle.dw_frame.specs.Pieces.{both}
-use Rattle.dw_frame.specs.Parts.{Placed, in_turn, Puts}
+use Rattle.dw_frame.specs.Parts.{Placed, Puts}
 use Rattle.dw_frame.specs.Cies.{cie_part}
 use Rattle.dw_frame.specs.Fdes.{fde_part}
 use Rattle.dw_frame.specs.Tables.{Places, no_places, with_place, place_at, new_cie, fde_of, frame, frames_from, frames_part}

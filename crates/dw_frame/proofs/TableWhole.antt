@@ -9,7 +9,6 @@ use Rattle.dw_frame.specs.declared.fde.FrameDescriptionEntry.{FrameDescriptionEn
 use Rattle.dw_frame.specs.declared.kind.FrameKind.{FrameKind}
 use Rattle.dw_frame.specs.Parts.{Placed, Puts}
 use Rattle.dw_frame.specs.Places.{AreBefore}
-use Rattle.dw_frame.specs.Cies.{cie_part}
 use Rattle.dw_frame.specs.Fdes.{fde_part}
 use Rattle.dw_frame.specs.Tables.{Places, no_places, with_place, place_at, new_cie, fde_of, frame, frames_from, frames_part}
 use Rattle.dw_frame.specs.ReadCies.{place_of, IsRangedCie, ReadsCie}
