@@ -102,12 +102,12 @@ impl Attributes {
         delete_in(&mut self.items, name);
     }
 
-    /// Makes room for more attributes.
+    /// Makes room for more attributes, and for no others, since an entry keeps its list.
     pub(crate) fn reserve(&mut self, additional: usize) -> Result<()>
         ensures same { self.new ≡ self.old }
         ensures err { IfErr result (λ e. e ≡ NoMemory) }
     {
-        self.items.reserve(additional)?;
+        self.items.reserve_exact(additional)?;
         Ok(())
     }
 }

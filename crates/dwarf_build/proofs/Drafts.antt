@@ -16,7 +16,7 @@ use Rattle.dwarf_build.specs.Generated.{generated_encoding, generated_unit, firs
 abbrev pub drafted_entries : ℕ → ℕ → List EntryValue
 drafted_entries from n = record new_root { children = variable_ids n } ∷ blank_entry 1 ∷ variables from n
 
-length-variables : (from n : ℕ) → length (variables from n) ≡ n
+pub length-variables : (from n : ℕ) → length (variables from n) ≡ n
 length-variables from zero = refl
 length-variables from (suc n) = omega (arith, length-append (variables from n) (variable (2 + n) (from + n) ∷ []), length-variables from n)
 
@@ -42,7 +42,7 @@ changed_end x y n f es e h =
     rw two (ap (λ t. x ∷ y ∷ t) (changed_last n f es e h))
 
 -- a variable that names the first root or not
-abbrev variable_that : Bool → ℕ → ℕ → EntryValue
+abbrev pub variable_that : Bool → ℕ → ℕ → EntryValue
 variable_that b id i = record (blank_entry id) {
   parent = Some 0;
   tag = DW_TAG_variable.0;

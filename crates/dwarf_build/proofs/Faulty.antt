@@ -1,6 +1,6 @@
 -- New plain sections take every Dwarf that is valid.
 use Rattle.std.specs.Prelude.{◌≡◌, ◌⊎◌, true, List, []}
-use Rattle.std.proofs.Common.{ℕ, sym, subst}
+use Rattle.std.proofs.Common.{ℕ, sym, subst, refl}
 use Rattle.dw_base.specs.declared.error.Error.{Error}
 use Rattle.dw_base.specs.declared.error.Error.TheVariants.{NoMemory}
 use Rattle.dw_writer.specs.Contents.{Meaning}
@@ -33,3 +33,8 @@ says_refused s status text e is says cause =
 -- a valid Dwarf has no fault
 pub valid_faultless : (d : Dwarf) (e : Error) → IsValid true d → HasFault d e → ⊥
 valid_faultless d e valid r = valid_unfailing true d valid e r
+
+-- so that only memory lacks
+pub only_memory : (d : Dwarf) → IsValid true d → (e : Error) → ((e ≡ NoMemory → ⊥) → HasFault d e) → e ≡ NoMemory
+only_memory d valid NoMemory fails = refl
+only_memory d valid e fails = absurd (valid_faultless d e valid (fails (λ same. cc)))

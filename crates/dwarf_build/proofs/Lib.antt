@@ -11,3 +11,7 @@ pub mod Runs
 pub mod Made
 mod Worked
 pub mod Drafts
+mod MadeTrees
+mod MadeSizes
+mod MadeUnits
+mod MadeValid

@@ -4,7 +4,6 @@ use Rattle.std.specs.Prelude.{Option, Some, Bool, false, All, min, sum_by}
 use Rattle.std.proofs.lemmas.List.Elements.{All-append}
 use Rattle.dw_writer.specs.Contents.{Meaning}
 use Rattle.dw_writer.specs.declared.sections.Sections.{Sections}
-use Rattle.dw_unit.specs.UnitValue.{UnitValue}
 use Rattle.dw_dwarf.specs.Valid.{IsUnwritten, AreUnwritten, settled_dwarf}
 use Rattle.dw_dwarf.specs.Written.{AreTextsOf, HoldsDwarf}
 use Rattle.dw_dwarf.specs.declared.dwarf.Dwarf.{Dwarf}

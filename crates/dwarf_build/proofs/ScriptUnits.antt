@@ -1,5 +1,5 @@
 -- The units that a script builds.
-use Rattle.std.proofs.Common.{◌≡◌, sym, subst, ℕ, zero, suc, ◌+◌, List, [], ◌∷◌, ◌++◌, length, refl, arith, true, false, Bool, All, slice_get, slice_set}
+use Rattle.std.proofs.Common.{◌≡◌, subst, ℕ, zero, suc, ◌+◌, List, [], ◌∷◌, ◌++◌, length, refl, arith, true, false, Bool, All, slice_get, slice_set}
 use Rattle.std.specs.Prelude.{Result, Ok, Err, Option, Some, None, ok_or, not, nat_lt, ◌==◌, if◌then◌else◌}
 use Rattle.std.proofs.lemmas.List.Elements.{All-set, All-append}
 use Rattle.std.proofs.lemmas.Option.{slice_get_within, get_or_from_slice_get}

@@ -185,7 +185,7 @@ ListsValid words source_old source_new sink_old sink_new code =
     (HasRisen source_old.faults source_new.faults → ⊥) → (HasRisen sink_old.faults sink_new.faults → ⊥) →
     (code ≡ 0) ⊎ (code ≡ 6)
 
--- what is generated was written, or memory lacked, unless the sink failed
+-- what is generated is valid; it was written, or memory lacked, unless the sink failed
 abbrev pub MakesNumbers : List (List ℕ) → Intake → Intake → ℕ → Type 0
 MakesNumbers words sink_old sink_new code =
-    (n : ℕ) → made_of words ≡ Some n → (HasRisen sink_old.faults sink_new.faults → ⊥) → (code ≡ 0) ⊎ (code ≡ 6)
+    (n : ℕ) → made_of words ≡ Some n → IsValid true (generated n) × ((HasRisen sink_old.faults sink_new.faults → ⊥) → (code ≡ 0) ⊎ (code ≡ 6))

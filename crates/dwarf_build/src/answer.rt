@@ -1,6 +1,6 @@
 //! What the program answers: a status and the text that goes with it.
 
-ghost use Rattle.std.specs.Prelude.{◌≡◌, ◌≢◌, ◌+◌, ◌≤◌, ◌↔◌, ◌∷◌, [], List, length, map, codes, Some, IsTrue, IfOk, IfErr, string_bytes};
+ghost use Rattle.std.specs.Prelude.{◌≡◌, ◌≢◌, ◌+◌, ◌≤◌, ◌↔◌, ◌∷◌, [], List, length, map, codes, Some, IsTrue, IfOk, IfErr, IfSome, string_bytes};
 ghost use Rattle.dw_base.specs.declared.error.Error.TheVariants.{NoMemory};
 ghost use Rattle.dw_script.specs.Numbers.{number_below};
 ghost use Rattle.dwarf_build.specs.Answers.{IsBuild, LeavesUnread, Says, SaysOf, SaysBuild, SaysMade, Reads, StopsFor, made_of, most_variables};
@@ -61,7 +61,8 @@ fn is_build(words: &Vec<String>) -> bool
 
 // How many variables the words ask for, where they are the command `make` and a number.
 fn count_to_make(words: &Vec<String>) -> Option<u64>
-    ensures { result ≡ made_of (map string_bytes words.now.items) }
+    ensures asked { result ≡ made_of (map string_bytes words.now.items) }
+    ensures few { IfSome result (λ n. n ≤ MOST_VARIABLES) }
 {
     match words.as_slice() {
         [word, field] if word.as_str() == "make" => variable_count(field.as_bytes()),
@@ -71,7 +72,8 @@ fn count_to_make(words: &Vec<String>) -> Option<u64>
 
 // The number that a field spells, if `make` generates as many variables.
 fn variable_count(field: &[u8]) -> Option<u64>
-    ensures { result ≡ number_below (most_variables + 1) field.now }
+    ensures asked { result ≡ number_below (most_variables + 1) field.now }
+    ensures few { IfSome result (λ n. n ≤ MOST_VARIABLES) }
 {
     match parse_u64(field) {
         Some(count) if count <= MOST_VARIABLES => Some(count),
@@ -143,9 +145,12 @@ fn build(alloc: Global, bytes: &[u8]) -> Result<Answer, AllocError>
     }
 }
 
-// Generates so many variables, writes them, and tells what was written.
+// Generates so many variables, writes them, and tells what was written. What is generated is
+// valid, so that only memory can lack.
 fn answer_make(alloc: Global, count: u64) -> Result<Answer, Error>
-    ensures { IfOk result (λ a. (a.status ≡ Status.Listed) × SaysMade count a.text.items) }
+    requires { count ≤ MOST_VARIABLES }
+    ensures ok { IfOk result (λ a. (a.status ≡ Status.Listed) × SaysMade count a.text.items) }
+    ensures err { IfErr result (λ e. e ≡ NoMemory) }
 {
     let mut dwarf = generate(alloc, count)?;
     let counts = Counts::of(&dwarf.units);
@@ -193,7 +198,6 @@ pub fn answer_to<S: Source>(
         return answer_build(alloc, source);
     }
     match count_to_make(words) {
-        // What is generated is valid, which tests show, so that writing it lacks memory at most.
         Some(count) => answer_make(alloc, count).map_err(|_| Stop::NoMemory),
         None => Ok(answer_with(alloc, Status::Usage, USAGE)?),
     }

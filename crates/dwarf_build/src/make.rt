@@ -1,6 +1,7 @@
 //! The input that `make` generates.
 
-ghost use Rattle.std.specs.Prelude.{◌≡◌, ◌≢◌, ◌+◌, ◌<◌, ◌≤◌, ◌^◌, false, length, OnOk, IfOk};
+ghost use Rattle.std.specs.Prelude.{◌≡◌, ◌≢◌, ◌+◌, ◌<◌, ◌≤◌, ◌^◌, false, length, OnOk, IfOk, IfErr};
+ghost use Rattle.dw_base.specs.declared.error.Error.TheVariants.{NoMemory};
 ghost use Rattle.dw_entries.specs.Entries.{with_attribute};
 ghost use Rattle.dw_unit.specs.UnitValue.{with_entry};
 ghost use Rattle.dwarf_build.specs.Drafted.{with_variable};
@@ -27,7 +28,8 @@ const ENCODING: Encoding = Encoding {
 
 /// Generates so many variables, a thousand a unit.
 pub fn generate(alloc: Global, count: u64) -> Result<Dwarf>
-    ensures { IfOk result (λ d. d ≡ generated count) }
+    ensures ok { IfOk result (λ d. d ≡ generated count) }
+    ensures err { IfErr result (λ e. e ≡ NoMemory) }
 {
     let mut dwarf = Dwarf::new(alloc);
     for index in 0..count / UNIT_VARIABLES + 1 {
@@ -43,7 +45,8 @@ pub fn generate(alloc: Global, count: u64) -> Result<Dwarf>
 fn generate_unit(alloc: Global, from: u64, count: u64) -> Result<Unit>
     requires few { count ≤ 1000 }
     requires numbered { from + count < 2 ^ 64 }
-    ensures { IfOk result (λ u. u ≡ generated_unit from count) }
+    ensures ok { IfOk result (λ u. u ≡ generated_unit from count) }
+    ensures err { IfErr result (λ e. e ≡ NoMemory) }
 {
     let mut unit = Unit::new(alloc, ENCODING, LineProgram::none())?;
     let base_type = unit.reserve();
@@ -66,13 +69,18 @@ fn add_variable(unit: &mut Unit, number: u64, base_type: UnitEntryId) -> Result<
     requires room { unit.old.reserved < usize.MAX }
     requires rooted { 0 < unit.old.reserved }
     requires not_freed { unit.old.is_freed ≡ false }
-    ensures { OnOk result (unit.new ≡ with_variable base_type.0 number unit.old) }
+    ensures ok { OnOk result (unit.new ≡ with_variable base_type.0 number unit.old) }
+    ensures err { IfErr result (λ e. e ≡ NoMemory) }
 {
     let root = unit.root();
     let id = unit.add(root, DW_TAG_variable)?;
+    let names_first_root = number % 100 == 0;
+    // Without it the list would get room for four.
+    unit.get_mut(id)
+        .reserve(if names_first_root { 3 } else { 2 })?;
     set(unit, id, DW_AT_byte_size, AttributeValue::Udata(number))?;
     set(unit, id, DW_AT_type, AttributeValue::UnitRef(base_type))?;
-    if number % 100 == 0 {
+    if names_first_root {
         let first_root = DebugInfoRef::Entry(UnitId::new(0), UnitEntryId::new(0));
         set(
             unit,
@@ -92,6 +100,7 @@ fn set(unit: &mut Unit, id: UnitEntryId, name: DwAt, value: AttributeValue) -> R
     ensures ok { OnOk result
         (unit.new ≡ with_entry unit.old id.0 (with_attribute name.0 value)) }
     ensures count { OnOk result (length unit.new.entries ≡ length unit.old.entries) }
+    ensures err { IfErr result (λ e. e ≡ NoMemory) }
 {
     unit.get_mut(id).set(name, value)
 }

@@ -1,4 +1,4 @@
-use Rattle.std.proofs.Common.{◌≡◌, ◌∙◌, sym, ap, subst, arith, suc, ◌+◌}
+use Rattle.std.proofs.Common.{◌∙◌, sym, ap, subst, arith, suc, ◌+◌}
 use Rattle.dw_base.specs.declared.constants.TheConstants.{DW_TAG_base_type, DW_AT_byte_size}
 use Rattle.dw_entries.specs.declared.value.AttributeValue.TheVariants.{Data1}
 use Rattle.dw_entries.specs.Entries.{with_added, with_attribute}
@@ -17,7 +17,7 @@ loop-index-init c = record {
 pub loop-index-preserved : goal.loop-index-preserved
 loop-index-preserved c =
     let i = c.loop-index.index in
-    let same = c.in_ok-add_variable.ensures ∙ ap (λ b. with_variable b (c.args.from + i) c.loop-index.unit) c.loop-index.invariant.base in
+    let same = c.in_ok-add_variable.ensures.ok ∙ ap (λ b. with_variable b (c.args.from + i) c.loop-index.unit) c.loop-index.invariant.base in
     let more = subst (IsDraft c.args.from (suc i)) (sym same) (one_drafted c.args.from i c.loop-index.unit c.loop-index.invariant.draft) in
     record {
       draft = subst (λ k. IsDraft c.args.from k c.add_variable.new.unit) (omega arith) more;
@@ -28,8 +28,8 @@ pub add_reserved-requires-clause-reserved : goal.add_reserved-requires-clause-re
 add_reserved-requires-clause-reserved c =
     subst (IsReserved c.loop-index.unit) (sym c.loop-index.invariant.base) (base_reserved c.args.from c.loop-index.index c.loop-index.unit c.loop-index.invariant.draft)
 
-pub returns : goal.returns
-returns c =
+pub returns-clause-ok : goal.returns-clause-ok
+returns-clause-ok c =
     let u = c.loop-index.unit in
     c.in_ok-set.ensures.ok
     ∙ ap (λ v. with_entry v c.reserve-base_type.result.0 (with_attribute DW_AT_byte_size.0 (Data1 4))) c.in_ok-add_reserved.ensures.ok

@@ -1,4 +1,4 @@
-use Rattle.std.proofs.Common.{◌≡◌, ◌≤◌}
+use Rattle.std.proofs.Common.{◌≡◌}
 use Rattle.dwarf_build.proofs.Drafts.{IsDraft}
 use Rattle.dwarf_build.specs.Generated.{base_type_id}
 use Rattle.dwarf_build.proofs.make.generate_unit.Given as goal

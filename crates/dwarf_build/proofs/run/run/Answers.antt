@@ -1,9 +1,11 @@
-use Rattle.std.proofs.Common.{◌≡◌, ◌∙◌, sym, ap, subst, ℕ, ◌⊎◌, inr, map}
+use Rattle.std.proofs.Common.{◌∙◌, sym, ap, subst, inr, map}
 use Rattle.std.specs.Prelude.{string_bytes}
 use Rattle.dw_base.specs.Faults.{HasRisen}
 use Rattle.dwarf_build.specs.Answers.{StopsFor, code_of}
+use Rattle.dwarf_build.proofs.CommandWords.{asked_few}
 use Rattle.dwarf_build.proofs.Completeness.{IsDone, printed_complete, printed_made, not_both}
 use Rattle.dwarf_build.proofs.Runs.{printed_answers, source_failed_answers, no_memory_answers}
+use Rattle.dwarf_build.proofs.MadeValid.{generated_valid}
 use Rattle.dwarf_build.proofs.run.run.Goals.{in-Ok, in-Err-SourceFailed, in-Err-NoMemory}
 use Rattle.dwarf_build.proofs.run.run.Goals as goal
 
@@ -19,15 +21,18 @@ returns-clause-complete g c = λ build bytes told short s accepted valid source_
     ]
 
 pub returns-clause-makes : goal.returns-clause-makes
-returns-clause-makes g c = λ n asked sink_calm.
-    elim c.match-answer_to.branch [
-      | in-Ok w ↦
-          let calm : HasRisen (g.K.Sink.intake c.args.sink.now).faults (g.K.Sink.intake w.print-status.new.sink).faults → ⊥ = λ h. sink_calm (subst (λ k. HasRisen (g.K.Sink.intake c.args.sink.now).faults (g.K.Sink.intake k).faults) (sym w.sink-is) h) in
-          subst IsDone (sym (c.code.ensures ∙ ap code_of w.status-is))
-          (printed_made _ _ n asked _ _ _ _ _ w.in-Ok.ensures.ok w.print-status.ensures.prints calm)
-      | in-Err-SourceFailed w ↦ absurd (not_both _ n (subst (StopsFor (map string_bytes c.args.words.now.items) (g.S.Source.input c.args.source.now) (g.S.Source.input c.answer_to.new.source)) w.in-Err-SourceFailed.field-0-is w.in-Err-SourceFailed.ensures.err).0 asked)
-      | in-Err-NoMemory w ↦ inr (c.code.ensures ∙ ap code_of w.status-is)
-    ]
+returns-clause-makes g c = λ n asked. (
+  generated_valid n (asked_few (map string_bytes c.args.words.now.items) n asked),
+  λ sink_calm.
+      elim c.match-answer_to.branch [
+        | in-Ok w ↦
+            let calm : HasRisen (g.K.Sink.intake c.args.sink.now).faults (g.K.Sink.intake w.print-status.new.sink).faults → ⊥ = λ h. sink_calm (subst (λ k. HasRisen (g.K.Sink.intake c.args.sink.now).faults (g.K.Sink.intake k).faults) (sym w.sink-is) h) in
+            subst IsDone (sym (c.code.ensures ∙ ap code_of w.status-is))
+            (printed_made _ _ n asked _ _ _ _ _ w.in-Ok.ensures.ok w.print-status.ensures.prints calm)
+        | in-Err-SourceFailed w ↦ absurd (not_both _ n (subst (StopsFor (map string_bytes c.args.words.now.items) (g.S.Source.input c.args.source.now) (g.S.Source.input c.answer_to.new.source)) w.in-Err-SourceFailed.field-0-is w.in-Err-SourceFailed.ensures.err).0 asked)
+        | in-Err-NoMemory w ↦ inr (c.code.ensures ∙ ap code_of w.status-is)
+      ],
+)
 
 pub returns-clause-answers : goal.returns-clause-answers
 returns-clause-answers g c =
