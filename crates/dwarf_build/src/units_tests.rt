@@ -49,16 +49,19 @@ fn refers_to_a_later_unit(rt: HostRuntime) -> Result<(), Fail> {
 fn refers_in_the_width_of_an_address_in_version_2(rt: HostRuntime) -> Result<(), Fail> {
     let rows = [
         (
-            "unit 2 8 32 / unit 2 4 32 / set 0 0 DW_AT_type info_ref 1:0 / set 1 0 DW_AT_type info_ref 0:0",
+            "unit 2 8 32 / unit 2 4 32 / set 0 0 DW_AT_type info_ref 1:0 / \
+             set 1 0 DW_AT_type info_ref 0:0",
             "10000000 0200 00000000 08 01 1f00000000000000 0c000000 0200 08000000 04 01 0b000000",
         ),
         (
-            "order big / unit 2 4 64 / unit 2 2 64 / set 0 0 DW_AT_type info_ref 1:0 / set 1 0 DW_AT_type info_ref 0:0",
+            "order big / unit 2 4 64 / unit 2 2 64 / set 0 0 DW_AT_type info_ref 1:0 / \
+             set 1 0 DW_AT_type info_ref 0:0",
             "ffffffff 0000000000000010 0002 0000000000000000 04 01 00000033
             ffffffff 000000000000000e 0002 0000000000000008 02 01 0017",
         ),
         (
-            "unit 2 1 64 / unit 3 1 32 / set 0 0 DW_AT_type info_ref 1:0 / set 1 0 DW_AT_type info_ref 0:0",
+            "unit 2 1 64 / unit 3 1 32 / set 0 0 DW_AT_type info_ref 1:0 / \
+             set 1 0 DW_AT_type info_ref 0:0",
             "ffffffff 0d00000000000000 0200 0000000000000000 01 01 24
             0c000000 0300 08000000 01 01 17000000",
         ),
@@ -75,14 +78,16 @@ fn refers_within_a_unit_and_across_three(rt: HostRuntime) -> Result<(), Fail> {
     let rows = [
         // The second unit names its own root and that root's child.
         (
-            "unit 5 8 32 / unit 5 8 32 / set 1 0 DW_AT_type info_ref 1:0 / add 1 0 0x34 / set 1 1 DW_AT_type info_ref 1:1",
+            "unit 5 8 32 / unit 5 8 32 / set 1 0 DW_AT_type info_ref 1:0 / \
+             add 1 0 0x34 / set 1 1 DW_AT_type info_ref 1:1",
             "09000000 0500 01 08 00000000 01
             13000000 0500 01 08 06000000 01 19000000 02 1e000000 00",
             "01 11 00 00 00 00 01 11 01 49 10 00 00 02 34 00 49 10 00 00 00",
         ),
         // From the last to the first and back, past a unit of another version.
         (
-            "unit 5 8 32 / add 0 0 0x34 / set 0 1 DW_AT_type info_ref 2:1 / unit 4 8 32 / unit 5 8 32 / add 2 0 0x24 / set 2 0 DW_AT_type info_ref 0:1",
+            "unit 5 8 32 / add 0 0 0x34 / set 0 1 DW_AT_type info_ref 2:1 / unit 4 8 32 / \
+             unit 5 8 32 / add 2 0 0x24 / set 2 0 DW_AT_type info_ref 0:1",
             "0f000000 0500 01 08 00000000 01 02 30000000 00 08000000 0400 0d000000 08 01
             0f000000 0500 01 08 13000000 01 0d000000 02 00",
             "01 11 01 00 00 02 34 00 49 10 00 00 00 01 11 00 00 00 00
@@ -90,7 +95,8 @@ fn refers_within_a_unit_and_across_three(rt: HostRuntime) -> Result<(), Fail> {
         ),
         // A base type, which moves before the variable.
         (
-            "unit 5 8 32 / set 0 0 DW_AT_type info_ref 1:2 / unit 5 8 32 / add 1 0 0x34 / add 1 0 0x24",
+            "unit 5 8 32 / set 0 0 DW_AT_type info_ref 1:2 / unit 5 8 32 / \
+             add 1 0 0x34 / add 1 0 0x24",
             "0d000000 0500 01 08 00000000 01 1e000000 0c000000 0500 01 08 08000000 01 02 03 00",
             "01 11 00 49 10 00 00 00 01 11 01 00 00 02 24 00 00 00 03 34 00 00 00 00",
         ),
@@ -155,8 +161,8 @@ fn refuses_references_to_nothing(rt: HostRuntime) -> Result<(), Fail> {
 }
 
 /// Two units of version 2 with addresses of one byte: the first root has a name of this length, and
-/// the second one names itself in one byte. It stands at 24 and the length: behind two headers of 11
-/// bytes, the first root's code and the zero that closes the name.
+/// the second one names itself in one byte. It stands at 24 and the length: behind two headers of
+/// 11 bytes, the first root's code and the zero that closes the name.
 fn script_with_a_name(alloc: Global, length: usize) -> Result<String, Fail> {
     let mut script = String::from_str(
         alloc,
