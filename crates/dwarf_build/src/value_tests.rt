@@ -84,8 +84,8 @@ const VARYING: [Row; 30] = [
     (2, 4, 64, "unit_ref 0", "14", Number(8, 23)),
     (5, 5, 32, "unit_ref 0", "13", Number(4, 12)),
     (5, 5, 64, "unit_ref 0", "14", Number(8, 24)),
-    // DW_FORM_ref_addr counts from the begin of .debug_info, where the unit is the first. In version
-    // 2 it has as many bytes as an address, from version 3 on as many as an offset.
+    // DW_FORM_ref_addr counts from the begin of .debug_info, where the unit is the first. In
+    // version 2 it has as many bytes as an address, from version 3 on as many as an offset.
     (2, 2, 32, "info_ref 0:0", "10", Number(8, 11)),
     (2, 2, 64, "info_ref 0:0", "10", Number(8, 23)),
     (3, 4, 32, "info_ref 0:0", "10", Number(4, 11)),
