@@ -1,0 +1,10 @@
+pub mod Digits
+pub mod Sums
+pub mod Putting
+pub mod Held
+pub mod PartSteps
+pub mod SectionSteps
+pub mod SetSteps
+pub mod LinkSteps
+pub mod JoinLaws
+mod Worked

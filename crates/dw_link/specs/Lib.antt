@@ -1,0 +1,6 @@
+pub mod ErrorName
+pub mod Faults
+pub mod Bits
+pub mod Sets
+pub mod Outcome
+pub mod Steps
