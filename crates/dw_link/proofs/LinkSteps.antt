@@ -1,5 +1,5 @@
 -- What joining comes to, from what its steps come to.
-use Rattle.std.specs.Prelude.{◌≡◌, ℕ, suc, zero, ◌+◌, ◌≤◌, ◌⊎◌, Bool, true, false, not, ◌||◌, cond, List, [], ◌∷◌, length, map, Option, Some, None, slice_get, nat_lt, position, IsTrue, IsFalse, refl}
+use Rattle.std.specs.Prelude.{◌≡◌, ℕ, suc, ◌<◌, zero, ◌+◌, ◌≤◌, ◌⊎◌, Bool, true, false, not, ◌||◌, cond, List, [], ◌∷◌, length, map, Option, Some, None, slice_get, nat_lt, position, IsTrue, IsFalse, refl}
 use Rattle.std.specs.Option.{option_map}
 use Rattle.std.specs.List.{list_any, position_or_len}
 use Rattle.std.proofs.Common.{sym, ◌∙◌, ap, subst, inl, inr, arith}
@@ -20,11 +20,12 @@ use Rattle.dw_link.specs.declared.fault.Fault.{Fault}
 use Rattle.dw_link.specs.declared.fault.Fault.TheVariants as faults
 use Rattle.dw_link.specs.Faults.{error_at}
 use Rattle.dw_link.specs.Sets.{Parts, parts_of, sets_of, linked_parts}
-use Rattle.dw_link.specs.Outcome.{differs, is_other, is_mixed, first_mixed, IsFaultless, IsFirstFault, LinkRefused, JoinsParts}
+use Rattle.dw_link.specs.Outcome.{differs, is_other, is_mixed, first_mixed, fault_at, IsBefore, IsFaultless, IsFirstFault, LinkRefused, JoinsParts}
 use Rattle.dw_link.specs.Steps.{order_at, length_of, is_below, AllHaveOrders, AreEmpty, AddsSets, SetsRefused}
 use Rattle.dw_link.proofs.Held.{held_beside}
 use Rattle.dw_link.proofs.SetSteps.{parts_of-none, length-map, told_of}
 use Rattle.dw_link.proofs.JoinLaws.{IsReady}
+use Rattle.dw_link.proofs.SectionSteps.{number_same}
 
 -- The first set of another byte order
 
@@ -289,3 +290,66 @@ IsReady-all is_big big sets s h none n set m at e =
       records = (told_of is_big one.0 s m here).1;
       order = cc;
     }
+
+-- Of all faulty relocations there is one first
+
+order_of : (m n : ℕ) → (m < n) ⊎ ((m ≡ n) ⊎ (n < m))
+order_of zero zero = inr (inl refl)
+order_of zero (suc n) = inl (omega arith)
+order_of (suc m) zero = inr (inr (omega arith))
+order_of (suc m) (suc n) = elim (order_of m n) [
+  | inl h ↦ inl (omega arith)
+  | inr e ↦ elim e [ inl same ↦ inr (inl (ap suc same)) | inr h ↦ inr (inr (omega arith)) ]
+]
+
+one_place : (m : ℕ) (t : SectionId) (j n : ℕ) (s : SectionId) (k : ℕ) →
+    (IsBefore m t j n s k → ⊥) → (IsBefore n s k m t j → ⊥) → (m ≡ n) × (section_number t ≡ section_number s) × (j ≡ k)
+one_place m t j n s k earlier later = elim (order_of m n) [
+  | inl h ↦ absurd (earlier (inl h))
+  | inr rest ↦ elim rest [
+    | inr h ↦ absurd (later (inl h))
+    | inl same ↦ elim (order_of (section_number t) (section_number s)) [
+      | inl h ↦ absurd (earlier (inr (same, inl h)))
+      | inr rest ↦ elim rest [
+        | inr h ↦ absurd (later (inr (sym same, inl h)))
+        | inl number ↦ elim (order_of j k) [
+          | inl h ↦ absurd (earlier (inr (same, inr (number, h))))
+          | inr rest ↦ elim rest [
+            | inr h ↦ absurd (later (inr (sym same, inr (sym number, h))))
+            | inl index ↦ (same, number, index)
+          ]
+        ]
+      ]
+    ]
+  ]
+]
+
+clash : (o : Option Fault) (f : Fault) → o ≡ None → o ≡ Some f → ⊥
+clash o f e h = cc
+
+pub one_first : (sets : List Parts) (symbols : List ℕ) (a b : LinkError) → IsFirstFault sets symbols a → IsFirstFault sets symbols b → a ≡ b
+one_first sets symbols a b x y =
+    let same = one_place x.set x.section x.index y.set y.section y.index
+    (λ before. clash (fault_at sets symbols x.set x.section x.index) x.fault (y.first x.set x.section x.index before) x.stands)
+    (λ before. clash (fault_at sets symbols y.set y.section y.index) y.fault (x.first y.set y.section y.index before) y.stands) in
+    let section : x.section ≡ y.section = number_same x.section y.section same.1 in
+    let here : fault_at sets symbols x.set x.section x.index ≡ fault_at sets symbols y.set y.section y.index =
+    ap (λ n. fault_at sets symbols n x.section x.index) same.0 ∙ ap (λ s. fault_at sets symbols y.set s x.index) section ∙ ap (fault_at sets symbols y.set y.section) same.2 in
+    let stands : Some x.fault ≡ Some y.fault = sym x.stands ∙ here ∙ y.stands in
+    let fault : x.fault ≡ y.fault = cc in
+    x.is ∙ ap (λ f. error_at f x.set x.section x.index) fault ∙ ap (λ n. error_at y.fault n x.section x.index) same.0
+    ∙ ap (λ s. error_at y.fault y.set s x.index) section ∙ ap (error_at y.fault y.set y.section) same.2 ∙ sym y.is
+
+-- the first fault is answered, but for want of memory
+pub first_by : (big : Bool) (sets : List Parts) (symbols : List ℕ) (e error : LinkError) → LinkRefused big sets symbols e → first_mixed big sets ≡ None → IsFirstFault sets symbols error →
+    (e ≡ error) ⊎ (e ≡ NoMemory)
+first_by big sets symbols NoMemory error refused none fault = inr refl
+first_by big sets symbols (MixedByteOrder n) error refused none fault = cc
+first_by big sets symbols (PointerEncoding n s k) error refused none fault = inl (one_first sets symbols (PointerEncoding n s k) error refused.1 fault)
+first_by big sets symbols (RecordOutOfPlace n s k) error refused none fault = inl (one_first sets symbols (RecordOutOfPlace n s k) error refused.1 fault)
+first_by big sets symbols (UnknownSymbol n s k) error refused none fault = inl (one_first sets symbols (UnknownSymbol n s k) error refused.1 fault)
+first_by big sets symbols (UnknownSection n s k) error refused none fault = inl (one_first sets symbols (UnknownSection n s k) error refused.1 fault)
+first_by big sets symbols (ValueTooLarge n s k) error refused none fault = inl (one_first sets symbols (ValueTooLarge n s k) error refused.1 fault)
+
+pub not_taken : (sets : List Parts) (symbols : List ℕ) (e : LinkError) → IsFaultless sets symbols → IsFirstFault sets symbols e → ⊥
+not_taken sets symbols e faultless fault = fault_no sets symbols e faultless fault

@@ -5,8 +5,8 @@ ghost use Rattle.std.specs.Prelude.{◌≡◌};
 use dw_base::SectionId;
 use thiserror::Error as ThisError;
 
-/// Why sets of sections can't be joined. Sets count from 0, and so do a section's relocations, which
-/// `index` numbers.
+/// Why sets of sections can't be joined. Sets count from 0, and so do a section's relocations,
+/// which `index` numbers.
 #[derive(Clone, Copy, Debug, PartialEq, Eq, ThisError)]
 pub enum LinkError {
     /// No memory could be had.
@@ -17,15 +17,16 @@ pub enum LinkError {
     MixedByteOrder {
         set: usize,
     },
-    /// A pointer's encoding counts neither from zero nor from the pointer's own place, has no format
-    /// of the relocation's width, or stands with a section's start.
+    /// A pointer's encoding counts neither from zero nor from the pointer's own place, has no
+    /// format of the relocation's width, or stands with a section's start.
     #[error("set {set}, {section:?}, relocation {index}: a pointer's encoding can't be linked")]
     PointerEncoding {
         set: usize,
         section: SectionId,
         index: usize,
     },
-    /// The number isn't 1, 2, 4 or 8 bytes wide, or doesn't lie inside the set's part of the section.
+    /// The number isn't 1, 2, 4 or 8 bytes wide, or doesn't lie inside the set's part of the
+    /// section.
     #[error("set {set}, {section:?}, relocation {index}: it is out of place")]
     RecordOutOfPlace {
         set: usize,

@@ -1,11 +1,12 @@
 //! The join.
 
-ghost use Rattle.std.specs.Prelude.{◌≡◌, ℕ, [], true, Some, None, Err, OnOk, IfOk, IfErr, position};
+ghost use Rattle.std.specs.Prelude.{◌≡◌, ◌⊎◌, ℕ, [], true, Some, None, Err, OnOk, IfOk, IfErr, IsErrAnd, position};
 ghost use Rattle.dw_writer.specs.Meaning.{Adds};
 ghost use Rattle.dw_writer.specs.Sections.{AllMean, NoFixups};
+ghost use Rattle.dw_link.specs.declared.error.LinkError.{LinkError};
 ghost use Rattle.dw_link.specs.declared.error.LinkError.TheVariants.{NoMemory, MixedByteOrder};
 ghost use Rattle.dw_link.specs.Sets.{parts_of, sets_of};
-ghost use Rattle.dw_link.specs.Outcome.{differs, is_mixed, first_mixed, IsFaultless, LinkRefused, Joins, JoinsParts, AllInOrder};
+ghost use Rattle.dw_link.specs.Outcome.{differs, is_mixed, first_mixed, IsFaultless, IsFirstFault, LinkRefused, Joins, JoinsParts, AllInOrder};
 ghost use Rattle.dw_link.specs.Steps.{layout_at, lengths_of, layout_behind, is_section, is_below, HaveSameOrders, AllHaveOrders, AreEmpty, AddsSets, SetsRefused, AddsPart, AddsThese, PartRefused, SetRefused};
 
 use crate::error::LinkError;
@@ -29,7 +30,16 @@ const JOINED: [SectionId; 11] = [
     SectionId::EhFrame,
 ];
 
-/// Joins sets of sections, in a byte order that each of their sections has.
+/// Joins sets of sections, in a byte order that each of their sections has. A joined section is
+/// that section of all sets, one behind another. Then the number in the place of each relocation
+/// is replaced, in the order of sets, sections and relocations, by its sum with the addend and the
+/// relocation's value: that of a symbol, by its number in `symbols`, or where the set's own part
+/// of the named section starts. A pointer of a call frame table puts the sum in by its encoding,
+/// under `DW_EH_PE_pcrel` counted from where it comes to stand (Linux Standard Base Core 5.0,
+/// 10.5.1).
+///
+/// The first set with a section of another byte order is refused as `MixedByteOrder`, and else the
+/// first relocation whose number can't be put in, by its cause.
 pub fn link<E: Endianity>(
     alloc: Global,
     endian: E,
@@ -53,6 +63,10 @@ pub fn link<E: Endianity>(
         → result ≡ Err (MixedByteOrder n) }
     ensures err { IfErr result (LinkRefused (E.is_big endian)
         (sets_of ⟦<RelocVec<E> as Writer>⟧.meaning sets.now.items) symbols.now.items) }
+    ensures first { (error : LinkError) → first_mixed (E.is_big endian)
+        (sets_of ⟦<RelocVec<E> as Writer>⟧.meaning sets.now.items) ≡ None
+        → IsFirstFault (sets_of ⟦<RelocVec<E> as Writer>⟧.meaning sets.now.items) symbols.now.items
+        error → IsErrAnd result (λ e. (e ≡ error) ⊎ (e ≡ NoMemory)) }
     ensures complete { first_mixed (E.is_big endian)
         (sets_of ⟦<RelocVec<E> as Writer>⟧.meaning sets.now.items) ≡ None
         → IsFaultless (sets_of ⟦<RelocVec<E> as Writer>⟧.meaning sets.now.items) symbols.now.items
@@ -197,7 +211,8 @@ fn add_section<E: Endianity>(
         (parts_of ⟦<RelocVec<E> as Writer>⟧.meaning set.now)
         (layout_behind places.now.starts places.now.symbols.now
         (parts_of ⟦<EndianVec<E> as Writer>⟧.meaning joined.old))) }
-    ensures err { IfErr result (PartRefused (parts_of ⟦<RelocVec<E> as Writer>⟧.meaning set.now section)
+    ensures err { IfErr result (PartRefused
+        (parts_of ⟦<RelocVec<E> as Writer>⟧.meaning set.now section)
         (layout_behind places.now.starts places.now.symbols.now
         (parts_of ⟦<EndianVec<E> as Writer>⟧.meaning joined.old) section) number section) }
     ensures fixups { NoFixups joined.old → NoFixups joined.new }

@@ -1,5 +1,5 @@
-//! What a sum puts in the bytes of a relocation (Linux Standard Base Core 5.0, 10.5.1, where it is a
-//! pointer of a call frame table).
+//! What a sum puts in the bytes of a relocation (Linux Standard Base Core 5.0, 10.5.1, where it is
+//! a pointer of a call frame table).
 
 ghost use Rattle.std.specs.Prelude.{◌≡◌, ◌↔◌, ◌||◌, true, ◌==◌, if◌then◌else◌, IsTrue};
 ghost use Rattle.std.specs.Option.{ForSome};
