@@ -1,0 +1,6 @@
+mod OperandLaws
+mod LocationLaws
+mod PlainLaws
+mod ReadLaws
+mod TableLaws
+mod Worked

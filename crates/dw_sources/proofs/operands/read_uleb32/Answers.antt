@@ -1,0 +1,15 @@
+use Rattle.std.proofs.Common.{arith}
+use Rattle.std.proofs.lemmas.Result.{err_from_is_err_and}
+use Rattle.dw_sources.proofs.OperandLaws.{uleb32_is, uleb32_large, uleb32_not}
+use Rattle.dw_sources.proofs.operands.read_uleb32.Goals as goal
+
+pub returns-in_err-number-clause-err : goal.returns-in_err-number-clause-err
+returns-in_err-number-clause-err g c =
+    let p = err_from_is_err_and c.from_residual.result c.from_residual.ensures.1 in
+    rw (p.1, p.2) (uleb32_not _ _ c.in_err-number.ensures.err.reason)
+
+pub returns-then-number-gt4294967295-clause-err : goal.returns-then-number-gt4294967295-clause-err
+returns-then-number-gt4294967295-clause-err g c = uleb32_large c.in_ok-number.number _ _ c.in_ok-number.ensures.ok (omega arith)
+
+pub returns-clause-ok : goal.returns-clause-ok
+returns-clause-ok g c = uleb32_is c.in_ok-number.number _ _ c.in_ok-number.ensures.ok (omega arith)
