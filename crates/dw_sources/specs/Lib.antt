@@ -4,3 +4,4 @@ pub mod OperationTable
 pub mod OperationViews
 pub mod Tries
 pub mod OperationIters
+pub mod ConvertErrors

@@ -1,6 +1,7 @@
 //! Reads expressions and lists of ranges and locations.
 #![tactic(auto)]
 
+mod convert_error;
 mod literals;
 mod locations;
 mod named_entries;
@@ -14,5 +15,6 @@ mod stack;
 mod tests;
 mod typed;
 
+pub use convert_error::{ConvertError, ConvertResult};
 pub use operation::Operation;
 pub use operation_iter::OperationIter;
