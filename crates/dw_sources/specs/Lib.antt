@@ -5,3 +5,6 @@ pub mod OperationViews
 pub mod Tries
 pub mod OperationIters
 pub mod ConvertErrors
+pub mod RawLists
+pub mod RawListViews
+pub mod RawListIters

@@ -3,12 +3,15 @@
 
 mod convert_error;
 mod literals;
+mod location_item;
 mod locations;
 mod named_entries;
 mod operands;
 mod operation;
 mod operation_iter;
 mod plain;
+mod range_item;
+mod raw_lists;
 mod read_operation;
 mod stack;
 #[cfg(test)]
@@ -16,5 +19,8 @@ mod tests;
 mod typed;
 
 pub use convert_error::{ConvertError, ConvertResult};
+pub use location_item::RawLocListEntry;
 pub use operation::Operation;
 pub use operation_iter::OperationIter;
+pub use range_item::RawRngListEntry;
+pub use raw_lists::{RawLocListIter, RawRngListIter, raw_locations, raw_ranges};

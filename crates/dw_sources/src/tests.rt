@@ -1,5 +1,7 @@
 mod each_operation;
+mod lists;
 mod refusals;
+mod units;
 
 use crate::{Operation, OperationIter};
 use dw_base::{BigEndian, Encoding, Format, LittleEndian};
