@@ -1,3 +1,4 @@
+pub mod Progress
 mod OperandLaws
 mod ListLaws
 mod LocatedLaws
