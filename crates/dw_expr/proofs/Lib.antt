@@ -6,3 +6,6 @@ pub mod PartLaws
 pub mod Kept
 pub mod Placing
 mod Worked
+pub mod ExpressionDrafts
+pub mod OpenPlaces
+pub mod ExpressionsThere

@@ -116,7 +116,7 @@ module _ (e : Encoding) (known : Option (ℕ → Option ℕ)) where
   unfolding then_draft
   nested_width ps = refl
 
-  part_width : (n : Node) (starts : List ℕ) (to : ℕ) → ((node_part e (place_by known) n).draft starts to).size ≡ (node_part e (place_by known) n).size
+  pub part_width : (n : Node) (starts : List ℕ) (to : ℕ) → ((node_part e (place_by known) n).draft starts to).size ≡ (node_part e (place_by known) n).size
   unfolding then_draft
   part_width (plain p) starts to = operands_width starts to (operands e p)
   part_width (entry_value x) starts to = refl
@@ -153,7 +153,6 @@ module _ (e : Encoding) (known : Option (ℕ → Option ℕ)) where
 
   base_quiet : (o : Operand) → base_fails e known o errors.WriteFault ≡ false
   base_quiet (table.Base i) = entry_quiet known i.0
-  base_quiet (table.Place i) = entry_quiet known i.0
   base_quiet o = refl
 
   bases_quiet : (os : List Operand) → bases_fail e known os errors.WriteFault ≡ false
@@ -169,7 +168,7 @@ module _ (e : Encoding) (known : Option (ℕ → Option ℕ)) where
     tree_quiet nothing = refl
     tree_quiet (before n x) = or_from (node_unplaced e known n errors.WriteFault) _ (node_quiet n) (tree_quiet x)
 
-  nodes_quiet : (ns : List Node) → nodes_unplaced e known ns errors.WriteFault ≡ false
+  pub nodes_quiet : (ns : List Node) → nodes_unplaced e known ns errors.WriteFault ≡ false
   nodes_quiet [] = refl
   nodes_quiet (n ∷ ns) = or_from (node_unplaced e known n errors.WriteFault) _ (node_quiet n) (nodes_quiet ns)
 

@@ -42,7 +42,7 @@ OnOk-both (Err e) p q f = tt
 
 -- Distances
 
-length-signed_num : (big : Bool) (w : ℕ) (z : ℤ) → length (signed_num big w z) ≡ w
+pub length-signed_num : (big : Bool) (w : ℕ) (z : ℤ) → length (signed_num big w z) ≡ w
 unfolding signed_num
 length-signed_num big w z = length-num big w (twos_complement w z)
 

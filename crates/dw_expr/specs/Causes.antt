@@ -78,10 +78,9 @@ length_fails n errors.ValueTooLarge = nat_le (2 ^ 64) n
 length_fails n err = false
 
 module _ (e : Encoding) (known : Option (ℕ → Option ℕ)) where
-  -- what the size hangs on
+  -- what the size hangs on: places in ULEB128
   abbrev pub base_fails : Operand → Error → Bool
   base_fails (Base i) err = entry_fails known i.0 err
-  base_fails (Place i) err = entry_fails known i.0 err
   base_fails o err = false
 
   abbrev pub bases_fail : List Operand → Error → Bool
@@ -109,10 +108,10 @@ module _ (e : Encoding) (known : Option (ℕ → Option ℕ)) where
   abbrev pub size_fails : List Node → Error → Bool
   size_fails ns err = length_fails (expression_size e (place_by known) ns) err || nodes_unplaced ns err
 
-  abbrev tree_size_fails : Tree → Error → Bool
+  abbrev pub tree_size_fails : Tree → Error → Bool
   tree_size_fails x err = length_fails (parts_size (tree_parts e (place_by known) x)) err || tree_unplaced x err
 
-  abbrev tree_starts : Tree → List ℕ
+  abbrev pub tree_starts : Tree → List ℕ
   tree_starts x = starts_from 0 (tree_parts e (place_by known) x)
 
   module _ (keeps is_plain : Bool) where

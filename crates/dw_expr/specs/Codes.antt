@@ -48,6 +48,9 @@ pub nodes_of-tree_of : (ns : List Node) → nodes_of (tree_of ns) ≡ ns
 nodes_of-tree_of [] = refl
 nodes_of-tree_of (n ∷ ns) = ap (λ r. n ∷ r) (nodes_of-tree_of ns)
 
+abbrev pub node_code : Coded Node
+node_code = record { code = node_stored; inj = node_one }
+
 abbrev pub tree_code : Coded Tree
 tree_code = record { code = tree_stored; inj = tree_one }
 

@@ -10,3 +10,4 @@ pub mod OperandViews
 pub mod Places
 pub mod Spelling
 pub mod Causes
+pub mod References

@@ -6,7 +6,8 @@ ghost use Rattle.dw_expr.specs.Views.{node_of, nodes_in};
 
 use super::{Expression, Operation};
 use dw_base::Result;
-use std::alloc::Global;
+use std::alloc::{AllocError, Global};
+use std::result;
 
 impl Expression {
     /// A second expression of the same operations.
@@ -14,6 +15,14 @@ impl Expression {
         ensures ok { IfOk result (λ e. e ≡ self.now) }
         ensures memory { IfErr result (λ e. e ≡ NoMemory) }
     {
+        Ok(self.clone()?)
+    }
+}
+
+impl Clone for Expression {
+    ghost is_clone = { λ a b. b ≡ a };
+
+    fn clone(&self) -> result::Result<Expression, AllocError> {
         let alloc = *self.operations.allocator();
         let operations = copy_operations(alloc, self.operations.as_slice())?;
         Ok(Expression { operations })
@@ -21,9 +30,11 @@ impl Expression {
 }
 
 #[cycle(copy)]
-fn copy_operations(alloc: Global, operations: &[Operation]) -> Result<Vec<Operation>>
-    ensures ok { IfOk result (λ v. nodes_in v.items ≡ nodes_in operations.now) }
-    ensures memory { IfErr result (λ e. e ≡ NoMemory) }
+fn copy_operations(
+    alloc: Global,
+    operations: &[Operation],
+) -> result::Result<Vec<Operation>, AllocError>
+    ensures { IfOk result (λ v. nodes_in v.items ≡ nodes_in operations.now) }
 {
     let mut copies = Vec::with_capacity(alloc, operations.len())?;
     for operation in operations {
@@ -34,20 +45,16 @@ fn copy_operations(alloc: Global, operations: &[Operation]) -> Result<Vec<Operat
 }
 
 #[cycle(copy)]
-fn copy_operation(alloc: Global, operation: &Operation) -> Result<Operation>
-    ensures ok { IfOk result (λ o. node_of o ≡ node_of operation.now) }
-    ensures memory { IfErr result (λ e. e ≡ NoMemory) }
+fn copy_operation(alloc: Global, operation: &Operation) -> result::Result<Operation, AllocError>
+    ensures { IfOk result (λ o. node_of o ≡ node_of operation.now) }
 {
     match operation {
-        Operation::Raw(bytecode) => Ok(Operation::Raw(bytecode.try_clone()?)),
+        Operation::Raw(bytecode) => Ok(Operation::Raw(bytecode.clone()?)),
         Operation::Simple(opcode) => Ok(Operation::Simple(*opcode)),
         Operation::Address(address) => Ok(Operation::Address(*address)),
         Operation::UnsignedConstant(value) => Ok(Operation::UnsignedConstant(*value)),
         Operation::SignedConstant(value) => Ok(Operation::SignedConstant(*value)),
-        Operation::ConstantType(base, value) => Ok(Operation::ConstantType(
-            *base,
-            value.try_clone()?,
-        )),
+        Operation::ConstantType(base, value) => Ok(Operation::ConstantType(*base, value.clone()?)),
         Operation::FrameOffset(offset) => Ok(Operation::FrameOffset(*offset)),
         Operation::RegisterOffset(register, offset) => Ok(Operation::RegisterOffset(
             *register, *offset,
@@ -73,7 +80,7 @@ fn copy_operation(alloc: Global, operation: &Operation) -> Result<Operation>
         Operation::Convert(base) => Ok(Operation::Convert(*base)),
         Operation::Reinterpret(base) => Ok(Operation::Reinterpret(*base)),
         Operation::Register(register) => Ok(Operation::Register(*register)),
-        Operation::ImplicitValue(bytes) => Ok(Operation::ImplicitValue(bytes.try_clone()?)),
+        Operation::ImplicitValue(bytes) => Ok(Operation::ImplicitValue(bytes.clone()?)),
         Operation::ImplicitPointer { entry, byte_offset } => Ok(Operation::ImplicitPointer {
             entry: *entry,
             byte_offset: *byte_offset,

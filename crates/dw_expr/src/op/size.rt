@@ -14,10 +14,11 @@ use crate::places::{EntryPlaces, entry_place};
 use dw_base::{Encoding, Error, Result, sleb128_size, uleb128_size};
 
 impl Expression {
-    /// How many bytes a `write` that succeeds adds. Takes no memory. An entry that is named by its
-    /// place in the unit has to have one among `places`: without any places it is refused as
-    /// `UnsupportedCfiExpressionReference`, and one that has none as
-    /// `UnsupportedExpressionForwardReference`. A size that is no `usize` is `ValueTooLarge`.
+    /// How many bytes a `write` that succeeds adds. Takes no memory. An entry whose place in the
+    /// unit is spelled in LEB128 has to have one among `places`: without any places it is refused
+    /// as `UnsupportedCfiExpressionReference`, and one that has none as
+    /// `UnsupportedExpressionForwardReference`; the others may get theirs later. A size that is no
+    /// `usize` is `ValueTooLarge`.
     pub fn size<P: EntryPlaces>(&self, encoding: Encoding, places: Option<&P>) -> Result<usize>
         ensures ok { let place = place_by (known_by P.places places.entry) in
             IfOk result (λ n. n ≡ expression_size encoding place self.now) }
@@ -122,10 +123,7 @@ fn operand_bytes<P: EntryPlaces>(
             let place = entry_place(places, *entry)?;
             Ok(uleb128_size(place))
         }
-        Operand::Place(entry) => {
-            entry_place(places, *entry)?;
-            Ok(4)
-        }
+        Operand::Place(_) => Ok(4),
         Operand::Info(_, width) => Ok(*width as usize),
         Operand::Distance(_) => Ok(2),
     }

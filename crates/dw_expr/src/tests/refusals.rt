@@ -49,6 +49,10 @@ fn refuses_entries_without_a_place(rt: HostRuntime) -> std::result::Result<(), F
     check(&rt, alloc, Operation::Call(entry(4)), forward);
     let inner = held(alloc, Operation::Convert(Some(entry(4))))?;
     check(&rt, alloc, inner, forward);
+    // The size hangs on no place of four bytes.
+    let mut call = Expression::new(alloc);
+    call.op_call(entry(4))?;
+    assert_eq!(rt; call.size::<Places>(encoding(5), None), Ok(5));
     let mut expression = Expression::new(alloc);
     expression.op_convert(Some(entry(0)))?;
     let mut w = EndianVec::new(alloc, LittleEndian);

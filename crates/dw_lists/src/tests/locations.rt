@@ -287,16 +287,31 @@ fn an_entry_of_the_unit_is_placed(rt: HostRuntime) -> std::result::Result<(), Fa
     Ok(())
 }
 
+/// Writes a list of one operation, where no places are given.
+fn write_without_places(
+    alloc: Global,
+    operation: Operation,
+    sections: &mut Sections<EndianVec<RunTimeEndian>>,
+) -> Result<LocationListOffsets> {
+    let expression = one(alloc, operation)?;
+    let list = vec_of(alloc, Location::DefaultLocation { expression })?;
+    let mut table = LocationListTable::new(alloc);
+    table.add(LocationList(list))?;
+    let five = encoding(5, Format::Dwarf32, 4);
+    table.write(sections, five, false, None::<&Places>)
+}
+
 #[test]
 fn an_entry_of_the_unit_wants_places(rt: HostRuntime) -> std::result::Result<(), Fail> {
     let alloc = rt.alloc();
-    let mut table = LocationListTable::new(alloc);
-    table.add(LocationList(call(alloc)?))?;
+    let entry = UnitEntryId::new(0);
     let mut sections = Sections::new(alloc, EndianVec::new(alloc, LITTLE))?;
-    let five = encoding(5, Format::Dwarf32, 4);
-    let refused = table.write(&mut sections, five, false, None::<&Places>);
+    // The length of a base type's operand hangs on its place, and lengths come before bytes.
+    let refused = write_without_places(alloc, Operation::Convert(Some(entry)), &mut sections);
     assert!(rt; matches!(&refused, Err(Error::UnsupportedCfiExpressionReference)));
     assert!(rt; sections.debug_loclists.0.slice().is_empty());
+    let refused = write_without_places(alloc, Operation::Call(entry), &mut sections);
+    assert!(rt; matches!(&refused, Err(Error::UnsupportedCfiExpressionReference)));
     Ok(())
 }
 
