@@ -11,8 +11,6 @@ mod opcode;
 mod program;
 mod row;
 mod sequence;
-#[cfg(test)]
-mod tests;
 
 pub use line_program::LineProgram;
 pub use line_string::{FileInfo, LineString};
