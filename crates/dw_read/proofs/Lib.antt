@@ -17,3 +17,4 @@ pub mod Indexed
 pub mod TableLaws
 pub mod HeaderRead
 pub mod HeaderParts
+pub mod FormValueLaws

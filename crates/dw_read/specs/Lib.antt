@@ -16,3 +16,4 @@ pub mod Index
 pub mod Headers
 pub mod Fields
 pub mod UnitHeaders
+pub mod FormValues

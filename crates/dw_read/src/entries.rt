@@ -125,8 +125,8 @@ impl<'a, R: Reader> EntriesRaw<'a, R> {
         Ok(())
     }
 
-    /// Reads the next row. False tells that it is a null entry, and the entry is as before. After an
-    /// error the entry may have lost its attributes.
+    /// Reads the next row. False tells that it is a null entry, and the entry is as before. After
+    /// an error the entry may have lost its attributes.
     pub fn read_entry(&mut self, entry: &mut DebuggingInformationEntry<R>) -> ReadResult<bool>
         ensures { ReadsRow R.reading self.old self.new entry.old entry.new result }
     {

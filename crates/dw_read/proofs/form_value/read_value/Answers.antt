@@ -1,0 +1,11 @@
+use Rattle.std.proofs.lemmas.Result.{err_from_is_err_and}
+use Rattle.dw_read.proofs.FormValueLaws.{value_err, value_took}
+use Rattle.dw_read.proofs.form_value.read_value.Goals as goal
+
+pub returns-in_err-form-clause-err : goal.returns-in_err-form-clause-err
+returns-in_err-form-clause-err g c =
+    let p = err_from_is_err_and c.from_residual.result c.from_residual.ensures.1 in
+    rw (p.1, p.2) (value_err _ _ _ _ _ c.in_err-form.ensures.err)
+
+pub returns-clause-ok : goal.returns-clause-ok
+returns-clause-ok g c = value_took _ _ _ _ _ _ _ c.raw_value.ensures c.in_ok-form.ensures.ok

@@ -1,0 +1,25 @@
+//! Reads line programs: their headers, the directories and files in these, and the instructions
+//! of the line machine.
+#![tactic(auto)]
+
+mod described;
+mod description;
+mod encoding;
+mod entry_tables;
+mod file_entries;
+mod file_entry;
+mod header;
+mod instruction;
+mod instructions;
+mod parameters;
+mod program;
+mod reading;
+#[cfg(test)]
+mod tests;
+
+pub use file_entries::FileEntryIter;
+pub use file_entry::FileEntry;
+pub use header::LineProgramHeader;
+pub use instruction::LineInstruction;
+pub use instructions::LineInstructions;
+pub use program::IncompleteLineProgram;
