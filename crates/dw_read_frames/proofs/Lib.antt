@@ -1,0 +1,10 @@
+mod Steps
+mod HeadLaws
+mod PointerLaws
+mod AugmentationLaws
+mod CieLaws
+mod EntryLaws
+mod FdeLaws
+mod BlockLaws
+mod TableLaws
+mod InstructionLaws

@@ -1,0 +1,11 @@
+pub mod Heads
+pub mod HeadViews
+pub mod Pointers
+pub mod Augmentations
+pub mod Cies
+pub mod Entries
+pub mod EntryViews
+pub mod Fdes
+pub mod Instructions
+pub mod InstructionViews
+pub mod InstructionIters
