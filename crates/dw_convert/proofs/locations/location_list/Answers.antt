@@ -1,0 +1,89 @@
+use Rattle.std.proofs.Common.{◌≡◌, ◌∙◌, sym, ap, ap₂, ◌||◌, subst, refl, inl, inr, ⊎_elim, Bool, [], ◌∷◌, ◌++◌, Ok, Err}
+use Rattle.std.proofs.lemmas.List.Elements.{filter-append}
+use Rattle.dw_read.specs.Reading.{left}
+use Rattle.dw_read.proofs.Lefts.{left_passed, same_order}
+use Rattle.dw_sources.specs.RawListViews.{location_of}
+use Rattle.dw_sources.specs.RawListIters.{encoding_in, locations_section}
+use Rattle.dw_convert.specs.LocationLists.{ItemOutcome}
+use Rattle.dw_convert.specs.Locations.{is_base_item, kept_locations}
+use Rattle.dw_convert.specs.RangeLists.{has_base}
+use Rattle.dw_convert.proofs.Addresses.{is_err}
+use Rattle.dw_convert.proofs.Growing.{begun_more, based_more}
+use Rattle.dw_convert.proofs.LocationSteps.{passes, closes, read_here, closed_here, from_parts}
+use Rattle.dw_convert.proofs.locations.location_list.Goals as goal
+
+pub items-init : goal.items-init
+items-init g c =
+    let b = c.in_ok-items.ensures.ok in
+    record {
+      images = [];
+      begun = record { items = []; read = left_passed _ _ _ b.input; are = tt };
+      kept = c.new-locations.ensures.items;
+      base = refl;
+      order = same_order _ _ _ b.input;
+      encoding = b.encoding;
+      open_yet = b.not_ended;
+    }
+
+pub returns-in_err-location-clause-err : goal.returns-in_err-location-clause-err
+returns-in_err-location-clause-err g c =
+    let i = c.items.invariant in
+    let reading = g.R.Reader.reading in
+    let answers = goal.F-post g c.args.convert_address.now in
+    let entries = g.C.ConvertDebugInfoRef.entries c.args.refs.now in
+    let infos = g.C.ConvertDebugInfoRef.infos c.args.refs.now in
+    let why = c.in_err-location.field-0.0 in
+    let e : c.from_residual-in_err-location.result ≡ Err why = is_err _ _ c.from_residual-in_err-location.ensures in
+    let p = passes _ _ reading c.items.items c.next.new.self _ c.in-Some.item c.in_ok-item.ensures c.in-Some.is in
+    let x = location_of reading c.in-Some.item in
+    let big = (locations_section reading c.args.unit).is_big in
+    rw e (⊎_elim (λ n. inl n) (λ h. inr (inr (record {
+      rest = left (reading c.items.items.input);
+      images = i.images;
+      begun = i.begun;
+      cause = inr (record {
+        item = x;
+        next = left (reading c.next.new.self.input);
+        read = read_here _ _ reading c.items.items c.next.new.self big (encoding_in c.args.unit) c.in-Some.item i.order i.encoding p;
+        refused = subst (λ (b : Bool). ItemOutcome reading answers entries infos c.args.unit big b x (Err why)) i.base
+            (from_parts _ _ reading answers entries infos c.args.unit c.items.has_base (Err why) (reading c.items.items.input) big c.in-Some.item c.parts_of-parts.result c.parts_of-parts.ensures.is c.parts_of-parts.ensures.order i.order p.part h);
+      });
+    }))) c.in_err-location.ensures.err)
+
+pub items-preserved : goal.items-preserved
+items-preserved g c =
+    let i = c.items.invariant in
+    let reading = g.R.Reader.reading in
+    let answers = goal.F-post g c.args.convert_address.now in
+    let entries = g.C.ConvertDebugInfoRef.entries c.args.refs.now in
+    let infos = g.C.ConvertDebugInfoRef.infos c.args.refs.now in
+    let p = passes _ _ reading c.items.items c.next.new.self _ c.in-Some.item c.in_ok-item.ensures c.in-Some.is in
+    let x = location_of reading c.in-Some.item in
+    let base = has_base c.args.unit in
+    let big = (locations_section reading c.args.unit).is_big in
+    let l = c.in_ok-location.location in
+    let o = from_parts _ _ reading answers entries infos c.args.unit c.items.has_base (Ok l) (reading c.items.items.input) big c.in-Some.item c.parts_of-parts.result c.parts_of-parts.ensures.is c.parts_of-parts.ensures.order i.order p.part c.in_ok-location.ensures.ok in
+    record {
+      images = i.images ++ l ∷ [];
+      begun = begun_more _ _ _ _ _ _ _ _ _ _ i.begun (read_here _ _ reading c.items.items c.next.new.self big (encoding_in c.args.unit) c.in-Some.item i.order i.encoding p) (subst (λ (b : Bool). ItemOutcome reading answers entries infos c.args.unit big b x (Ok l)) i.base o);
+      kept = c.in_ok-keep.ensures.ok ∙ ap (λ ls. ls ++ kept_locations (l ∷ [])) i.kept ∙ sym (filter-append _ i.images (l ∷ []));
+      base = ap₂ (λ (a b : Bool). a || b) i.base (c.is_base-is_base.ensures ∙ ap is_base_item c.parts_of-parts.ensures.is) ∙ sym (based_more is_base_item base i.begun.items x);
+      order = same_order _ _ _ p.item.passes ∙ i.order;
+      encoding = p.encoding ∙ i.encoding;
+      open_yet = p.went_on.1;
+    }
+
+pub returns-clause-ok : goal.returns-clause-ok
+returns-clause-ok g c =
+    let i = c.items.invariant in
+    let reading = g.R.Reader.reading in
+    record {
+      images = i.images;
+      converted = record {
+        rest = left (reading c.items.items.input);
+        begun = i.begun;
+        behind = left (reading c.next.new.self.input);
+        close = closed_here _ _ reading _ _ _ _ i.order i.encoding i.open_yet (closes _ _ reading _ _ _ c.in_ok-item.ensures c.in_default.is);
+      };
+      is = i.kept;
+    }

@@ -1,0 +1,14 @@
+pub mod Outcomes
+pub mod Lookups
+pub mod Ranges
+pub mod Lists
+pub mod RangeLists
+pub mod References
+pub mod Steps
+pub mod Branches
+pub mod Operations
+pub mod Expressions
+pub mod Listings
+pub mod Locations
+pub mod LocationLists
+pub mod LocationViews

@@ -1,0 +1,266 @@
+//! Expressions, with the expressions within them (DWARF 5, 2.5).
+
+ghost use Rattle.std.specs.Prelude.{◌≡◌, ◌⊎◌, IfOk, IfErr};
+ghost use Rattle.std.specs.List.Sorted.{IsNonDecreasing};
+ghost use Rattle.dw_expr.specs.Trees.{plain};
+ghost use Rattle.dw_expr.specs.Views.{node_of};
+ghost use Rattle.dw_read.specs.Reading.{left};
+ghost use Rattle.dw_sources.specs.declared.convert_error.ConvertError.TheVariants.{NoMemory};
+ghost use Rattle.dw_convert.specs.Expressions.{OutcomeWithin, ExpressionOutcome};
+ghost use Rattle.dw_convert.specs.Listings.{StepOutcome};
+ghost use Rattle.dw_convert.specs.Lookups.{addresses_in};
+ghost use Rattle.dw_convert.specs.Operations.{same_code, deref};
+
+use crate::address::{address_in, converted, indexed_in};
+use crate::listing::{Listing, Step, read_listing, target};
+use crate::references::{ConvertDebugInfoRef, convert_base};
+use dw_base::constants::{DW_OP_GNU_push_tls_address, DW_OP_form_tls_address};
+use dw_base::{Address, DwOp, Encoding};
+use dw_expr::{Expression, Operation};
+use dw_read::{Expression as ReadExpression, Reader};
+use dw_read_units::UnitRef;
+use dw_sources::{ConvertError, ConvertResult, Operation as ReadOperation};
+use dw_writer::Bytes;
+use std::alloc::Global;
+
+/// How many expressions may stand within each other, the outermost counted. What is built takes the
+/// machine's stack for each of them when it is written or dropped, so no deeper one is built.
+const MAX_DEPTH: usize = 64;
+
+/// Converts an expression: each operation becomes the one of the same meaning. Addresses become
+/// what `convert_address` answers for them, entries what `refs` knows of their places, and a branch
+/// leads to an operation by its index.
+///
+/// Refused are an address without an answer (`InvalidAddress`), an index without a unit
+/// (`UnsupportedOperation`), a branch that leads neither to the begin of an operation nor to the
+/// end (`InvalidBranchTarget`), and what `refs` doesn't know. More than 64 expressions within each
+/// other are `NoMemory`.
+///
+/// ```
+/// let address = |address| Some(Address::Constant(address));
+/// let converted = expression(alloc, read, encoding, Some(unit), &address, &refs)?;
+/// ```
+pub fn expression<R: Reader, C: ConvertDebugInfoRef, F: Fn(u64) -> Option<Address>>(
+    alloc: Global,
+    expression: ReadExpression<R>,
+    encoding: Encoding,
+    unit: Option<UnitRef<'_, R>>,
+    convert_address: &F,
+    refs: &C,
+) -> ConvertResult<Expression>
+    requires { F.IsAlwaysCallable convert_address.now }
+    ensures ok { IfOk result (λ x. ExpressionOutcome (F.post convert_address.now)
+        (addresses_in R.reading unit.entry) (C.entries refs.now) (C.infos refs.now)
+        (R.reading expression.0).is_big encoding (left (R.reading expression.0)) (Ok x)) }
+    ensures err { IfErr result (λ e. (e ≡ NoMemory) ⊎ ExpressionOutcome
+        (F.post convert_address.now) (addresses_in R.reading unit.entry) (C.entries refs.now)
+        (C.infos refs.now) (R.reading expression.0).is_big encoding
+        (left (R.reading expression.0)) (Err e)) }
+{
+    convert_within(
+        alloc,
+        expression,
+        encoding,
+        unit,
+        convert_address,
+        refs,
+        MAX_DEPTH,
+    )
+}
+
+/// Converts an expression in which it and others stand at most so deep.
+#[cycle(nested)]
+fn convert_within<R: Reader, C: ConvertDebugInfoRef, F: Fn(u64) -> Option<Address>>(
+    alloc: Global,
+    expression: ReadExpression<R>,
+    encoding: Encoding,
+    unit: Option<UnitRef<'_, R>>,
+    convert_address: &F,
+    refs: &C,
+    depth: usize,
+) -> ConvertResult<Expression>
+    requires { F.IsAlwaysCallable convert_address.now }
+    ensures ok { IfOk result (λ x. OutcomeWithin (F.post convert_address.now)
+        (addresses_in R.reading unit.entry) (C.entries refs.now) (C.infos refs.now)
+        (R.reading expression.0).is_big encoding depth (left (R.reading expression.0)) (Ok x)) }
+    ensures err { IfErr result (λ e. (e ≡ NoMemory) ⊎ OutcomeWithin
+        (F.post convert_address.now) (addresses_in R.reading unit.entry) (C.entries refs.now)
+        (C.infos refs.now) (R.reading expression.0).is_big encoding depth
+        (left (R.reading expression.0)) (Err e)) }
+{
+    if depth == 0 {
+        return Err(ConvertError::NoMemory);
+    }
+    let listing = read_listing(alloc, expression, encoding)?;
+    let mut operations = Vec::with_capacity(alloc, listing.steps.len())?;
+    'steps: for step in &listing.steps {
+        let operation = convert_operation(
+            alloc,
+            step,
+            &listing,
+            unit,
+            convert_address,
+            refs,
+            depth - 1,
+        )?;
+        operations.push(operation)?;
+    }
+    Ok(Expression::from_operations(alloc, operations))
+}
+
+/// Converts an operation, by the table of the operations that were read. It is one match, since
+/// each of them has a row there.
+#[cycle(nested)]
+fn convert_operation<R: Reader, C: ConvertDebugInfoRef, F: Fn(u64) -> Option<Address>>(
+    alloc: Global,
+    step: &Step<R>,
+    listing: &Listing<R>,
+    unit: Option<UnitRef<'_, R>>,
+    convert_address: &F,
+    refs: &C,
+    depth: usize,
+) -> ConvertResult<Operation>
+    requires callable { F.IsAlwaysCallable convert_address.now }
+    requires rising { IsNonDecreasing listing.now.begins.items }
+    ensures ok { IfOk result (λ o. StepOutcome R.reading (F.post convert_address.now)
+        (addresses_in R.reading unit.entry) (C.entries refs.now) (C.infos refs.now) depth
+        listing.now step.now (Ok (node_of o))) }
+    ensures err { IfErr result (λ e. (e ≡ NoMemory) ⊎ StepOutcome R.reading
+        (F.post convert_address.now) (addresses_in R.reading unit.entry) (C.entries refs.now)
+        (C.infos refs.now) depth listing.now step.now (Err e)) }
+{
+    match &step.operation {
+        ReadOperation::Simple(code) => Ok(Operation::Simple(same_code(*code))),
+        ReadOperation::Address(address) => {
+            let address = converted(*address, convert_address)?;
+            Ok(Operation::Address(address))
+        }
+        ReadOperation::AddressIndex(index) => {
+            let address = indexed_in(unit, *index, convert_address)?;
+            Ok(Operation::Address(address))
+        }
+        ReadOperation::ConstantIndex(index) => {
+            let value = address_in(unit, *index)?;
+            Ok(Operation::UnsignedConstant(value))
+        }
+        ReadOperation::UnsignedConstant(value) => Ok(Operation::UnsignedConstant(*value)),
+        ReadOperation::SignedConstant(value) => Ok(Operation::SignedConstant(*value)),
+        ReadOperation::ConstantType(base, value) => {
+            let base = refs.convert_unit_ref(*base)?;
+            let value = copied(alloc, value)?;
+            Ok(Operation::ConstantType(base, value))
+        }
+        ReadOperation::FrameOffset(offset) => Ok(Operation::FrameOffset(*offset)),
+        ReadOperation::RegisterOffset(register, offset) => {
+            Ok(Operation::RegisterOffset(*register, *offset))
+        }
+        ReadOperation::RegisterType(register, base) => {
+            let base = refs.convert_unit_ref(*base)?;
+            Ok(Operation::RegisterType(*register, base))
+        }
+        ReadOperation::Pick(index) => Ok(Operation::Pick(*index)),
+        ReadOperation::Deref { space } => Ok(Operation::Deref { space: *space }),
+        ReadOperation::DerefSize { space, size } => Ok(deref(*space, *size, listing.encoding)),
+        ReadOperation::DerefType { space, size, base } => {
+            let base = refs.convert_unit_ref(*base)?;
+            Ok(Operation::DerefType {
+                space: *space,
+                size: *size,
+                base,
+            })
+        }
+        ReadOperation::PlusConstant(value) => Ok(Operation::PlusConstant(*value)),
+        ReadOperation::Skip(distance) => {
+            let target = target(&listing.begins, step.behind, *distance)?;
+            Ok(Operation::Skip(Some(target)))
+        }
+        ReadOperation::Branch(distance) => {
+            let target = target(&listing.begins, step.behind, *distance)?;
+            Ok(Operation::Branch(Some(target)))
+        }
+        ReadOperation::Call(entry) => {
+            let entry = refs.convert_unit_ref(*entry)?;
+            Ok(Operation::Call(entry))
+        }
+        ReadOperation::CallRef(entry) => {
+            let entry = refs.convert_debug_info_ref(*entry)?;
+            Ok(Operation::CallRef(entry))
+        }
+        ReadOperation::VariableValue(entry) => {
+            let entry = refs.convert_debug_info_ref(*entry)?;
+            Ok(Operation::VariableValue(entry))
+        }
+        ReadOperation::Convert(base) => {
+            let base = convert_base(*base, refs)?;
+            Ok(Operation::Convert(base))
+        }
+        ReadOperation::Reinterpret(base) => {
+            let base = convert_base(*base, refs)?;
+            Ok(Operation::Reinterpret(base))
+        }
+        ReadOperation::EntryValue(expression) => {
+            let inner = ReadExpression(expression.0.duplicate());
+            let encoding = listing.encoding;
+            let inner = convert_within(alloc, inner, encoding, unit, convert_address, refs, depth)?;
+            Ok(Operation::EntryValue(inner))
+        }
+        ReadOperation::Register(register) => Ok(Operation::Register(*register)),
+        ReadOperation::ImplicitValue(bytes) => {
+            let bytes = copied(alloc, bytes)?;
+            Ok(Operation::ImplicitValue(bytes))
+        }
+        ReadOperation::ImplicitPointer { entry, byte_offset } => {
+            let entry = refs.convert_debug_info_ref(*entry)?;
+            Ok(Operation::ImplicitPointer {
+                entry,
+                byte_offset: *byte_offset,
+            })
+        }
+        ReadOperation::Piece { size_in_bytes } => Ok(Operation::Piece {
+            size_in_bytes: *size_in_bytes,
+        }),
+        ReadOperation::BitPiece {
+            size_in_bits,
+            bit_offset,
+        } => Ok(Operation::BitPiece {
+            size_in_bits: *size_in_bits,
+            bit_offset: *bit_offset,
+        }),
+        ReadOperation::ParameterRef(entry) => {
+            let entry = refs.convert_unit_ref(*entry)?;
+            Ok(Operation::ParameterRef(entry))
+        }
+        ReadOperation::WasmLocal(index) => Ok(Operation::WasmLocal(*index)),
+        ReadOperation::WasmGlobal(index) => Ok(Operation::WasmGlobal(*index)),
+        ReadOperation::WasmStack(index) => Ok(Operation::WasmStack(*index)),
+    }
+}
+
+/// The code of the standard where a GNU extension means the same.
+fn same_code(code: DwOp) -> DwOp
+    ensures { result ≡ same_code code.0 }
+{
+    match code {
+        DW_OP_GNU_push_tls_address => DW_OP_form_tls_address,
+        _ => code,
+    }
+}
+
+/// Reads so many bytes at an address, or a word where an address has as many.
+fn deref(space: bool, size: u8, encoding: Encoding) -> Operation
+    ensures { node_of result ≡ plain (deref encoding space size) }
+{
+    if size == encoding.address_size {
+        Operation::Deref { space }
+    } else {
+        Operation::DerefSize { space, size }
+    }
+}
+
+/// A copy of the bytes that a reader has left.
+fn copied<R: Reader>(alloc: Global, bytes: &R) -> ConvertResult<Bytes>
+    ensures ok { IfOk result (λ copy. copy ≡ left (R.reading bytes.now)) }
+    ensures err { IfErr result (λ e. e ≡ NoMemory) }
+{
+    Bytes::new(alloc, bytes.to_slice()).map_err(|_| ConvertError::NoMemory)
+}
