@@ -5,7 +5,7 @@ use Rattle.std.proofs.lemmas.Bool.Decides.{nat_tests}
 use Rattle.std.proofs.lemmas.List.Elements.{All-nil, All-cons}
 use Rattle.std.proofs.lemmas.Option.{same_Some}
 use Rattle.dw_base.specs.Numbers.{◌>>=◌, when, is_width, fits, word_of}
-use Rattle.dw_base.specs.Leb128.{uleb}
+use Rattle.dw_base.specs.Leb128.{uleb, uleb_groups}
 use Rattle.dw_base.specs.Forms.{Operand, Absent, Number, Signed, Bytes, Text, Kind, Empty, Fixed, Uleb, Sleb, UlebBlock, Zeroed, kind_of, info_place_of}
 use Rattle.dw_base.specs.Spelling.{kind_bytes}
 use Rattle.dw_base.specs.Spellable.{IsText, KindFits}
@@ -13,8 +13,11 @@ use Rattle.dw_base.specs.declared.common.Encoding.{Encoding}
 use Rattle.dw_base.specs.declared.common.Format.{Format}
 use Rattle.dw_base.specs.declared.common.Format.TheVariants.{Dwarf32, Dwarf64}
 use Rattle.dw_base.proofs.NumberLaws.{bind_parts, when_same, length-num}
-use Rattle.dw_entries.specs.Content.{Content, Nothing, Plain, Wide, Leb, SignedLeb, Block, Closed, Target, Offset, InTable, EntryPlace, InfoPlace, info_in, number_in, has_zero, address_in, content_operand, content_kind, content_size, IsContentRanged}
+use Rattle.dw_entries.specs.Content.{Content, Nothing, Plain, Wide, Leb, SignedLeb, Block, Expression, Closed, Target, Offset, InTable, OwnPart, File, EntryPlace, InfoPlace, info_in, number_in, bytes_in, counted, has_zero, address_in, content_operand, content_kind, content_size, IsContentRanged}
 use Rattle.dw_writer.specs.Layout.{start_of}
+use Rattle.dw_expr.specs.Trees.{Node}
+use Rattle.dw_expr.specs.Spelling.{expression_draft}
+use Rattle.dw_expr.proofs.ExpressionDrafts.{expression-wide}
 use Rattle.dw_entries.specs.Targets.{Targets}
 use Rattle.dw_entries.specs.Values.{reference_form, supplementary_form, word_form, form_of, content_of}
 use Rattle.dw_entries.specs.declared.value.AttributeValue.{AttributeValue}
@@ -52,6 +55,11 @@ unfolding kind_of
 kind_of-constant e z true = refl
 kind_of-constant e z false = refl
 
+kind_of-expression : (e : Encoding) (b : Bool) → kind_of e (if b then 0x18 else 0x09) ≡ Some UlebBlock
+unfolding kind_of
+kind_of-expression e true = refl
+kind_of-expression e false = refl
+
 -- a line for each variant
 pub kind_of-form : (e : Encoding) (v : AttributeValue) → kind_of e (form_of e v) ≡ Some (content_kind e (content_of e v))
 unfolding kind_of
@@ -65,6 +73,7 @@ kind_of-form e (values.Data16 n) = refl
 kind_of-form e (values.Sdata z) = refl
 kind_of-form e (values.Udata n) = refl
 kind_of-form e (values.ImplicitConst z) = kind_of-constant e z (e.version == 5)
+kind_of-form e (values.Exprloc x) = kind_of-expression e (nat_le 4 e.version)
 kind_of-form e (values.Flag b) = refl
 kind_of-form e values.FlagPresent = kind_of-present e (nat_le 4 e.version)
 kind_of-form e (values.UnitRef i) = kind_of-reference e e.format
@@ -76,6 +85,8 @@ kind_of-form e (values.DebugTypesRef n) = refl
 kind_of-form e (values.DebugStrRefSup n) = refl
 kind_of-form e (values.StringRef i) = refl
 kind_of-form e (values.LineStringRef i) = refl
+kind_of-form e values.LineProgramRef = kind_of-offset e (nat_le 4 e.version)
+kind_of-form e (values.FileIndex file) = refl
 kind_of-form e (values.String s) = refl
 kind_of-form e (values.Encoding n) = refl
 kind_of-form e (values.DecimalSign n) = refl
@@ -123,20 +134,37 @@ text-fits s false o h f = absurd (let k : ◌≡◌ {A = Option Operand} None (S
 wide-fits : (n : ℕ) → n < 2 ^ 128 → IsTrue (fits 16 n)
 wide-fits n h = grind (arith, nat_tests)
 
+-- a number of 64 bits
+file-fits : (n : ℕ) (b : Bool) (o : Operand) → when b (Some (Number n)) ≡ Some o → (IsTrue b → n < 2 ^ 64) → KindFits Uleb o
+file-fits n true o h f = subst (KindFits Uleb) (same_Some (Number n) o h) (f refl)
+file-fits n false o h f = absurd (let k : ◌≡◌ {A = Option Operand} None (Some o) = h in cc)
+
+fits_64 : (n : ℕ) → IsTrue (fits 8 n) → n < 2 ^ 64
+fits_64 n h = grind (arith, nat_tests, h)
+
+-- bytes whose number fits 64 bits
+block-fits : (xs : List ℕ) (o : Operand) (b : Bool) → when b (Some (Bytes xs)) ≡ Some o → (IsTrue b → length xs < 2 ^ 64) → KindFits UlebBlock o
+block-fits xs o true h f = subst (KindFits UlebBlock) (same_Some (Bytes xs) o h) (f refl)
+block-fits xs o false h f = absurd (let k : ◌≡◌ {A = Option Operand} None (Some o) = h in cc)
+
 -- the operand is one of its kind
-pub content_fits : (e : Encoding) (t : Targets) (c : Content) (o : Operand) → IsContentRanged c → content_operand e t c ≡ Some o → KindFits (content_kind e c) o
-content_fits e t Nothing o r h = subst (KindFits Empty) (same_Some Absent o h) tt
-content_fits e t (Plain w n) o r h = number_in-fits w n o h
-content_fits e t (Wide n) o r h = subst (KindFits (Fixed 16)) (same_Some (Number n) o h) (wide-fits n r)
-content_fits e t (Leb n) o r h = subst (KindFits Uleb) (same_Some (Number n) o h) r
-content_fits e t (SignedLeb z) o r h = subst (KindFits Sleb) (same_Some (Signed z) o h) r
-content_fits e t (Block xs) o r h = subst (KindFits UlebBlock) (same_Some (Bytes xs) o h) r
-content_fits e t (Closed s) o r h = text-fits s (not (has_zero s)) o h (no_zero s)
-content_fits e t (Target a) o r h = bound-fits e.address_size (address_in t a) o h
-content_fits e t (Offset section n) o r h = number_in-fits (word_of e.format) _ o h
-content_fits e t (InTable section i) o r h = table-fits (word_of e.format) (t.tables section i) (start_of t.layout section) o h
-content_fits e t (EntryPlace i) o r h = bound-fits (word_of e.format) (t.place i) o h
-content_fits e t (InfoPlace x) o r h = bound-fits (info_place_of e) (info_in t.info x) o h
+pub content_fits : (big : Bool) (e : Encoding) (t : Targets) (c : Content) (o : Operand) → IsContentRanged c → content_operand big e t c ≡ Some o → KindFits (content_kind e c) o
+content_fits big e t Nothing o r h = subst (KindFits Empty) (same_Some Absent o h) tt
+content_fits big e t (Plain w n) o r h = number_in-fits w n o h
+content_fits big e t (Wide n) o r h = subst (KindFits (Fixed 16)) (same_Some (Number n) o h) (wide-fits n r)
+content_fits big e t (Leb n) o r h = subst (KindFits Uleb) (same_Some (Number n) o h) r
+content_fits big e t (SignedLeb z) o r h = subst (KindFits Sleb) (same_Some (Signed z) o h) r
+content_fits big e t (Block xs) o r h = subst (KindFits UlebBlock) (same_Some (Bytes xs) o h) r
+content_fits big e t (Expression ns) o r h =
+    let m = bind_parts ((expression_draft e t.place ns).text t.info big t.layout) bytes_in o h in block-fits m.0 o (fits 8 (length m.0)) m.2 (fits_64 (length m.0))
+content_fits big e t (Closed s) o r h = text-fits s (not (has_zero s)) o h (no_zero s)
+content_fits big e t (Target a) o r h = bound-fits e.address_size (address_in t a) o h
+content_fits big e t (Offset section n) o r h = number_in-fits (word_of e.format) _ o h
+content_fits big e t (InTable section i) o r h = table-fits (word_of e.format) (t.tables.part section i) (start_of t.layout section) o h
+content_fits big e t (OwnPart section) o r h = table-fits (word_of e.format) (t.tables.own section) (start_of t.layout section) o h
+content_fits big e t (File n) o r h = file-fits n (fits 8 n) o h (fits_64 n)
+content_fits big e t (EntryPlace i) o r h = bound-fits (word_of e.format) (t.place i) o h
+content_fits big e t (InfoPlace x) o r h = bound-fits (info_place_of e) (info_in t.info x) o h
 
 -- What bytes they have
 
@@ -158,18 +186,30 @@ text-long big s b o h = ap (λ x. length (kind_bytes big Zeroed x)) (sym (same_S
 told : (big : Bool) (k : Kind) (p o : Operand) → Some p ≡ Some o → length (kind_bytes big k o) ≡ length (kind_bytes big k p)
 told big k p o h = ap (λ x. length (kind_bytes big k x)) (sym (same_Some p o h))
 
+-- the number past those of 64 bits
+pub long-past : 10 ≡ length (uleb (2 ^ 64))
+unfolding uleb uleb_groups
+long-past = refl
+
 -- the operand has as many bytes as its size says
-pub content_long : (big : Bool) (e : Encoding) (t : Targets) (c : Content) (o : Operand) → content_operand e t c ≡ Some o → length (kind_bytes big (content_kind e c) o) ≡ content_size e c
+pub content_long : (big : Bool) (e : Encoding) (t : Targets) (c : Content) (o : Operand) → content_operand big e t c ≡ Some o → length (kind_bytes big (content_kind e c) o) ≡ content_size e t.place c
 content_long big e t Nothing o h = told big Empty Absent o h
 content_long big e t (Plain w n) o h = number_in-long big w n o h
 content_long big e t (Wide n) o h = told big (Fixed 16) (Number n) o h ∙ length-num big 16 n
 content_long big e t (Leb n) o h = told big Uleb (Number n) o h
 content_long big e t (SignedLeb z) o h = told big Sleb (Signed z) o h
 content_long big e t (Block xs) o h = told big UlebBlock (Bytes xs) o h ∙ length-append (uleb (length xs)) xs
+content_long big e t (Expression ns) o h =
+    let m = bind_parts ((expression_draft e t.place ns).text t.info big t.layout) bytes_in o h in
+    told big UlebBlock (Bytes m.0) o (when_same (fits 8 (length m.0)) (Some (Bytes m.0)) o m.2)
+    ∙ length-append (uleb (length m.0)) m.0
+    ∙ ap counted (expression-wide e t.place ns t.info big t.layout m.0 m.1)
 content_long big e t (Closed s) o h = text-long big s (not (has_zero s)) o h
 content_long big e t (Target a) o h = bound-long big e.address_size (address_in t a) o h
 content_long big e t (Offset section n) o h = number_in-long big (word_of e.format) _ o h
-content_long big e t (InTable section i) o h = table-long big (word_of e.format) (t.tables section i) (start_of t.layout section) o h
+content_long big e t (InTable section i) o h = table-long big (word_of e.format) (t.tables.part section i) (start_of t.layout section) o h
+content_long big e t (OwnPart section) o h = table-long big (word_of e.format) (t.tables.own section) (start_of t.layout section) o h
+content_long big e t (File n) o h = told big Uleb (Number n) o (when_same (fits 8 n) (Some (Number n)) o h)
 content_long big e t (EntryPlace i) o h = bound-long big (word_of e.format) (t.place i) o h
 content_long big e t (InfoPlace x) o h = bound-long big (info_place_of e) (info_in t.info x) o h
 

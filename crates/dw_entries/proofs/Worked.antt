@@ -1,13 +1,14 @@
--- Worked rows: codes as the standard's tables have them, a small tree, and its base types moved.
-use Rattle.std.proofs.Common.{◌≡◌, List, [], ◌∷◌, refl}
+-- Worked rows: codes as the standard's tables have them, numbers of files, and a small tree that is settled.
+use Rattle.std.proofs.Common.{◌≡◌, List, [], ◌∷◌, Some, None, true, false, refl}
 use Rattle.dw_base.specs.Entries.{Open, Null}
 use Rattle.dw_base.specs.declared.common.Encoding.{Encoding}
 use Rattle.dw_base.specs.declared.common.Format.TheVariants.{Dwarf32, Dwarf64}
 use Rattle.dw_entries.specs.declared.value.AttributeValue.TheVariants as values
+use Rattle.dw_entries.specs.Attributes.{named}
 use Rattle.dw_entries.specs.Entries.{EntryValue, new_root, with_added}
-use Rattle.dw_entries.specs.Settled.{settled_entries}
+use Rattle.dw_entries.specs.Settled.{settled_attributes, settled_entries}
 use Rattle.dw_entries.specs.Tree.{tree_from, preorder}
-use Rattle.dw_entries.specs.Values.{form_of, reference_form}
+use Rattle.dw_entries.specs.Values.{form_of, reference_form, file_number}
 
 -- DWARF 5, table 7.3
 root-tag : new_root.tag ≡ 0x11
@@ -30,6 +31,33 @@ module _ (e : Encoding) where
   string-form : form_of e (values.String []) ≡ 0x08
   string-form = refl
 
+  file-form : form_of e (values.FileIndex None) ≡ 0x0f
+  file-form = refl
+
+-- DWARF 5, 7.5.4: sec_offset came in version 4
+line_program-form : form_of (record { address_size = 8; format = Dwarf32; version = 4 }) values.LineProgramRef ≡ 0x17
+line_program-form = refl
+
+old_line_program-form : form_of (record { address_size = 8; format = Dwarf32; version = 3 }) values.LineProgramRef ≡ 0x06
+old_line_program-form = refl
+
+-- DWARF 5, 6.2.4: the first file is 0 in version 5, and 1 below
+first-file : file_number (record { address_size = 8; format = Dwarf32; version = 5 }) (Some (record { 0 = 0 })) ≡ 0
+first-file = refl
+
+old_first-file : file_number (record { address_size = 8; format = Dwarf32; version = 4 }) (Some (record { 0 = 0 })) ≡ 1
+old_first-file = refl
+
+-- DW_AT_stmt_list (0x10) is replaced in its position, or comes last, or goes
+replaced : settled_attributes true (named 0x10 (values.Data4 7) ∷ named 0x03 (values.Udata 1) ∷ []) ≡ named 0x10 values.LineProgramRef ∷ named 0x03 (values.Udata 1) ∷ []
+replaced = refl
+
+appended : settled_attributes true (named 0x03 (values.Udata 1) ∷ []) ≡ named 0x03 (values.Udata 1) ∷ named 0x10 values.LineProgramRef ∷ []
+appended = refl
+
+left_out : settled_attributes false (named 0x10 (values.Data4 7) ∷ named 0x03 (values.Udata 1) ∷ []) ≡ named 0x03 (values.Udata 1) ∷ []
+left_out = refl
+
 -- a variable below the root, a base type behind it, and one below the variable
 small : List EntryValue
 small = with_added 4 3 1 0x24 (with_added 3 2 0 0x24 (with_added 2 1 0 0x34 (new_root ∷ [])))
@@ -39,6 +67,6 @@ unfolding small preorder tree_from
 small-preorder = refl
 
 -- only the root's own base types move
-small-settled : preorder (settled_entries small) ≡ Open 0 ∷ Open 2 ∷ Open 1 ∷ Open 3 ∷ Null ∷ Null ∷ []
+small-settled : preorder (settled_entries false small) ≡ Open 0 ∷ Open 2 ∷ Open 1 ∷ Open 3 ∷ Null ∷ Null ∷ []
 unfolding small preorder tree_from
 small-settled = refl

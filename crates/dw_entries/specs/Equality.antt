@@ -1,18 +1,26 @@
 -- Equality of values, by their keys, and of attributes.
-use Rattle.std.specs.Prelude.{◌≡◌, ◌==◌, Bool, true, false, ◌&&◌, refl}
+use Rattle.std.specs.Prelude.{◌≡◌, ◌==◌, Bool, true, false, ◌&&◌, List, Option, Some, None, refl}
 use Rattle.std.proofs.Common.{sym, ◌∙◌, ap}
 use Rattle.std.specs.Bool.{Decides}
 use Rattle.std.specs.Cmp.{IsEquivalence, decided, unsigned_Decides, signed_Decides}
 use Rattle.std.specs.Cmp.Lexicographic.{pointwise_decides}
 use Rattle.std.specs.Ordering.{int_eq}
+use Rattle.std.specs.Option.{option_eq, option_copied}
+use Rattle.std.specs.Borrow.{Bor}
+use Rattle.dw_expr.specs.Trees.{Node}
+use Rattle.dw_expr.specs.Equality.{nodes_eq, nodes_decides}
 use Rattle.dw_entries.specs.Keys.{Key, key_eq, value_key, value_by, value_by-key}
 use Rattle.dw_entries.specs.declared.key.Key.{Key as Fields}
 use Rattle.dw_entries.specs.declared.value.AttributeValue.{AttributeValue}
 use Rattle.dw_entries.specs.declared.attribute.Attribute.{Attribute}
 
+-- an expression that is lent, if there is one
+abbrev pub expression_in : Option (Bor (List Node)) → Option (List Node)
+expression_in x = option_copied x
+
 -- the key that fields are
 abbrev pub key_in : Fields → Key
-key_in k = record { kind = k.kind; number = k.number; unit = k.unit; signed = k.signed; bytes = k.bytes.now }
+key_in k = record { kind = k.kind; number = k.number; unit = k.unit; signed = k.signed; bytes = k.bytes.now; expression = expression_in k.expression }
 
 abbrev pub value_eq : AttributeValue → AttributeValue → Bool
 value_eq v w = key_eq (value_key v) (value_key w)
@@ -29,14 +37,21 @@ both false b p q = (λ e. absurd (let k : false ≡ true = e in cc), λ h. p.1 h
 same_test : {A B : Type 0} (a : Bool) → (A → B) → (B → A) → Decides a A → Decides a B
 same_test a f g d = (λ e. f (d.0 e), λ h. d.1 (g h))
 
+option_decides : {A : Type 0} (eq : A → A → Bool) → ((a b : A) → Decides (eq a b) (a ≡ b)) → (p q : Option A) → Decides (option_eq eq p q) (p ≡ q)
+option_decides eq d None None = (λ e. refl, λ e. refl)
+option_decides eq d None (Some b) = (λ e. cc, λ e. cc)
+option_decides eq d (Some a) None = (λ e. cc, λ e. cc)
+option_decides eq d (Some a) (Some b) = same_test (eq a b) (λ e. ap Some e) (λ e. cc) (d a b)
+
 abbrev AreParts : Key → Key → Type 0
-AreParts j k = (j.kind ≡ k.kind) × ((j.number ≡ k.number) × ((j.unit ≡ k.unit) × ((j.signed ≡ k.signed) × (j.bytes ≡ k.bytes))))
+AreParts j k =
+    (j.kind ≡ k.kind) × ((j.number ≡ k.number) × ((j.unit ≡ k.unit) × ((j.signed ≡ k.signed) × ((j.expression ≡ k.expression) × (j.bytes ≡ k.bytes)))))
 
 key_is : (j k : Key) → AreParts j k → j ≡ k
-key_is j k h = λ i. record { kind = h.0 i; number = h.1.0 i; unit = h.1.1.0 i; signed = h.1.1.1.0 i; bytes = h.1.1.1.1 i }
+key_is j k h = λ i. record { kind = h.0 i; number = h.1.0 i; unit = h.1.1.0 i; signed = h.1.1.1.0 i; bytes = h.1.1.1.1.1 i; expression = h.1.1.1.1.0 i }
 
 key_parts : (j k : Key) → j ≡ k → AreParts j k
-key_parts j k h = (ap (λ x. x.kind) h, (ap (λ x. x.number) h, (ap (λ x. x.unit) h, (ap (λ x. x.signed) h, ap (λ x. x.bytes) h))))
+key_parts j k h = (ap (λ x. x.kind) h, (ap (λ x. x.number) h, (ap (λ x. x.unit) h, (ap (λ x. x.signed) h, (ap (λ x. x.expression) h, ap (λ x. x.bytes) h)))))
 
 pub key_decides : (j k : Key) → Decides (key_eq j k) (j ≡ k)
 key_decides j k =
@@ -44,7 +59,9 @@ key_decides j k =
     (both (j.kind == k.kind) _ (unsigned_Decides j.kind k.kind)
     (both (j.number == k.number) _ (unsigned_Decides j.number k.number)
     (both (j.unit == k.unit) _ (unsigned_Decides j.unit k.unit)
-    (both (int_eq j.signed k.signed) _ (signed_Decides j.signed k.signed) (pointwise_decides unsigned_Decides j.bytes k.bytes)))))
+    (both (int_eq j.signed k.signed) _ (signed_Decides j.signed k.signed)
+    (both (option_eq nodes_eq j.expression k.expression) _ (option_decides nodes_eq nodes_decides j.expression k.expression)
+    (pointwise_decides unsigned_Decides j.bytes k.bytes))))))
 
 pub value_decides : (v w : AttributeValue) → Decides (value_eq v w) (v ≡ w)
 value_decides v w =

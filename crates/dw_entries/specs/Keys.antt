@@ -1,11 +1,15 @@
--- Keys: a value as five fields, by which values are told apart.
-use Rattle.std.specs.Prelude.{◌≡◌, ℕ, zero, suc, ◌==◌, Bool, true, false, ◌&&◌, List, [], nat_eq, ℤ, pos, refl, if◌then◌else◌}
+-- Keys: a value as six fields, by which values are told apart.
+use Rattle.std.specs.Prelude.{◌≡◌, ℕ, zero, suc, ◌==◌, Bool, true, false, ◌&&◌, Option, Some, None, List, [], nat_eq, ℤ, pos, refl, if◌then◌else◌}
 use Rattle.std.specs.Ordering.{int_eq}
 use Rattle.std.specs.Cmp.Lexicographic.{pointwise}
+use Rattle.std.specs.Option.{option_eq, unwrap_or}
 use Rattle.dw_base.specs.declared.address.Address.{Address}
 use Rattle.dw_base.specs.declared.address.Address.TheVariants as addresses
 use Rattle.dw_base.specs.declared.address.DebugInfoRef.{DebugInfoRef as InfoRef}
 use Rattle.dw_base.specs.declared.address.DebugInfoRef.TheVariants as refs
+use Rattle.dw_base.specs.declared.ids.FileId.{FileId}
+use Rattle.dw_expr.specs.Trees.{Node}
+use Rattle.dw_expr.specs.Equality.{nodes_eq}
 use Rattle.dw_entries.specs.Values.{flag_byte}
 use Rattle.dw_entries.specs.declared.value.AttributeValue.{AttributeValue}
 use Rattle.dw_entries.specs.declared.value.AttributeValue.TheVariants as values
@@ -16,10 +20,11 @@ pub record Key : Type 0 where
   pub unit : ℕ
   pub signed : ℤ
   pub bytes : List ℕ
+  pub expression : Option (List Node)
 
 abbrev pub key_by : ℕ → ℕ → ℤ → List ℕ → Key
 key_by kind number signed bytes =
-    record { kind = kind; number = number; unit = 0; signed = signed; bytes = bytes }
+    record { kind = kind; number = number; unit = 0; signed = signed; bytes = bytes; expression = None }
 
 abbrev pub address_key : Address → Key
 address_key (addresses.Constant n) = key_by 0 n (pos 0) []
@@ -27,7 +32,14 @@ address_key (addresses.Symbol s addend) = key_by 1 s addend []
 
 abbrev pub entry_key : InfoRef → Key
 entry_key (refs.Symbol s) = key_by 32 s (pos 0) []
-entry_key (refs.Entry u i) = record { kind = 33; number = i.0; unit = u.0; signed = pos 0; bytes = [] }
+entry_key (refs.Entry u i) = record { kind = 33; number = i.0; unit = u.0; signed = pos 0; bytes = []; expression = None }
+
+abbrev pub file_key : Option FileId → Key
+file_key None = key_by 37 0 (pos 0) []
+file_key (Some file) = key_by 38 file.0 (pos 0) []
+
+abbrev pub expression_key : List Node → Key
+expression_key x = record (key_by 39 0 (pos 0) []) { expression = Some x }
 
 abbrev pub value_key : AttributeValue → Key
 value_key (values.Address a) = address_key a
@@ -40,6 +52,7 @@ value_key (values.Data16 n) = key_by 7 n (pos 0) []
 value_key (values.Sdata z) = key_by 8 0 z []
 value_key (values.Udata n) = key_by 9 n (pos 0) []
 value_key (values.ImplicitConst z) = key_by 10 0 z []
+value_key (values.Exprloc x) = expression_key x
 value_key (values.Flag b) = key_by 11 (flag_byte b) (pos 0) []
 value_key values.FlagPresent = key_by 12 0 (pos 0) []
 value_key (values.UnitRef i) = key_by 13 i.0 (pos 0) []
@@ -52,6 +65,8 @@ value_key (values.DebugStrRefSup n) = key_by 18 n.0 (pos 0) []
 value_key (values.String s) = key_by 19 0 (pos 0) s
 value_key (values.StringRef i) = key_by 34 i.0 (pos 0) []
 value_key (values.LineStringRef i) = key_by 35 i.0 (pos 0) []
+value_key values.LineProgramRef = key_by 36 0 (pos 0) []
+value_key (values.FileIndex file) = file_key file
 value_key (values.Encoding n) = key_by 20 n.0 (pos 0) []
 value_key (values.DecimalSign n) = key_by 21 n.0 (pos 0) []
 value_key (values.Endianity n) = key_by 22 n.0 (pos 0) []
@@ -106,6 +121,10 @@ value_by k =
     if k.kind == 31 then values.Ordering (record { 0 = k.number }) else
     if k.kind == 34 then values.StringRef (record { 0 = k.number }) else
     if k.kind == 35 then values.LineStringRef (record { 0 = k.number }) else
+    if k.kind == 36 then values.LineProgramRef else
+    if k.kind == 37 then values.FileIndex None else
+    if k.kind == 38 then values.FileIndex (Some (record { 0 = k.number })) else
+    if k.kind == 39 then values.Exprloc (unwrap_or k.expression []) else
     if k.kind == 32 then values.DebugInfoRef (refs.Symbol k.number) else
     values.DebugInfoRef (refs.Entry (record { 0 = k.unit }) (record { 0 = k.number }))
 
@@ -121,6 +140,7 @@ value_by-key (values.Data16 n) = refl
 value_by-key (values.Sdata z) = refl
 value_by-key (values.Udata n) = refl
 value_by-key (values.ImplicitConst z) = refl
+value_by-key (values.Exprloc x) = refl
 value_by-key (values.Flag false) = refl
 value_by-key (values.Flag true) = refl
 value_by-key values.FlagPresent = refl
@@ -135,6 +155,9 @@ value_by-key (values.DebugStrRefSup n) = refl
 value_by-key (values.String s) = refl
 value_by-key (values.StringRef i) = refl
 value_by-key (values.LineStringRef i) = refl
+value_by-key values.LineProgramRef = refl
+value_by-key (values.FileIndex None) = refl
+value_by-key (values.FileIndex (Some file)) = refl
 value_by-key (values.Encoding n) = refl
 value_by-key (values.DecimalSign n) = refl
 value_by-key (values.Endianity n) = refl
@@ -151,4 +174,6 @@ value_by-key (values.Ordering n) = refl
 -- whether keys are equal, field by field
 abbrev pub key_eq : Key → Key → Bool
 key_eq j k =
-    (j.kind == k.kind) && ((j.number == k.number) && ((j.unit == k.unit) && (int_eq j.signed k.signed && pointwise nat_eq j.bytes k.bytes)))
+    (j.kind == k.kind)
+    && ((j.number == k.number)
+    && ((j.unit == k.unit) && (int_eq j.signed k.signed && (option_eq nodes_eq j.expression k.expression && pointwise nat_eq j.bytes k.bytes))))

@@ -6,9 +6,11 @@ use Rattle.dw_writer.specs.Drafts.{Info}
 use Rattle.dw_writer.specs.Layout.{Layout}
 use Rattle.dw_writer.specs.declared.fixup.DebugInfoFixup.{DebugInfoFixup}
 
--- where a table's part number so and so stands in the section that the table is written into, if there is one
-abbrev pub Tables : Type 0
-Tables = SectionId → ℕ → Option ℕ
+-- Where what tables have under numbers stands in the sections that they are written into, and where a unit's own part of
+-- a section begins, if it has one.
+pub record Tables : Type 0 where
+  pub part : SectionId → ℕ → Option ℕ
+  pub own : SectionId → Option ℕ
 
 -- Where the entries of a unit's tree stand, counted from the unit's first byte, and the place past each. Beside them what stands
 -- in other sections.

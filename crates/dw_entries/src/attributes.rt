@@ -19,10 +19,14 @@ pub(crate) struct Attributes {
 
 impl Model for Attributes {
     ghost use Rattle.std.specs.Prelude.{List};
+    ghost use Rattle.std.specs.Coded.{codes};
+    ghost use Rattle.dw_expr.specs.Codes.{node_code};
     ghost use Rattle.dw_entries.specs.declared.attribute.Attribute.{Attribute};
     ghost use Rattle.dw_entries.specs.Attributes.{HaveDistinctNames};
 
     ghost Value = { List Attribute };
+
+    ghost coded = { Prim.hlevel (codes, node_code) };
 
     ghost view = { λ a. a.items.items };
 

@@ -3,11 +3,12 @@
 ghost use Rattle.std.specs.Prelude.{◌≡◌};
 ghost use Rattle.dw_base.specs.Numbers.{word_of};
 ghost use Rattle.dw_entries.specs.Content.{Plain, Offset, InTable};
-ghost use Rattle.dw_entries.specs.ContentView.{content_in};
-ghost use Rattle.dw_entries.specs.Values.{content_of, constant_content as content_of_constant, present_content as content_of_flag};
+ghost use Rattle.dw_entries.specs.ContentView.{content_in, number_or_past};
+ghost use Rattle.dw_entries.specs.Values.{content_of, file_number as number_of_file, constant_content as content_of_constant, present_content as content_of_flag};
 
 use crate::value::AttributeValue;
-use dw_base::{Address, DebugInfoRef, Encoding, SectionId, UnitEntryId};
+use dw_base::{Address, DebugInfoRef, Encoding, FileId, SectionId, UnitEntryId};
+use dw_expr::Expression;
 
 /// What stands for a value in an entry, by how it is laid out (DWARF 5, 7.5.5).
 #[derive(Clone, Copy, Debug, PartialEq, Eq)]
@@ -24,6 +25,8 @@ pub enum Content<'a> {
     SignedLeb(i64),
     /// Bytes after their length in unsigned LEB128.
     Block(&'a [u8]),
+    /// An expression after its length in unsigned LEB128.
+    Expression(&'a Expression),
     /// Bytes closed by a zero.
     Closed(&'a [u8]),
     /// An address of the target.
@@ -33,6 +36,11 @@ pub enum Content<'a> {
     /// The place in a section of what a table has there under an index, in a word of the unit's
     /// format.
     InTable { section: SectionId, index: usize },
+    /// The place in a section where the unit's own part of it begins, in a word of the unit's
+    /// format.
+    OwnPart(SectionId),
+    /// The number of a file, in unsigned LEB128; none where 64 bits have no room for it.
+    File(Option<u64>),
     /// The place in the unit of an entry, in a word of the unit's format.
     EntryPlace(UnitEntryId),
     /// The place in `.debug_info` of an entry of any unit, in a word of the unit's format, or in
@@ -56,6 +64,7 @@ impl AttributeValue {
             AttributeValue::Sdata(number) => Content::SignedLeb(*number),
             AttributeValue::Udata(number) => Content::Leb(*number),
             AttributeValue::ImplicitConst(number) => constant_content(encoding, *number),
+            AttributeValue::Exprloc(expression) => Content::Expression(expression),
             AttributeValue::Flag(is_set) => plain(*is_set as u64, 1),
             AttributeValue::FlagPresent => present_content(encoding),
             AttributeValue::UnitRef(entry) => Content::EntryPlace(*entry),
@@ -72,6 +81,8 @@ impl AttributeValue {
             AttributeValue::LineStringRef(string) => {
                 in_table(SectionId::DebugLineStr, string.index())
             }
+            AttributeValue::LineProgramRef => Content::OwnPart(SectionId::DebugLine),
+            AttributeValue::FileIndex(file) => Content::File(file_number(encoding, *file)),
             AttributeValue::Encoding(code) => Content::Leb(code.0 as u64),
             AttributeValue::DecimalSign(code) => Content::Leb(code.0 as u64),
             AttributeValue::Endianity(code) => Content::Leb(code.0 as u64),
@@ -114,6 +125,17 @@ fn in_table(section: SectionId, index: usize) -> Content<'static>
     ensures { content_in result ≡ InTable section index }
 {
     Content::InTable { section, index }
+}
+
+/// The number of a file, where 64 bits have room for it: up to version 4 the last index has none.
+fn file_number(encoding: Encoding, file: Option<FileId>) -> Option<u64>
+    ensures { number_or_past result ≡ number_of_file encoding file }
+{
+    match file {
+        None => Some(0),
+        Some(file) if encoding.version <= 4 && file.index() == usize::MAX => None,
+        Some(file) => Some(file.raw(encoding.version)),
+    }
 }
 
 /// A constant that the declaration holds from version 5 on.

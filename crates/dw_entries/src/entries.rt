@@ -5,13 +5,13 @@ ghost use Rattle.dw_base.specs.declared.error.Error.TheVariants.{NoMemory};
 ghost use Rattle.dw_entries.specs.Entries.{new_root, with_added, with_sibling, with_attribute, without_attribute, without_child, value_of};
 ghost use Rattle.dw_entries.specs.Attributes.{IsOwnName};
 ghost use Rattle.dw_entries.specs.Arena.{IsSound, is_reserved, with_entry};
-ghost use Rattle.dw_entries.specs.Settled.{settled_entries};
+ghost use Rattle.dw_entries.specs.Settled.{settled_entries, some_file};
 
 use crate::arena::{add_entry, is_unadded};
 use crate::attribute_walk::AttributeWalk;
 use crate::attributes::Attributes;
 use crate::entry::DebuggingInformationEntry;
-use crate::settle::settle;
+use crate::settle::{names_file, settle};
 use crate::value::AttributeValue;
 use dw_base::constants::DW_TAG_compile_unit;
 use dw_base::{DwAt, DwTag, Result, UnitEntryId};
@@ -26,9 +26,13 @@ pub struct Entries {
 }
 
 impl Model for Entries {
+    ghost use Rattle.std.specs.Coded.{codes};
+    ghost use Rattle.dw_expr.specs.Codes.{node_code};
     ghost use Rattle.dw_entries.specs.Arena.{EntriesValue, IsArena};
 
     ghost Value = { EntriesValue };
+
+    ghost coded = { Prim.hlevel (codes, node_code) };
 
     ghost view = { λ u. record { entries = u.entries.items; reserved = u.reserved } };
 
@@ -163,16 +167,27 @@ impl Entries {
     }
 
     /// Moves the root's base types before its other children, so that expressions name them by
-    /// short offsets. Base types further down stay.
-    pub fn settle(&mut self) -> Result<()>
+    /// short offsets, and puts its `DW_AT_stmt_list` in place where a line program is in use, or
+    /// else leaves it out. Base types further down stay.
+    pub fn settle(&mut self, has_line_program: bool) -> Result<()>
         ensures ok { OnOk result
-            (self.new ≡ record self.old { entries = settled_entries self.old.entries }) }
+            (self.new ≡ record self.old
+            { entries = settled_entries has_line_program self.old.entries }) }
         ensures count { length self.new.entries ≡ length self.old.entries }
         ensures err { IfErr result (λ e. e ≡ NoMemory) }
         ensures kept { OnErr result (self.new ≡ self.old) }
     {
-        settle(&mut self.entries)?;
-        Ok(())
+        settle(&mut self.entries, has_line_program)
+    }
+
+    /// Tells that an attribute of any entry, in the tree or not, names a file: its value is a
+    /// `FileIndex` of one.
+    pub fn names_file(&self) -> bool
+        ensures { result ≡ some_file self.now.entries }
+    {
+        self.entries
+            .iter()
+            .any(|entry| names_file(entry.attributes()))
     }
 }
 

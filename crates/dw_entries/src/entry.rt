@@ -14,6 +14,7 @@ use crate::attribute::Attribute;
 use crate::attribute_walk::AttributeWalk;
 use crate::attributes::Attributes;
 use crate::value::AttributeValue;
+use dw_base::constants::DW_AT_stmt_list;
 use dw_base::{DwAt, DwTag, Result, UnitEntryId};
 use std::alloc::Global;
 use std::marker::Model;
@@ -32,9 +33,13 @@ pub struct DebuggingInformationEntry {
 
 impl Model for DebuggingInformationEntry {
     ghost use Rattle.std.specs.Prelude.{map};
+    ghost use Rattle.std.specs.Coded.{codes};
+    ghost use Rattle.dw_expr.specs.Codes.{node_code};
     ghost use Rattle.dw_entries.specs.Entries.{EntryValue, index_of, parent_index};
 
     ghost Value = { EntryValue };
+
+    ghost coded = { Prim.hlevel (codes, node_code) };
 
     ghost view = { λ e. record {
       id = e.id.0;
@@ -212,7 +217,7 @@ impl DebuggingInformationEntry {
 }
 
 impl DebuggingInformationEntry {
-    ghost use Rattle.dw_entries.specs.Settled.{with_children};
+    ghost use Rattle.dw_entries.specs.Settled.{with_children, with_line_program};
     ghost use Rattle.dw_entries.specs.Entries.{has_sibling as names_past};
 
     /// The children in their order.
@@ -235,6 +240,19 @@ impl DebuggingInformationEntry {
         ensures named { HaveDistinctNames self.now.attributes }
     {
         self.walk.attributes.as_slice()
+    }
+
+    /// Leads `DW_AT_stmt_list` to the unit's line program, or leaves the attribute out.
+    pub(crate) fn set_line_program(&mut self, has_line_program: bool) -> Result<()>
+        ensures ok { OnOk result (self.new ≡ with_line_program has_line_program self.old) }
+        ensures err { IfErr result (λ e. e ≡ NoMemory) }
+        ensures kept { OnErr result (self.new ≡ self.old) }
+    {
+        if has_line_program {
+            return self.set(DW_AT_stmt_list, AttributeValue::LineProgramRef);
+        }
+        self.delete(DW_AT_stmt_list);
+        Ok(())
     }
 
     /// Puts other children in the place of all.

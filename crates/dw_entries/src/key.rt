@@ -2,11 +2,14 @@
 
 ghost use Rattle.std.specs.Prelude.{◌≡◌, ◌↔◌, IsTrue, pos, []};
 ghost use Rattle.std.specs.Cmp.{partial_equiv_from_equiv};
-ghost use Rattle.dw_entries.specs.Keys.{key_by, key_eq, address_key, entry_key, value_key};
-ghost use Rattle.dw_entries.specs.Equality.{key_in, value_eq, value_equiv};
+ghost use Rattle.std.specs.Option.{option_eq};
+ghost use Rattle.dw_expr.specs.Equality.{nodes_eq};
+ghost use Rattle.dw_entries.specs.Keys.{key_by, key_eq, address_key, entry_key, expression_key, file_key, value_key};
+ghost use Rattle.dw_entries.specs.Equality.{expression_in, key_in, value_eq, value_equiv};
 
 use crate::value::AttributeValue;
-use dw_base::{Address, DebugInfoRef};
+use dw_base::{Address, DebugInfoRef, FileId};
+use dw_expr::Expression;
 
 /// What tells a value apart from others.
 #[derive(Clone, Copy)]
@@ -16,6 +19,7 @@ struct Key<'a> {
     unit: usize,
     signed: i64,
     bytes: &'a [u8],
+    expression: Option<&'a Expression>,
 }
 
 impl<'a> Key<'a> {
@@ -29,6 +33,7 @@ impl<'a> Key<'a> {
             unit: 0,
             signed: 0,
             bytes: &[],
+            expression: None,
         }
     }
 
@@ -42,6 +47,7 @@ impl<'a> Key<'a> {
             unit: 0,
             signed,
             bytes: &[],
+            expression: None,
         }
     }
 
@@ -55,6 +61,7 @@ impl<'a> Key<'a> {
             unit: 0,
             signed: 0,
             bytes,
+            expression: None,
         }
     }
 
@@ -70,6 +77,7 @@ impl<'a> Key<'a> {
                 unit: 0,
                 signed: addend,
                 bytes: &[],
+                expression: None,
             },
         }
     }
@@ -86,7 +94,32 @@ impl<'a> Key<'a> {
                 unit: unit.0,
                 signed: 0,
                 bytes: &[],
+                expression: None,
             },
+        }
+    }
+
+    /// The key of a file, or of none, which has a kind of its own.
+    fn file(file: Option<FileId>) -> Key<'a>
+        ensures { key_in result ≡ file_key file }
+    {
+        match file {
+            None => Key::number(37, 0),
+            Some(file) => Key::number(38, file.0 as u128),
+        }
+    }
+
+    /// The key of an expression.
+    fn expression(expression: &'a Expression) -> Key<'a>
+        ensures { key_in result ≡ expression_key expression.now }
+    {
+        Key {
+            kind: 39,
+            number: 0,
+            unit: 0,
+            signed: 0,
+            bytes: &[],
+            expression: Some(expression),
         }
     }
 
@@ -98,7 +131,19 @@ impl<'a> Key<'a> {
             && self.number == other.number
             && self.unit == other.unit
             && self.signed == other.signed
+            && are_same(self.expression, other.expression)
             && self.bytes == other.bytes
+    }
+}
+
+/// Tells that there are two equal expressions, or none.
+fn are_same(left: Option<&Expression>, right: Option<&Expression>) -> bool
+    ensures { result ≡ option_eq nodes_eq (expression_in left.entry) (expression_in right.entry) }
+{
+    match (left, right) {
+        (Some(left), Some(right)) => left == right,
+        (None, None) => true,
+        _ => false,
     }
 }
 
@@ -118,6 +163,7 @@ impl AttributeValue {
             AttributeValue::Sdata(number) => Key::signed(8, *number),
             AttributeValue::Udata(number) => Key::number(9, *number as u128),
             AttributeValue::ImplicitConst(number) => Key::signed(10, *number),
+            AttributeValue::Exprloc(expression) => Key::expression(expression),
             AttributeValue::Flag(is_set) => Key::number(11, *is_set as u128),
             AttributeValue::FlagPresent => Key::number(12, 0),
             AttributeValue::UnitRef(entry) => Key::number(13, entry.0 as u128),
@@ -130,6 +176,8 @@ impl AttributeValue {
             AttributeValue::String(text) => Key::bytes(19, text.slice()),
             AttributeValue::StringRef(string) => Key::number(34, string.0 as u128),
             AttributeValue::LineStringRef(string) => Key::number(35, string.0 as u128),
+            AttributeValue::LineProgramRef => Key::number(36, 0),
+            AttributeValue::FileIndex(file) => Key::file(*file),
             AttributeValue::Encoding(code) => Key::number(20, code.0 as u128),
             AttributeValue::DecimalSign(code) => Key::number(21, code.0 as u128),
             AttributeValue::Endianity(code) => Key::number(22, code.0 as u128),

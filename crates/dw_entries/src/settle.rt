@@ -1,12 +1,16 @@
-//! Base types first among the root's children.
+//! The root as it is written: its base types first, and `DW_AT_stmt_list` where a line program is
+//! in use.
 
-ghost use Rattle.std.specs.Prelude.{◌≡◌, ◌++◌, map, true, IfOk, OnOk, OnErr};
-ghost use Rattle.dw_entries.specs.Entries.{index_of};
-ghost use Rattle.dw_entries.specs.Settled.{is_base, base_children, other_children, bases_first, settled_entries};
+ghost use Rattle.std.specs.Prelude.{◌≡◌, ◌++◌, map, true, IfOk, IfErr, OnOk, OnErr};
+ghost use Rattle.dw_base.specs.declared.error.Error.TheVariants.{NoMemory};
+ghost use Rattle.dw_entries.specs.Entries.{index_of, entry_at};
+ghost use Rattle.dw_entries.specs.Settled.{is_base, base_children, other_children, bases_first, children_or, settled_entries, some_file_in as names_any_file};
 
+use crate::attribute::Attribute;
 use crate::entry::DebuggingInformationEntry;
-use dw_base::UnitEntryId;
+use crate::value::AttributeValue;
 use dw_base::constants::DW_TAG_base_type;
+use dw_base::{Error, UnitEntryId};
 use std::alloc::{AllocError, Global};
 
 fn is_base_type(entries: &[DebuggingInformationEntry], id: UnitEntryId) -> bool
@@ -83,22 +87,52 @@ fn base_types_first(
     Ok(ordered)
 }
 
-/// Moves the root's base types before its other children, so that expressions name them by short
-/// offsets. Base types further down stay.
-pub(crate) fn settle(entries: &mut Vec<DebuggingInformationEntry>) -> Result<(), AllocError>
-    ensures ok { OnOk result (entries.new.items ≡ settled_entries entries.old.items) }
-    ensures kept { OnErr result (entries.new.items ≡ entries.old.items) }
+/// The children of the root in the order in which they are to stand.
+fn settled_children(
+    alloc: Global,
+    entries: &[DebuggingInformationEntry],
+) -> Result<Option<Vec<UnitEntryId>>, AllocError>
+    ensures { IfOk result
+        (λ ordered. children_or ordered (entry_at entries.now 0).children
+        ≡ bases_first entries.now (entry_at entries.now 0).children) }
 {
-    let alloc = *entries.allocator();
     let Some(root) = entries.first() else {
-        return Ok(());
+        return Ok(None);
     };
     let children = root.child_ids();
     if is_settled(entries, children) {
+        return Ok(None);
+    }
+    Ok(Some(base_types_first(alloc, entries, children)?))
+}
+
+/// Moves the root's base types before its other children, so that expressions name them by short
+/// offsets, and puts the line program in place. Base types further down stay.
+pub(crate) fn settle(
+    entries: &mut Vec<DebuggingInformationEntry>,
+    has_line_program: bool,
+) -> Result<(), Error>
+    ensures ok { OnOk result
+        (entries.new.items ≡ settled_entries has_line_program entries.old.items) }
+    ensures err { IfErr result (λ e. e ≡ NoMemory) }
+    ensures kept { OnErr result (entries.new.items ≡ entries.old.items) }
+{
+    if entries.is_empty() {
         return Ok(());
     }
-    let ordered = base_types_first(alloc, entries, children)?;
+    let alloc = *entries.allocator();
+    let ordered = settled_children(alloc, entries)?;
     let root = &mut entries[0];
-    root.set_children(ordered);
+    root.set_line_program(has_line_program)?;
+    if let Some(children) = ordered {
+        root.set_children(children);
+    }
     Ok(())
+}
+
+/// Tells that an attribute names a file.
+pub(crate) fn names_file(attributes: &[Attribute]) -> bool
+    ensures { result ≡ names_any_file attributes.now }
+{
+    attributes.iter().any(|attribute| matches!(attribute.value, AttributeValue::FileIndex(Some(_))))
 }

@@ -1,12 +1,15 @@
 //! Entries and their tree.
 
-use crate::{AttributeValue, Entries, Item, flatten};
+use crate::{AttributeValue, Content, Entries, Item, flatten};
 use dw_base::constants::{
-    DW_AT_byte_size, DW_AT_name, DW_FORM_data1, DW_FORM_ref4, DW_FORM_ref8, DW_FORM_string,
-    DW_FORM_udata, DW_TAG_base_type, DW_TAG_variable,
+    DW_AT_byte_size, DW_AT_call_file, DW_AT_decl_file, DW_AT_name, DW_AT_stmt_list, DW_FORM_block,
+    DW_FORM_data1, DW_FORM_data8, DW_FORM_exprloc, DW_FORM_ref4, DW_FORM_ref8, DW_FORM_sec_offset,
+    DW_FORM_string, DW_FORM_udata, DW_TAG_base_type, DW_TAG_variable,
 };
-use dw_base::{Encoding, Format, UnitEntryId};
+use dw_base::{Encoding, Error, FileId, Format, SectionId, UnitEntryId};
+use dw_expr::{EntryPlaces, Expression};
 use dw_writer::Bytes;
+use std::alloc::Global;
 use std::test::Fail;
 
 const ENCODING: Encoding = Encoding {
@@ -14,6 +17,48 @@ const ENCODING: Encoding = Encoding {
     format: Format::Dwarf32,
     version: 5,
 };
+
+/// The places of entries of which entry 1 alone has one, at 0x80.
+struct Places;
+
+impl EntryPlaces for Places {
+    ghost use Rattle.std.specs.Prelude.{Some, None, ◌==◌, if◌then◌else◌};
+
+    ghost places = { λ _ i. if i == 1 then Some 128 else None };
+
+    fn unit_place(&self, id: UnitEntryId) -> Option<u64> {
+        if id.index() == 1 { Some(0x80) } else { None }
+    }
+}
+
+/// A conversion to the base type of an entry.
+fn converted(alloc: Global, entry: usize) -> dw_base::Result<AttributeValue> {
+    let mut expression = Expression::new(alloc);
+    expression.op_convert(Some(UnitEntryId::new(entry)))?;
+    Ok(AttributeValue::Exprloc(expression))
+}
+
+/// The length, the code, and two bytes of the place (DWARF 5, 2.5.1.6).
+#[test]
+fn an_expression_has_a_size_by_the_places_in_it(rt: HostRuntime) -> Result<(), Fail> {
+    let old = Encoding {
+        version: 3,
+        ..ENCODING
+    };
+    let value = converted(rt.alloc(), 1)?;
+    assert_eq!(rt; value.form(ENCODING)?, (DW_FORM_exprloc, None));
+    assert_eq!(rt; value.form(old)?, (DW_FORM_block, None));
+    assert_eq!(rt; value.size(ENCODING, &Places), Ok(4));
+    let copy = value.try_clone()?;
+    assert!(rt; copy == value);
+    let later = converted(rt.alloc(), 2)?;
+    assert!(rt; later != value);
+    assert_eq!(rt;
+        later.size(ENCODING, &Places),
+        Err(Error::UnsupportedExpressionForwardReference)
+    );
+    Ok(())
+}
 
 #[test]
 fn copies_equal_what_they_are_made_from(rt: HostRuntime) -> Result<(), Fail> {
@@ -72,6 +117,68 @@ fn a_form_follows_from_the_value(rt: HostRuntime) -> Result<(), Fail> {
 }
 
 #[test]
+fn a_line_program_and_its_files_are_written(rt: HostRuntime) -> Result<(), Fail> {
+    let old = Encoding {
+        format: Format::Dwarf64,
+        version: 3,
+        ..ENCODING
+    };
+    let program = AttributeValue::LineProgramRef;
+    assert_eq!(rt; program.form(ENCODING)?, (DW_FORM_sec_offset, None));
+    assert_eq!(rt; program.form(old)?, (DW_FORM_data8, None));
+    assert_eq!(rt;
+        program.content(old),
+        Content::OwnPart(SectionId::DebugLine)
+    );
+    let file = AttributeValue::FileIndex(Some(FileId::new(127)));
+    assert_eq!(rt; file.form(old)?, (DW_FORM_udata, None));
+    assert_eq!(rt;
+        (file.content(ENCODING), file.size(ENCODING, &Places)?),
+        (Content::File(Some(127)), 1)
+    );
+    assert_eq!(rt;
+        (file.content(old), file.size(old, &Places)?),
+        (Content::File(Some(128)), 2)
+    );
+    let last = AttributeValue::FileIndex(Some(FileId::new(usize::MAX)));
+    assert_eq!(rt;
+        (last.content(old), last.size(old, &Places)?),
+        (Content::File(None), 10)
+    );
+    assert_eq!(rt;
+        AttributeValue::FileIndex(None).content(old),
+        Content::File(Some(0))
+    );
+    Ok(())
+}
+
+#[test]
+fn a_root_names_the_line_program_in_use(rt: HostRuntime) -> Result<(), Fail> {
+    let mut entries = Entries::new(rt.alloc())?;
+    let root = UnitEntryId::new(0);
+    entries.set(0, DW_AT_decl_file, AttributeValue::FileIndex(None))?;
+    assert!(rt; !entries.names_file());
+    entries.set(0, DW_AT_stmt_list, AttributeValue::Data4(7))?;
+    entries.set(
+        0,
+        DW_AT_call_file,
+        AttributeValue::FileIndex(Some(FileId::new(0))),
+    )?;
+    assert!(rt; entries.names_file());
+    entries.settle(true)?;
+    let program = AttributeValue::LineProgramRef;
+    assert!(rt;
+        matches!(
+        entries.get(root).attributes().get(1),
+        Some(attribute) if attribute.name() == DW_AT_stmt_list && attribute.get().is_same(&program)
+    )
+    );
+    entries.settle(false)?;
+    assert!(rt; entries.get(root).get(DW_AT_stmt_list).is_none());
+    Ok(())
+}
+
+#[test]
 fn the_tree_is_flattened_in_preorder(rt: HostRuntime) -> Result<(), Fail> {
     let mut entries = Entries::new(rt.alloc())?;
     let root = UnitEntryId::new(0);
@@ -88,7 +195,7 @@ fn the_tree_is_flattened_in_preorder(rt: HostRuntime) -> Result<(), Fail> {
         Item::Null,
     ];
     assert_eq!(rt; items.as_slice(), in_calls_order.as_slice());
-    entries.settle()?;
+    entries.settle(false)?;
     let items = flatten(rt.alloc(), entries.as_slice())?;
     let bases_first = [
         Item::Open(0),
@@ -111,7 +218,7 @@ fn a_long_chain_is_flattened(rt: HostRuntime) -> Result<(), Fail> {
         assert!(rt; entries.count() > 0);
         last = entries.add(last, DW_TAG_variable)?;
     }
-    entries.settle()?;
+    entries.settle(false)?;
     let items = flatten(rt.alloc(), entries.as_slice())?;
     assert_eq!(rt; items.len(), 199_999);
     Ok(())

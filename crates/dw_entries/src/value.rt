@@ -1,8 +1,13 @@
 //! The values of attributes.
 
-ghost use Rattle.std.specs.Prelude.{◌≡◌, ◌↔◌, ◌+◌, ◌≤◌, ◌^◌, ℕ, Option, Ok, IsTrue, IfOk, IfErr, length as len};
+ghost use Rattle.std.specs.Prelude.{◌≡◌, ◌↔◌, ◌≤◌, ◌^◌, ℕ, Option, Some, Ok, IsTrue, IsFalse, IfOk, IfErr, OnOk, length as len};
+ghost use Rattle.dw_base.specs.declared.error.Error.{Error as AnError};
 ghost use Rattle.dw_base.specs.declared.error.Error.TheVariants.{NoMemory, ValueTooLarge};
-ghost use Rattle.dw_entries.specs.Values.{form_of, constant_of, operand_size, constant_form, declared_constant, reference_form as form_of_reference, present_form as form_of_present, offset_form as form_of_offset, supplementary_form as form_of_supplementary};
+ghost use Rattle.dw_expr.specs.Causes.{nodes_unplaced};
+ghost use Rattle.dw_expr.specs.Spelling.{expression_size as size_of_expression};
+ghost use Rattle.dw_entries.specs.Content.{counted};
+ghost use Rattle.dw_entries.specs.Values.{form_of, constant_of, operand_size, KeepsPlaces, value_unplaced, SizeRefused, ExpressionUnsized, constant_form, declared_constant, reference_form as form_of_reference, present_form as form_of_present, expression_form as form_of_expression, offset_form as form_of_offset, supplementary_form as form_of_supplementary};
+ghost use Rattle.dw_entries.specs.ContentView.{number_or_past};
 ghost use Rattle.dw_base.specs.Leb128.{uleb};
 ghost use Rattle.dw_base.specs.Forms.{info_place_of};
 
@@ -10,17 +15,18 @@ use crate::content::Content;
 use crate::size::sum;
 use dw_base::constants::{
     DW_FORM_addr, DW_FORM_block, DW_FORM_data1, DW_FORM_data2, DW_FORM_data4, DW_FORM_data8,
-    DW_FORM_data16, DW_FORM_flag, DW_FORM_flag_present, DW_FORM_implicit_const, DW_FORM_line_strp,
-    DW_FORM_ref_addr, DW_FORM_ref_sig8, DW_FORM_ref_sup4, DW_FORM_ref_sup8, DW_FORM_ref4,
-    DW_FORM_ref8, DW_FORM_sdata, DW_FORM_sec_offset, DW_FORM_string, DW_FORM_strp,
+    DW_FORM_data16, DW_FORM_exprloc, DW_FORM_flag, DW_FORM_flag_present, DW_FORM_implicit_const,
+    DW_FORM_line_strp, DW_FORM_ref_addr, DW_FORM_ref_sig8, DW_FORM_ref_sup4, DW_FORM_ref_sup8,
+    DW_FORM_ref4, DW_FORM_ref8, DW_FORM_sdata, DW_FORM_sec_offset, DW_FORM_string, DW_FORM_strp,
     DW_FORM_strp_sup, DW_FORM_udata,
 };
 use dw_base::{
     Address, DebugInfoOffset, DebugInfoRef, DebugMacinfoOffset, DebugMacroOffset, DebugStrOffset,
     DebugTypeSignature, DwAccess, DwAddr, DwAte, DwCc, DwDs, DwEnd, DwForm, DwId, DwInl, DwLang,
-    DwOrd, DwVirtuality, DwVis, Encoding, Format, LineStringId, Result, StringId, UnitEntryId,
-    sleb128_size, uleb128_size,
+    DwOrd, DwVirtuality, DwVis, Encoding, FileId, Format, LineStringId, Result, StringId,
+    UnitEntryId, sleb128_size, uleb128_size,
 };
+use dw_expr::{EntryPlaces, Expression};
 use dw_writer::Bytes;
 
 /// The value of an attribute. The form in which it is written follows from it and from the unit's
@@ -48,6 +54,9 @@ pub enum AttributeValue {
     /// A number that the abbreviation holds in version 5, so that entries which share it spend no
     /// byte on it (DWARF 5, 7.5.3). In older versions it is written as `Sdata`.
     ImplicitConst(i64),
+    /// A location or a value, as operations of a stack machine (DWARF 5, 2.5) behind their length
+    /// in unsigned LEB128; below version 4 as a block.
+    Exprloc(Expression),
     /// A flag of one byte: 0 or 1.
     Flag(bool),
     /// A flag that is set, without a byte from version 4 on, and below as one byte 1.
@@ -76,6 +85,11 @@ pub enum AttributeValue {
     /// A string of `.debug_line_str`, by its place there, in a word of the unit's format. Only
     /// readers of version 5 know the form (7.5.5).
     LineStringRef(LineStringId),
+    /// The unit's line program, by its place in `.debug_line`, in a word of the unit's format.
+    LineProgramRef,
+    /// A file of the unit's line program, by its number there in unsigned LEB128: counted from 0 in
+    /// version 5, and from 1 below (6.2.4). No file is written as 0.
+    FileIndex(Option<FileId>),
     /// How a base type is encoded (DWARF 5, 7.8). This and the codes below are unsigned LEB128.
     Encoding(DwAte),
     /// The sign of a decimal type (7.8).
@@ -112,6 +126,7 @@ impl AttributeValue {
     }
 
     /// Tells that another value is the same.
+    #[tactic(auto, using(crate::specs::Equality::value_decides))]
     pub fn is_same(&self, other: &AttributeValue) -> bool
         ensures { IsTrue result ↔ (self.now ≡ other.now) }
     {
@@ -134,6 +149,7 @@ impl AttributeValue {
             AttributeValue::Data16(_) => DW_FORM_data16,
             AttributeValue::Sdata(_) => DW_FORM_sdata,
             AttributeValue::ImplicitConst(number) => return Ok(declared(encoding, *number)),
+            AttributeValue::Exprloc(_) => expression_form(encoding),
             AttributeValue::Flag(_) => DW_FORM_flag,
             AttributeValue::FlagPresent => present_form(encoding),
             AttributeValue::UnitRef(_) => reference_form(encoding.format),
@@ -146,7 +162,9 @@ impl AttributeValue {
             AttributeValue::String(_) => DW_FORM_string,
             AttributeValue::StringRef(_) => DW_FORM_strp,
             AttributeValue::LineStringRef(_) => DW_FORM_line_strp,
+            AttributeValue::LineProgramRef => offset_form(encoding),
             AttributeValue::Udata(_)
+            | AttributeValue::FileIndex(_)
             | AttributeValue::Encoding(_)
             | AttributeValue::DecimalSign(_)
             | AttributeValue::Endianity(_)
@@ -163,14 +181,17 @@ impl AttributeValue {
         Ok((form, None))
     }
 
-    /// The bytes of what stands for the value in an entry. Refused as `ValueTooLarge` where they
-    /// come to no number of 64 bits.
-    pub fn size(&self, encoding: Encoding) -> Result<u64>
+    /// The bytes of what stands for the value in an entry, which don't change where further entries
+    /// get their places. Refused as `ValueTooLarge` where they come to no number of 64 bits, and as
+    /// `UnsupportedExpressionForwardReference` where an expression spells in LEB128 the place of an
+    /// entry that has none yet.
+    pub fn size<P: EntryPlaces>(&self, encoding: Encoding, places: &P) -> Result<u64>
         ensures ok { IfOk result
-            (λ n. (place : ℕ → Option ℕ) → n ≡ operand_size encoding place self.now) }
-        ensures err { IfErr result
-            (λ e. (e ≡ ValueTooLarge)
-            × ((place : ℕ → Option ℕ) → 2 ^ 64 ≤ operand_size encoding place self.now)) }
+            (λ n. (place : ℕ → Option ℕ) → KeepsPlaces (P.places places.now) place →
+            n ≡ operand_size encoding place self.now) }
+        ensures sound { OnOk result
+            ((e : AnError) → IsFalse (value_unplaced encoding (P.places places.now) self.now e)) }
+        ensures err { IfErr result (SizeRefused encoding (P.places places.now) self.now) }
     {
         match self.content(encoding) {
             Content::Nothing => Ok(0),
@@ -179,10 +200,13 @@ impl AttributeValue {
             Content::Leb(number) => Ok(uleb128_size(number) as u64),
             Content::SignedLeb(number) => Ok(sleb128_size(number) as u64),
             Content::Block(bytes) => counted_size(bytes.len() as u64),
+            Content::Expression(expression) => expression_size(expression, encoding, places),
             Content::Closed(text) => sum(text.len() as u64, 1),
             Content::Target(_) => Ok(encoding.address_size as u64),
             Content::Offset { .. } => Ok(encoding.format.word_size() as u64),
             Content::InTable { .. } => Ok(encoding.format.word_size() as u64),
+            Content::OwnPart(_) => Ok(encoding.format.word_size() as u64),
+            Content::File(number) => Ok(file_size(number)),
             Content::EntryPlace(_) => Ok(encoding.format.word_size() as u64),
             Content::InfoPlace(_) => Ok(info_place_size(encoding) as u64),
         }
@@ -200,11 +224,39 @@ pub fn info_place_size(encoding: Encoding) -> u8
     }
 }
 
+/// The bytes of a file's number in unsigned LEB128.
+fn file_size(number: Option<u64>) -> u64
+    ensures { result ≡ len (uleb (number_or_past number)) }
+{
+    match number {
+        Some(number) => uleb128_size(number) as u64,
+        None => 10,
+    }
+}
+
+/// The bytes of an expression, its length before them.
+fn expression_size<P: EntryPlaces>(
+    expression: &Expression,
+    encoding: Encoding,
+    places: &P,
+) -> Result<u64>
+    ensures ok { IfOk result
+        (λ n. (place : ℕ → Option ℕ) → KeepsPlaces (P.places places.now) place →
+        n ≡ counted (size_of_expression encoding place expression.now)) }
+    ensures sound { OnOk result
+        ((e : AnError) →
+        IsFalse (nodes_unplaced encoding (Some (P.places places.now)) expression.now e)) }
+    ensures err { IfErr result
+        (ExpressionUnsized encoding (P.places places.now) expression.now) }
+{
+    let size = expression.size(encoding, Some(places))?;
+    counted_size(size as u64)
+}
+
 /// The bytes of a length in unsigned LEB128 and of what it counts.
 fn counted_size(length: u64) -> Result<u64>
-    ensures ok { IfOk result (λ n. n ≡ len (uleb length) + length) }
-    ensures err { IfErr result
-        (λ e. (e ≡ ValueTooLarge) × (2 ^ 64 ≤ len (uleb length) + length)) }
+    ensures ok { IfOk result (λ n. n ≡ counted length) }
+    ensures err { IfErr result (λ e. (e ≡ ValueTooLarge) × (2 ^ 64 ≤ counted length)) }
 {
     sum(uleb128_size(length) as u64, length)
 }
@@ -228,6 +280,17 @@ fn present_form(encoding: Encoding) -> DwForm
         DW_FORM_flag_present
     } else {
         DW_FORM_flag
+    }
+}
+
+/// The form of an expression.
+fn expression_form(encoding: Encoding) -> DwForm
+    ensures { result.0 ≡ form_of_expression encoding }
+{
+    if encoding.version >= 4 {
+        DW_FORM_exprloc
+    } else {
+        DW_FORM_block
     }
 }
 

@@ -1,14 +1,12 @@
 use Rattle.std.proofs.Common.{◌∙◌, ap, length, sym, subst}
-use Rattle.dw_entries.specs.Arena.{IsArena}
-use Rattle.dw_entries.proofs.Changed.{length-with_changed}
-use Rattle.dw_entries.proofs.SettledLaws.{arena_settled}
+use Rattle.dw_entries.proofs.SettledLaws.{arena_settled_either, length_settled_either}
 use Rattle.dw_entries.proofs.entries.Entries.settle.Goals as goal
 
-pub invariant_of-self-2 : goal.invariant_of-self-2
-invariant_of-self-2 c =
+pub invariant_of-self : goal.invariant_of-self
+invariant_of-self c =
     let u = c.self.inside in
-    subst (λ xs. IsArena xs u.reserved) (sym c.in_ok-settle.ensures.ok) (arena_settled u.entries.items u.reserved c.self.invariant)
+    arena_settled_either c.settle.result c.args.has_line_program u.entries.items c.settle.new.entries.items u.reserved c.settle.ensures.ok c.settle.ensures.kept c.self.invariant
 
 pub returns-clause-count : goal.returns-clause-count
 returns-clause-count c =
-    ap length c.in_ok-settle.ensures.ok ∙ length-with_changed 0 _ c.self.inside.entries.items ∙ ap (λ u. length u.entries) c.self.view_is
+    length_settled_either c.settle.result c.args.has_line_program c.self.inside.entries.items c.settle.new.entries.items c.settle.ensures.ok c.settle.ensures.kept ∙ ap (λ u. length u.entries) c.self.view_is
