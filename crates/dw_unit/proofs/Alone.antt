@@ -14,12 +14,17 @@ use Rattle.dw_writer.specs.Drafts.{Draft, no_draft, whole, then_draft, shifted}
 use Rattle.dw_writer.specs.Meaning.{Meaning}
 use Rattle.dw_writer.specs.declared.fixup.DebugInfoFixup.{DebugInfoFixup}
 use Rattle.dw_writer.specs.declared.sections.Sections.{Sections}
-use Rattle.dw_entries.specs.Content.{Nothing, Plain, SignedLeb, content_holes}
+use Rattle.dw_expr.specs.Trees.{Node}
+use Rattle.dw_expr.specs.References.{nodes_refer}
+use Rattle.dw_expr.specs.Spelling.{expression_draft}
+use Rattle.dw_expr.proofs.OpenPlaces.{no_hole, no_hole-shifted, no_hole-then, not_or, expression_holes}
+use Rattle.dw_entries.specs.Content.{Nothing, Plain, SignedLeb, Expression, content_holes}
 use Rattle.dw_entries.specs.declared.attribute.Attribute.{Attribute}
 use Rattle.dw_entries.specs.declared.value.AttributeValue.{AttributeValue}
 use Rattle.dw_entries.specs.declared.value.AttributeValue.TheVariants as values
 use Rattle.dw_entries.specs.Entries.{EntryValue, entry_at, has_sibling}
 use Rattle.dw_entries.specs.Targets.{Tables, UnitTargets}
+use Rattle.dw_unit.specs.Elsewhere.{Elsewhere}
 use Rattle.dw_entries.specs.Tree.{preorder}
 use Rattle.dw_entries.specs.Values.{content_of}
 use Rattle.dw_unit.specs.Alone.{is_info_reference, some_info_reference, mark_refers, tree_refers, has_info_reference, only_unit, AppendsAlone, AloneFails, AloneRefused}
@@ -36,11 +41,6 @@ use Rattle.dw_unit.proofs.Faults.{because-map}
 use Rattle.dw_unit.proofs.Filling.{fills_none, fills_all}
 use Rattle.dw_unit.proofs.PendingSteps.{pending_one, units_added}
 
--- there is none
-abbrev no_hole : List DebugInfoFixup → Bool
-no_hole [] = true
-no_hole (h ∷ hs) = false
-
 no_hole-is : (hs : List DebugInfoFixup) → no_hole hs ≡ true → hs ≡ []
 no_hole-is [] h = refl
 no_hole-is (x ∷ hs) h = absurd (let k : false ≡ true = h in cc)
@@ -49,44 +49,31 @@ no_hole-length : (hs : List DebugInfoFixup) → (length hs == 0) ≡ no_hole hs
 no_hole-length [] = refl
 no_hole-length (x ∷ hs) = ne_eqb (length (x ∷ hs)) 0 (λ e. absurd (omega (arith, e)))
 
-no_hole-append : (xs ys : List DebugInfoFixup) → no_hole (xs ++ ys) ≡ (no_hole xs && no_hole ys)
-no_hole-append [] ys = refl
-no_hole-append (x ∷ xs) ys = refl
-
-no_hole-shifted : (n : ℕ) (hs : List DebugInfoFixup) → no_hole (shifted n hs) ≡ no_hole hs
-no_hole-shifted n [] = refl
-no_hole-shifted n (h ∷ hs) = refl
-
--- one draft after another has no hole where neither has
-no_hole-then : (d f : Draft) → no_hole (then_draft d f).holes ≡ (no_hole d.holes && no_hole f.holes)
-unfolding then_draft
-no_hole-then d f = no_hole-append d.holes (shifted d.size f.holes) ∙ ap (λ b. no_hole d.holes && b) (no_hole-shifted d.size f.holes)
-
-not_or : (a b : Bool) → (not a && not b) ≡ not (a || b)
-not_or true b = refl
-not_or false b = refl
+no_hole-counted : (e : Encoding) (place : ℕ → Option ℕ) (ns : List Node) → no_hole (content_holes e place (Expression ns)) ≡ not (nodes_refer ns)
+no_hole-counted e place ns = no_hole-shifted _ (expression_draft e place ns).holes ∙ expression_holes e place ns
 
 -- the references that are left open are those of the values
-value_holes : (e : Encoding) (v : AttributeValue) → no_hole (content_holes e (content_of e v)) ≡ not (is_info_reference v)
-value_holes e (values.ImplicitConst z) = by_version (e.version == 5)
+value_holes : (e : Encoding) (place : ℕ → Option ℕ) (v : AttributeValue) → no_hole (content_holes e place (content_of e v)) ≡ not (is_info_reference v)
+value_holes e place (values.ImplicitConst z) = by_version (e.version == 5)
   where
-    by_version : (b : Bool) → no_hole (content_holes e (if b then Nothing else SignedLeb z)) ≡ true
+    by_version : (b : Bool) → no_hole (content_holes e place (if b then Nothing else SignedLeb z)) ≡ true
     by_version true = refl
     by_version false = refl
-value_holes e values.FlagPresent = by_test (nat_le 4 e.version)
+value_holes e place values.FlagPresent = by_test (nat_le 4 e.version)
   where
-    by_test : (b : Bool) → no_hole (content_holes e (if b then Nothing else Plain 1 1)) ≡ true
+    by_test : (b : Bool) → no_hole (content_holes e place (if b then Nothing else Plain 1 1)) ≡ true
     by_test true = refl
     by_test false = refl
-value_holes e (values.DebugInfoRef (refs.Symbol s)) = refl
-value_holes e (values.DebugInfoRef (refs.Entry u i)) = refl
-value_holes e v = refl
+value_holes e place (values.DebugInfoRef (refs.Symbol s)) = refl
+value_holes e place (values.DebugInfoRef (refs.Entry u i)) = refl
+value_holes e place (values.Exprloc x) = no_hole-counted e place x
+value_holes e place v = refl
 
 attributes_holes : (e : Encoding) (u : UnitTargets) (xs : List Attribute) → no_hole (attributes_draft e u xs).holes ≡ not (some_info_reference xs)
 attributes_holes e u [] = refl
 attributes_holes e u (a ∷ xs) =
     no_hole-then (attribute_draft e u a) (attributes_draft e u xs)
-    ∙ ap (λ b. b && no_hole (attributes_draft e u xs).holes) (value_holes e a.value)
+    ∙ ap (λ b. b && no_hole (attributes_draft e u xs).holes) (value_holes e u.place a.value)
     ∙ ap (λ b. not (is_info_reference a.value) && b) (attributes_holes e u xs)
     ∙ not_or (is_info_reference a.value) (some_info_reference xs)
 
@@ -180,7 +167,7 @@ module _ {W : Type 0} (meaning : W → Meaning) (old new : Sections W) (u : Unit
       }
 
 -- why a unit is refused that is to stand alone
-pub alone_refused : {W : Type 0} (meaning : W → Meaning) (old new : Sections W) (u : UnitValue) (t : Tables) (err : Error) → UnitRefused meaning old new u t err → AloneRefused meaning old new u t err
+pub alone_refused : {W : Type 0} (meaning : W → Meaning) (old new : Sections W) (u : UnitValue) (t : Elsewhere) (err : Error) → UnitRefused meaning old new u t err → AloneRefused meaning old new u t err
 alone_refused meaning old new u t err h =
     let table = (meaning old.debug_abbrev.0).size in
     let plain = (meaning old.debug_info.0).is_plain in

@@ -6,7 +6,7 @@ use Rattle.dw_base.specs.declared.error.Error.TheVariants as errors
 use Rattle.dw_writer.specs.Meaning.{Meaning}
 use Rattle.dw_writer.specs.Sections.{SomeHasRisen}
 use Rattle.dw_writer.specs.declared.sections.Sections.{Sections}
-use Rattle.dw_entries.specs.Targets.{Tables}
+use Rattle.dw_unit.specs.Elsewhere.{Elsewhere}
 use Rattle.dw_unit.specs.Causes.{UnitRefused, UnitsFail, UnitsRefused, RefusesAny, ReferencesFail}
 use Rattle.dw_unit.specs.Pending.{Kept, units_draft, info_at, info_of, starts_of}
 use Rattle.dw_unit.specs.UnitFaults.{holes_fail}
@@ -17,7 +17,7 @@ use Rattle.dw_unit.proofs.TableLaws.{info_kept, units_unfailing, one_row}
 use Rattle.dw_unit.proofs.ValidLaws.{unit_unfailing}
 
 -- one unit
-pub unit_complete : {W : Type 0} (meaning : W → Meaning) (old new : Sections W) (t : Tables) (u : UnitValue) → IsWritableAt (meaning old.debug_info.0).is_plain t (meaning old.debug_abbrev.0).size u →
+pub unit_complete : {W : Type 0} (meaning : W → Meaning) (old new : Sections W) (t : Elsewhere) (u : UnitValue) → IsWritableAt (meaning old.debug_info.0).is_plain t (meaning old.debug_abbrev.0).size u →
     (SomeHasRisen meaning old new → ⊥) → (err : Error) → UnitRefused meaning old new u t err → err ≡ errors.NoMemory
 unit_complete meaning old new t u w calm errors.NoMemory r = refl
 unit_complete meaning old new t u w calm errors.WriteFault r = absurd (calm r)
@@ -28,7 +28,7 @@ not_both true t f = absurd (let x : true ≡ false = f in cc)
 not_both false t f = absurd (let x : false ≡ true = t in cc)
 
 -- the units of a table behind those that are pending
-module _ {W : Type 0} (meaning : W → Meaning) (old new : Sections W) (t : Tables) (us vs : List UnitValue) (can : CanFollow meaning old us t) where
+module _ {W : Type 0} (meaning : W → Meaning) (old new : Sections W) (t : Elsewhere) (us vs : List UnitValue) (can : CanFollow meaning old us t) where
   unfailing : (err : Error) → UnitsFail (meaning old.debug_info.0).is_plain t (meaning old.debug_abbrev.0).size us err ⊎ ReferencesFail meaning can.before us vs t can.units can.kept err → ⊥
   unfailing err (inl h) = units_unfailing (meaning old.debug_info.0).is_plain t (meaning old.debug_abbrev.0).size us can.writable err h
   unfailing err (inr h) =

@@ -1,35 +1,43 @@
 -- What is written of values, as drafts: a lemma for each layout.
-use Rattle.std.specs.Prelude.{◌≡◌, ℕ, ◌+◌, ◌<◌, Bool, true, false, not, ◌&&◌, List, [], ◌∷◌, ◌++◌, length, Option, Some, None, ℤ, pos, negsuc, ◌+ℤ◌, slice_get, IsTrue, IsFalse, refl, if◌then◌else◌}
-use Rattle.std.proofs.Common.{sym, ◌∙◌, ap, subst, length-append}
+use Rattle.std.specs.Prelude.{◌≡◌, ℕ, ◌+◌, ◌<◌, ◌^◌, Bool, true, false, not, ◌&&◌, nat_le, List, [], ◌∷◌, ◌++◌, length, Option, Some, None, ℤ, pos, negsuc, ◌+ℤ◌, slice_get, IsTrue, IsFalse, refl, if◌then◌else◌}
+use Rattle.std.proofs.Common.{sym, ◌∙◌, ap, subst, arith, length-append}
+use Rattle.std.proofs.lemmas.Bool.{or_parts}
+use Rattle.std.proofs.lemmas.Bool.Decides.{nat_tests}
 use Rattle.dw_base.specs.Numbers.{◌>>=◌, when, num, is_width, fits, word_of}
 use Rattle.dw_base.specs.Leb128.{uleb, sleb}
-use Rattle.dw_base.specs.Forms.{Number, Text, Kind, Fixed, Zeroed, info_place_of}
+use Rattle.dw_base.specs.Forms.{Number, Text, Kind, Fixed, Uleb, Zeroed, info_place_of}
 use Rattle.dw_base.specs.Spelling.{kind_bytes, operand_bytes}
 use Rattle.dw_base.specs.declared.address.Address.{Address as TargetAddress}
 use Rattle.dw_base.specs.declared.address.Address.TheVariants as addresses
 use Rattle.dw_base.specs.declared.address.DebugInfoRef.{DebugInfoRef as InfoRef}
 use Rattle.dw_base.specs.declared.address.DebugInfoRef.TheVariants as refs
+use Rattle.dw_base.specs.declared.error.Error.{Error}
+use Rattle.dw_base.specs.declared.error.Error.TheVariants as errors
 use Rattle.dw_base.specs.declared.section_id.SectionId.{SectionId}
 use Rattle.dw_base.specs.declared.common.Encoding.{Encoding}
 use Rattle.dw_base.specs.declared.common.Format.{Format}
 use Rattle.dw_base.specs.declared.common.Format.TheVariants.{Dwarf32, Dwarf64}
 use Rattle.dw_writer.specs.Texts as texts
-use Rattle.dw_writer.specs.Texts.{num_text, int_text}
+use Rattle.dw_writer.specs.Texts.{num_text, int_text, followed}
 use Rattle.dw_writer.specs.Meaning.{Meaning, Layout, Model, Adds, start_of}
 use Rattle.dw_writer.specs.SectionTexts.{number_text, bytes_text, offset_text, address_text}
-use Rattle.dw_writer.specs.Drafts.{Info, Draft, no_draft, whole, Drafts}
+use Rattle.dw_writer.specs.Drafts.{Info, Draft, no_draft, whole, then_draft, shifted, Drafts}
 use Rattle.dw_writer.specs.declared.fixup.DebugInfoFixup.{DebugInfoFixup}
 use Rattle.dw_writer.proofs.DraftLaws.{draft_is}
 use Rattle.dw_writer.proofs.Plain.{Adds-number, num-byte}
 use Rattle.dw_writer.proofs.Steps.{Adds-appends}
 use Rattle.dw_writer.proofs.WriteLaws.{Drafts-is, Drafts-whole}
-use Rattle.dw_entries.specs.Content.{Content, Nothing, Plain, Wide, Leb, SignedLeb, Block, Closed, Target, Offset, InTable, EntryPlace, number_in, has_zero, natural, content_operand, content_kind, content_size, content_holes, InfoPlace}
+use Rattle.dw_entries.specs.Content.{Content, Nothing, Plain, Wide, Leb, SignedLeb, Block, Expression, Closed, Target, Offset, InTable, OwnPart, File, EntryPlace, counted, number_in, has_zero, natural, content_operand, content_kind, content_size, content_holes, InfoPlace}
 use Rattle.dw_entries.specs.Targets.{UnitTargets, targets_in}
 use Rattle.dw_entries.specs.Values.{content_of, operand_size, operand_holes, value_text, value_draft}
 use Rattle.dw_entries.specs.declared.value.AttributeValue.{AttributeValue}
 use Rattle.dw_entries.proofs.ContentLaws.{kind_of-form}
-use Rattle.dw_entries.proofs.ValueTexts.{info_width}
-use Rattle.dw_unit.specs.UnitText.{fitting_text, info_draft, table_text}
+use Rattle.dw_entries.proofs.ValueTexts.{info_width, counted_text}
+use Rattle.dw_expr.specs.Trees.{Node}
+use Rattle.dw_expr.specs.Spelling.{starts_from, parts_of, expression_draft, expression_size}
+use Rattle.dw_expr.specs.Causes.{nodes_unplaced, nodes_fail, expression_fails}
+use Rattle.dw_expr.proofs.ExpressionDrafts.{expression-wide}
+use Rattle.dw_unit.specs.UnitText.{counted_draft, fitting_text, info_draft, table_text}
 
 pub width-word : (format : Format) → IsTrue (is_width (word_of format))
 width-word Dwarf32 = refl
@@ -69,24 +77,31 @@ Drafts-number k w n p = Drafts-whole k (Adds-number w n p)
 pub Drafts-fitting : {a b : Meaning} (k : List DebugInfoFixup) (w n : ℕ) → IsTrue (is_width w) → IsTrue (fits w n) → Adds a b (num a.is_big w n) → Drafts a b k k (whole w (fitting_text w n))
 Drafts-fitting k w n wide fit p = Drafts-is (Drafts-number k w n p) (fitting_is w n wide fit)
 
+-- an expression without a fault has a length of 64 bits
+pub expression_short : (e : Encoding) (place : ℕ → Option ℕ) (plain : Bool) (ns : List Node) → ((err : Error) → IsFalse (expression_fails e (Some place) true plain ns err)) → expression_size e place ns < 2 ^ 64
+expression_short e place plain ns sound =
+    let size = (or_parts _ (nodes_fail e (Some place) true plain (starts_from 0 (parts_of e place ns)) 0 ns errors.ValueTooLarge) (sound errors.ValueTooLarge)).0 in
+    let short = (or_parts (nat_le (2 ^ 64) (expression_size e place ns)) (nodes_unplaced e (Some place) ns errors.ValueTooLarge) size).0 in
+    grind (arith, nat_tests, short)
+
 -- A draft of what is written, with the form's kind known
 
 module _ (e : Encoding) (u : UnitTargets) (v : AttributeValue) where
   -- a text without references that is the operand's
-  content_is : (c : Content) (n : ℕ) (t : Info → Model) (hs : List DebugInfoFixup) → content_of e v ≡ c → n ≡ content_size e c → hs ≡ content_holes e c →
-      ((info : Info) (big : Bool) (l : Layout) → t info big l ≡ (content_operand e (targets_in u l info) c >>= λ o. Some (kind_bytes big (content_kind e c) o))) →
+  content_is : (c : Content) (n : ℕ) (t : Info → Model) (hs : List DebugInfoFixup) → content_of e v ≡ c → n ≡ content_size e u.place c → hs ≡ content_holes e u.place c →
+      ((info : Info) (big : Bool) (l : Layout) → t info big l ≡ (content_operand big e (targets_in u l info) c >>= λ o. Some (kind_bytes big (content_kind e c) o))) →
       ◌≡◌ {A = Draft} (record { size = n; text = t; holes = hs }) (value_draft e u v)
   content_is c n t hs is size holes text =
-      draft_is n (operand_size e u.place v) t (λ info big l. value_text big e (targets_in u l info) v) hs (operand_holes e u.place v) (size ∙ ap (content_size e) (sym is))
+      draft_is n (operand_size e u.place v) t (λ info big l. value_text big e (targets_in u l info) v) hs (operand_holes e u.place v) (size ∙ ap (content_size e u.place) (sym is))
       (λ info big l.
-      let spell : Option Kind → Content → texts.Text = λ k x. content_operand e (targets_in u l info) x >>= λ o. Some (operand_bytes big k o) in
+      let spell : Option Kind → Content → texts.Text = λ k x. content_operand big e (targets_in u l info) x >>= λ o. Some (operand_bytes big k o) in
       text info big l
       ∙ ap (λ x. spell (Some (content_kind e x)) x) (sym is)
       ∙ ap (λ k. spell k (content_of e v)) (sym (kind_of-form e v)))
-      (holes ∙ ap (content_holes e) (sym is))
+      (holes ∙ ap (content_holes e u.place) (sym is))
 
-  value_is : (c : Content) (n : ℕ) (t : Model) → content_of e v ≡ c → n ≡ content_size e c → [] ≡ content_holes e c →
-      ((info : Info) (big : Bool) (l : Layout) → t big l ≡ (content_operand e (targets_in u l info) c >>= λ o. Some (kind_bytes big (content_kind e c) o))) → whole n t ≡ value_draft e u v
+  value_is : (c : Content) (n : ℕ) (t : Model) → content_of e v ≡ c → n ≡ content_size e u.place c → [] ≡ content_holes e u.place c →
+      ((info : Info) (big : Bool) (l : Layout) → t big l ≡ (content_operand big e (targets_in u l info) c >>= λ o. Some (kind_bytes big (content_kind e c) o))) → whole n t ≡ value_draft e u v
   value_is c n t is size none text = content_is c n (λ info. t) [] is size none text
 
   fitting : (big : Bool) (w n : ℕ) (b : Bool) → IsTrue b → ◌≡◌ {A = texts.Text} (Some (num big w n)) (when b (Some (Number n)) >>= λ o. Some (kind_bytes big (Fixed w) o))
@@ -115,6 +130,15 @@ module _ (e : Encoding) (u : UnitTargets) (v : AttributeValue) where
   pub block_is : (xs : List ℕ) → content_of e v ≡ Block xs → whole (length (uleb (length xs) ++ xs)) (bytes_text (uleb (length xs) ++ xs)) ≡ value_draft e u v
   unfolding bytes_text
   block_is xs is = value_is (Block xs) _ (bytes_text (uleb (length xs) ++ xs)) is (length-append (uleb (length xs)) xs) refl (λ info big l. refl)
+
+  -- an expression behind its length, where that fits
+  pub expression_is : (ns : List Node) → content_of e v ≡ Expression ns → expression_size e u.place ns < 2 ^ 64 → counted_draft e u.place ns ≡ value_draft e u v
+  unfolding then_draft bytes_text
+  expression_is ns is small =
+      let d = expression_draft e u.place ns in
+      let fit : IsTrue (fits 8 d.size) = grind (arith, nat_tests, small) in
+      content_is (Expression ns) (counted d.size) (counted_draft e u.place ns).text (shifted (length (uleb d.size)) d.holes) is refl refl
+      (λ info big l. sym (counted_text big d.size (d.text info big l) (expression-wide e u.place ns info big l) ∙ ap (λ b. when b (followed (Some (uleb d.size)) (d.text info big l))) fit))
 
   closing : (big : Bool) (s : List ℕ) (b : Bool) → IsFalse b → ◌≡◌ {A = texts.Text} (Some (s ++ 0 ∷ [])) (when (not b) (Some (Text s)) >>= λ o. Some (kind_bytes big Zeroed o))
   closing big s true k = absurd (let x : true ≡ false = k in cc)
@@ -161,10 +185,23 @@ module _ (e : Encoding) (u : UnitTargets) (v : AttributeValue) where
   table_value big w start None h = refl
   table_value big w start (Some n) h = fixed_value big w (Some (n + start)) h
 
-  pub in_table_is : (section : SectionId) (i : ℕ) → content_of e v ≡ InTable section i → whole (word_of e.format) (table_text (word_of e.format) section (u.tables section i)) ≡ value_draft e u v
+  pub in_table_is : (section : SectionId) (i : ℕ) → content_of e v ≡ InTable section i → whole (word_of e.format) (table_text (word_of e.format) section (u.tables.part section i)) ≡ value_draft e u v
   unfolding offset_text
   in_table_is section i is =
-      value_is (InTable section i) (word_of e.format) _ is refl refl (λ info big l. table_value big (word_of e.format) (start_of l section) (u.tables section i) (width-word e.format))
+      value_is (InTable section i) (word_of e.format) _ is refl refl (λ info big l. table_value big (word_of e.format) (start_of l section) (u.tables.part section i) (width-word e.format))
+
+  pub own_part_is : (section : SectionId) → content_of e v ≡ OwnPart section → whole (word_of e.format) (table_text (word_of e.format) section (u.tables.own section)) ≡ value_draft e u v
+  unfolding offset_text
+  own_part_is section is =
+      value_is (OwnPart section) (word_of e.format) _ is refl refl (λ info big l. table_value big (word_of e.format) (start_of l section) (u.tables.own section) (width-word e.format))
+
+  filed : (big : Bool) (n : ℕ) (b : Bool) → IsTrue b → ◌≡◌ {A = texts.Text} (Some (uleb n)) (when b (Some (Number n)) >>= λ o. Some (kind_bytes big Uleb o))
+  filed big n true h = refl
+  filed big n false h = absurd (let x : IsTrue false = h in cc)
+
+  pub file_is : (n : ℕ) → content_of e v ≡ File n → IsTrue (fits 8 n) → whole (length (uleb n)) (bytes_text (uleb n)) ≡ value_draft e u v
+  unfolding bytes_text
+  file_is n is fit = value_is (File n) (length (uleb n)) (bytes_text (uleb n)) is refl refl (λ info big l. filed big n (fits 8 n) fit)
 
   pub entry_place_is : (i n : ℕ) → content_of e v ≡ EntryPlace i → u.place i ≡ Some n → IsTrue (fits (word_of e.format) n) → whole (word_of e.format) (number_text (word_of e.format) n) ≡ value_draft e u v
   unfolding number_text

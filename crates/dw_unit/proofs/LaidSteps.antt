@@ -1,5 +1,5 @@
 -- A layout goes over one mark after another.
-use Rattle.std.specs.Prelude.{◌≡◌, ℕ, suc, ◌+◌, ◌<◌, ◌≤◌, ◌^◌, Bool, true, false, not, ◌||◌, ◌==◌, List, [], ◌∷◌, ◌++◌, length, take, drop, map, All, slice_index, slice_set, if◌then◌else◌, refl}
+use Rattle.std.specs.Prelude.{◌≡◌, ℕ, suc, ◌+◌, ◌<◌, ◌≤◌, ◌^◌, Bool, true, false, not, ◌||◌, ◌==◌, List, [], ◌∷◌, ◌++◌, length, take, drop, map, All, IsTrue, slice_index, slice_set, if◌then◌else◌, refl}
 use Rattle.std.proofs.Common.{◌∙◌, sym, ap, subst, arith}
 use Rattle.std.specs.List.{list_any}
 use Rattle.std.proofs.Math.Bool.{or-false}
@@ -11,7 +11,7 @@ use Rattle.dw_base.specs.declared.error.Error.{Error}
 use Rattle.dw_base.specs.declared.error.Error.TheVariants.{NoMemory, ValueTooLarge}
 use Rattle.dw_entries.specs.Entries.{EntryValue, is_parent}
 use Rattle.dw_entries.specs.Tree.{IsIn, children_in, has_entry, are_entries_distinct}
-use Rattle.dw_unit.specs.Causes.{RoomRefused}
+use Rattle.dw_unit.specs.Causes.{LayoutRefused}
 use Rattle.dw_unit.specs.Laid.{size_of, sizes_of, place_from, IsPlacement, HasNoRoom}
 use Rattle.dw_unit.specs.Laying.{LayoutValue, unlaid, placement_in, begun, entered, closed_in, stepped, Extends}
 use Rattle.dw_unit.specs.Places.{has_place}
@@ -307,8 +307,8 @@ module _ (size : (ℕ → ℕ) → ℕ → ℕ) (es : List EntryValue) (start : 
   pub end_laid : (v : LayoutValue) → is_laid [] v → v.end ≡ start + sizes_of (size (slice_index v.places)) es all
   end_laid v h = omega (arith, (h.placed (slice_index v.places) (λ i _. refl)).sum)
 
--- why no room is left, by another cause
-pub no_room_because : (P Q : Type 0) (e : Error) → (P → Q) → RoomRefused P e → RoomRefused Q e
-no_room_because P Q NoMemory more h = tt
-no_room_because P Q ValueTooLarge more h = more h
-no_room_because P Q _ more h = absurd h
+-- why a layout is refused, by other causes
+pub layout_because : (P Q : Type 0) (f g : Error → Bool) (e : Error) → LayoutRefused P f e → (P → Q) → (IsTrue (f e) → IsTrue (g e)) → LayoutRefused Q g e
+layout_because P Q f g NoMemory h more is = tt
+layout_because P Q f g ValueTooLarge h more is = more h
+layout_because P Q f g _ h more is = is h

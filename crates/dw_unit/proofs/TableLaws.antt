@@ -5,8 +5,8 @@ use Rattle.std.proofs.Math.Path.{fun_ext}
 use Rattle.std.proofs.lemmas.List.Elements.{All-head, All-tail}
 use Rattle.std.specs.Option.{option_map}
 use Rattle.dw_base.specs.declared.error.Error.{Error}
-use Rattle.dw_entries.specs.Targets.{Tables}
-use Rattle.dw_unit.specs.Built.{Numbered, Starts, numbered_from}
+use Rattle.dw_unit.specs.Elsewhere.{Elsewhere, past_lines, past_elsewhere}
+use Rattle.dw_unit.specs.Built.{Numbered, Starts, settled_at, numbered_from}
 use Rattle.dw_unit.specs.Causes.{UnitsFail}
 use Rattle.dw_unit.specs.Pending.{Kept, past_kept, info_at, info_of, KeepPlaces, StandsAt, AreInRow}
 use Rattle.dw_unit.specs.Places.{Placement, info_from, offsets_in}
@@ -28,16 +28,16 @@ unwritten_keeps (u ∷ us) all zero = ap (λ (b : Bool). if b then option_map of
 unwritten_keeps (u ∷ us) all (suc n) = unwritten_keeps us (All-tail (λ v. v.is_written ≡ false) u us all) n
 
 -- and is written whole
-pub to_write-unwritten : (n : ℕ) (t : Tables) (us : List UnitValue) → All (λ u. u.is_written ≡ false) us → to_write_from n t us ≡ numbered_from n t (map settled us)
+pub to_write-unwritten : (n : ℕ) (t : Elsewhere) (us : List UnitValue) → All (λ u. u.is_written ≡ false) us → to_write_from n t us ≡ numbered_from n t us
 to_write-unwritten n t [] all = refl
 to_write-unwritten n t (u ∷ us) all =
-    ap (λ (b : Bool). if b then to_write_from (suc n) t us else record { id = n; unit = settled u; tables = t } ∷ to_write_from (suc n) t us) (All-head (λ v. v.is_written ≡ false) u us all)
-    ∙ ap (λ xs. let x : Numbered = record { id = n; unit = settled u; tables = t } in x ∷ xs) (to_write-unwritten (suc n) t us (All-tail (λ v. v.is_written ≡ false) u us all))
+    ap (λ (b : Bool). if b then to_write_from (suc n) t us else settled_at n t u ∷ to_write_from (suc n) (past_lines t u) us) (All-head (λ v. v.is_written ≡ false) u us all)
+    ∙ ap (λ xs. settled_at n t u ∷ xs) (to_write-unwritten (suc n) (past_lines t u) us (All-tail (λ v. v.is_written ≡ false) u us all))
 
 -- Units that can be written have no cause to be refused.
-pub units_unfailing : (plain : Bool) (t : Tables) (at : ℕ) (us : List UnitValue) → AreWritable plain t at us → (err : Error) → UnitsFail plain t at us err → ⊥
+pub units_unfailing : (plain : Bool) (t : Elsewhere) (at : ℕ) (us : List UnitValue) → AreWritable plain t at us → (err : Error) → UnitsFail plain t at us err → ⊥
 units_unfailing plain t at [] h err fails = fails
-units_unfailing plain t at (u ∷ us) h err (inr fails) = units_unfailing plain t (past_table at u) us h.1 err fails
+units_unfailing plain t at (u ∷ us) h err (inr fails) = units_unfailing plain (past_elsewhere t u) (past_table at u) us h.1 err fails
 units_unfailing plain t at (u ∷ us) h err (inl fails) = by_mark h.0
   where
     by_mark : (u.is_written ≡ true) ⊎ IsWritableAt plain t at u → ⊥
@@ -52,7 +52,7 @@ kept_is k j p q =
 
 one_kept : (at : Starts) (u : Numbered) (k j : Kept) → StandsAt at u k → StandsAt at u j → k ≡ j
 one_kept at u k j a b =
-    kept_is k j (a.starts ∙ sym b.starts) (placement-same k.places j.places (one_placement u.unit.encoding u.unit.entries k.places j.places a.placed b.placed))
+    kept_is k j (a.starts ∙ sym b.starts) (placement-same k.places j.places (one_placement u.unit.encoding u.unit.entries k.places j.places a.early a.placed b.placed))
 
 pub one_row : (at : Starts) (us : List Numbered) (ks js : List Kept) → AreInRow at us ks → AreInRow at us js → ks ≡ js
 one_row at [] [] [] a b = refl

@@ -6,7 +6,8 @@ use Rattle.std.proofs.lemmas.List.Elements.{All-head, All-tail}
 use Rattle.dw_base.specs.Numbers.{◌>>=◌}
 use Rattle.dw_base.specs.declared.error.Error.{Error}
 use Rattle.dw_entries.specs.Targets.{Tables}
-use Rattle.dw_unit.specs.Built.{Numbered, Starts, table_size}
+use Rattle.dw_unit.specs.Elsewhere.{Elsewhere, past_lines, past_elsewhere}
+use Rattle.dw_unit.specs.Built.{Numbered, Starts, table_size, settled_at}
 use Rattle.dw_unit.specs.Causes.{UnitFails, UnitsFail}
 use Rattle.dw_unit.specs.Pending.{Kept, kept_offsets, kept_at, offsets_at, KeepPlaces}
 use Rattle.std.specs.Option.{option_map}
@@ -15,6 +16,7 @@ use Rattle.dw_unit.specs.UnitValue.{UnitValue, offsets_of}
 use Rattle.dw_unit.specs.Valid.{IsWritableAt, AreWritable}
 use Rattle.dw_unit.specs.Whole.{settled, marked_written, IsRefused}
 use Rattle.dw_unit.specs.Written.{to_write_from, past_table, IsPassedOver, IsWrittenAt, past_written, AreWritten, AreStopped}
+use Rattle.dw_unit.proofs.LineSteps.{past_all, past-old, past-new}
 use Rattle.dw_unit.proofs.PendingSteps.{kept_other, kept_last}
 
 -- A table of which some units were gone through: what they were, what they are, and the others.
@@ -69,34 +71,42 @@ all_gone us vs i before after rest h le =
 
 -- What they are
 
-pub passed_more : (at end : Starts) (t : Tables) (xs ys : List UnitValue) (u v : UnitValue) → AreWritten at end t xs ys → IsPassedOver u v → AreWritten at end t (xs ++ u ∷ []) (ys ++ v ∷ [])
+pub passed_more : (at end : Starts) (t : Elsewhere) (xs ys : List UnitValue) (u v : UnitValue) → AreWritten at end t xs ys → IsPassedOver u v → AreWritten at end t (xs ++ u ∷ []) (ys ++ v ∷ [])
 passed_more at end t [] [] u v h k = inl (k, h)
 passed_more at end t [] (y ∷ ys) u v h k = absurd h
 passed_more at end t (x ∷ xs) [] u v h k = absurd h
 passed_more at end t (x ∷ xs) (y ∷ ys) u v (inl h) k = inl (h.0, passed_more at end t xs ys u v h.1 k)
-passed_more at end t (x ∷ xs) (y ∷ ys) u v (inr h) k = inr (h.0, passed_more (past_written at t x y h.0) end t xs ys u v h.1 k)
+passed_more at end t (x ∷ xs) (y ∷ ys) u v (inr h) k = inr (h.0, passed_more (past_written at t x y h.0) end (past_lines t x) xs ys u v h.1 k)
 
-pub written_more : (at end : Starts) (t : Tables) (xs ys : List UnitValue) (u v : UnitValue) → AreWritten at end t xs ys → (w : IsWrittenAt end t u v) → AreWritten at (past_written end t u v w) t (xs ++ u ∷ []) (ys ++ v ∷ [])
+pub written_more : (at end : Starts) (t : Elsewhere) (xs ys : List UnitValue) (u v : UnitValue) → AreWritten at end t xs ys → (w : IsWrittenAt end (past_all t xs) u v) →
+    AreWritten at (past_written end (past_all t xs) u v w) t (xs ++ u ∷ []) (ys ++ v ∷ [])
 written_more at end t [] [] u v h w = subst (λ s. (w : IsWrittenAt s t u v) → AreWritten at (past_written s t u v w) t (u ∷ []) (v ∷ [])) h (λ w. inr (w, refl)) w
 written_more at end t [] (y ∷ ys) u v h w = absurd h
 written_more at end t (x ∷ xs) [] u v h w = absurd h
-written_more at end t (x ∷ xs) (y ∷ ys) u v (inl h) w = inl (h.0, written_more at end t xs ys u v h.1 w)
-written_more at end t (x ∷ xs) (y ∷ ys) u v (inr h) w = inr (h.0, written_more (past_written at t x y h.0) end t xs ys u v h.1 w)
+written_more at end t (x ∷ xs) (y ∷ ys) u v (inl h) w =
+    let more = subst (λ s. (w : IsWrittenAt end (past_all s xs) u v) → AreWritten at (past_written end (past_all s xs) u v w) t (xs ++ u ∷ []) (ys ++ v ∷ []))
+    (sym (past-old t x h.0.0)) (written_more at end t xs ys u v h.1) in
+    inl (h.0, more w)
+written_more at end t (x ∷ xs) (y ∷ ys) u v (inr h) w =
+    let from = past_written at t x y h.0 in
+    let more = subst (λ s. (w : IsWrittenAt end (past_all s xs) u v) → AreWritten from (past_written end (past_all s xs) u v w) (past_lines t x) (xs ++ u ∷ []) (ys ++ v ∷ []))
+    (sym (past-new t x h.0.unwritten)) (written_more from end (past_lines t x) xs ys u v h.1) in
+    inr (h.0, more w)
 
-pub stopped_at : (at end : Starts) (t : Tables) (xs ys : List UnitValue) (u v : UnitValue) (rest : List UnitValue) → AreWritten at end t xs ys → IsRefused u v → AreStopped at t (xs ++ u ∷ rest) (ys ++ v ∷ rest)
+pub stopped_at : (at end : Starts) (t : Elsewhere) (xs ys : List UnitValue) (u v : UnitValue) (rest : List UnitValue) → AreWritten at end t xs ys → IsRefused u v → AreStopped at t (xs ++ u ∷ rest) (ys ++ v ∷ rest)
 stopped_at at end t [] [] u v rest h k = inr (inr (k, refl))
 stopped_at at end t [] (y ∷ ys) u v rest h k = absurd h
 stopped_at at end t (x ∷ xs) [] u v rest h k = absurd h
 stopped_at at end t (x ∷ xs) (y ∷ ys) u v rest (inl h) k = inl (h.0, stopped_at at end t xs ys u v rest h.1 k)
-stopped_at at end t (x ∷ xs) (y ∷ ys) u v rest (inr h) k = inr (inl (h.0, stopped_at (past_written at t x y h.0) end t xs ys u v rest h.1 k))
+stopped_at at end t (x ∷ xs) (y ∷ ys) u v rest (inr h) k = inr (inl (h.0, stopped_at (past_written at t x y h.0) end (past_lines t x) xs ys u v rest h.1 k))
 
 -- where none was refused
-pub stopped_after : (at end : Starts) (t : Tables) (us vs : List UnitValue) → AreWritten at end t us vs → AreStopped at t us vs
+pub stopped_after : (at end : Starts) (t : Elsewhere) (us vs : List UnitValue) → AreWritten at end t us vs → AreStopped at t us vs
 stopped_after at end t [] [] h = tt
 stopped_after at end t [] (v ∷ vs) h = absurd h
 stopped_after at end t (u ∷ us) [] h = absurd h
 stopped_after at end t (u ∷ us) (v ∷ vs) (inl h) = inl (h.0, stopped_after at end t us vs h.1)
-stopped_after at end t (u ∷ us) (v ∷ vs) (inr h) = inr (inl (h.0, stopped_after (past_written at t u v h.0) end t us vs h.1))
+stopped_after at end t (u ∷ us) (v ∷ vs) (inr h) = inr (inl (h.0, stopped_after (past_written at t u v h.0) end (past_lines t u) us vs h.1))
 
 -- Where their tables stand
 
@@ -105,13 +115,14 @@ abbrev pub past_tables : ℕ → List UnitValue → ℕ
 past_tables at [] = at
 past_tables at (u ∷ us) = past_tables (past_table at u) us
 
-pub writable_more : (plain : Bool) (t : Tables) (at : ℕ) (xs : List UnitValue) (u : UnitValue) → AreWritable plain t at xs → (u.is_written ≡ true) ⊎ IsWritableAt plain t (past_tables at xs) u → AreWritable plain t at (xs ++ u ∷ [])
+pub writable_more : (plain : Bool) (t : Elsewhere) (at : ℕ) (xs : List UnitValue) (u : UnitValue) → AreWritable plain t at xs → (u.is_written ≡ true) ⊎ IsWritableAt plain (past_all t xs) (past_tables at xs) u →
+    AreWritable plain t at (xs ++ u ∷ [])
 writable_more plain t at [] u h k = (k, tt)
-writable_more plain t at (x ∷ xs) u h k = (h.0, writable_more plain t (past_table at x) xs u h.1 k)
+writable_more plain t at (x ∷ xs) u h k = (h.0, writable_more plain (past_elsewhere t x) (past_table at x) xs u h.1 k)
 
-pub fails_at : (plain : Bool) (t : Tables) (at : ℕ) (xs : List UnitValue) (u : UnitValue) (rest : List UnitValue) (err : Error) → u.is_written ≡ false → UnitFails u t (past_tables at xs) plain err → UnitsFail plain t at (xs ++ u ∷ rest) err
+pub fails_at : (plain : Bool) (t : Elsewhere) (at : ℕ) (xs : List UnitValue) (u : UnitValue) (rest : List UnitValue) (err : Error) → u.is_written ≡ false → UnitFails u (past_all t xs) (past_tables at xs) plain err → UnitsFail plain t at (xs ++ u ∷ rest) err
 fails_at plain t at [] u rest err new h = inl (new, h)
-fails_at plain t at (x ∷ xs) u rest err new h = inr (fails_at plain t (past_table at x) xs u rest err new h)
+fails_at plain t at (x ∷ xs) u rest err new h = inr (fails_at plain (past_elsewhere t x) (past_table at x) xs u rest err new h)
 
 pub past_more : (at : ℕ) (xs : List UnitValue) (u : UnitValue) → past_tables at (xs ++ u ∷ []) ≡ past_table (past_tables at xs) u
 past_more at [] u = refl
@@ -125,30 +136,41 @@ past_new at u h = ap (λ (b : Bool). if b then at else at + table_size (settled 
 
 -- What is to be written
 
-by_mark : (n : ℕ) (t : Tables) (u : UnitValue) (us : List UnitValue) (b : Bool) → u.is_written ≡ b →
-    to_write_from n t (u ∷ us) ≡ (if b then to_write_from (suc n) t us else record { id = n; unit = settled u; tables = t } ∷ to_write_from (suc n) t us)
-by_mark n t u us b h = ap (λ (b : Bool). if b then to_write_from (suc n) t us else record { id = n; unit = settled u; tables = t } ∷ to_write_from (suc n) t us) h
+by_mark : (n : ℕ) (t : Elsewhere) (u : UnitValue) (us : List UnitValue) (b : Bool) → u.is_written ≡ b →
+    to_write_from n t (u ∷ us) ≡ (if b then to_write_from (suc n) t us else settled_at n t u ∷ to_write_from (suc n) (past_lines t u) us)
+by_mark n t u us b h = ap (λ (b : Bool). if b then to_write_from (suc n) t us else settled_at n t u ∷ to_write_from (suc n) (past_lines t u) us) h
 
-pub to_write-old : (n : ℕ) (t : Tables) (xs : List UnitValue) (u : UnitValue) → u.is_written ≡ true → to_write_from n t (xs ++ u ∷ []) ≡ to_write_from n t xs
+pub to_write-old : (n : ℕ) (t : Elsewhere) (xs : List UnitValue) (u : UnitValue) → u.is_written ≡ true → to_write_from n t (xs ++ u ∷ []) ≡ to_write_from n t xs
 to_write-old n t [] u h = by_mark n t u [] true h
-to_write-old n t (x ∷ xs) u h = step x.is_written refl (to_write-old (suc n) t xs u h)
+to_write-old n t (x ∷ xs) u h = step x.is_written (to_write-old (suc n) t xs u h) (to_write-old (suc n) (past_lines t x) xs u h)
   where
-    step : (b : Bool) → x.is_written ≡ b → to_write_from (suc n) t (xs ++ u ∷ []) ≡ to_write_from (suc n) t xs →
-        (if b then to_write_from (suc n) t (xs ++ u ∷ []) else record { id = n; unit = settled x; tables = t } ∷ to_write_from (suc n) t (xs ++ u ∷ [])) ≡ (if b then to_write_from (suc n) t xs else record { id = n; unit = settled x; tables = t } ∷ to_write_from (suc n) t xs)
-    step true is more = more
-    step false is more = ap (λ ys. record { id = n; unit = settled x; tables = t } ∷ ys) more
+    step : (b : Bool) → to_write_from (suc n) t (xs ++ u ∷ []) ≡ to_write_from (suc n) t xs → to_write_from (suc n) (past_lines t x) (xs ++ u ∷ []) ≡ to_write_from (suc n) (past_lines t x) xs →
+        (if b then to_write_from (suc n) t (xs ++ u ∷ []) else settled_at n t x ∷ to_write_from (suc n) (past_lines t x) (xs ++ u ∷ []))
+        ≡ (if b then to_write_from (suc n) t xs else settled_at n t x ∷ to_write_from (suc n) (past_lines t x) xs)
+    step true here behind = here
+    step false here behind = ap (λ ys. settled_at n t x ∷ ys) behind
 
-pub to_write-new : (n m : ℕ) (t : Tables) (xs : List UnitValue) (u : UnitValue) → m ≡ n + length xs → u.is_written ≡ false → to_write_from n t (xs ++ u ∷ []) ≡ to_write_from n t xs ++ record { id = m; unit = settled u; tables = t } ∷ []
-to_write-new n m t [] u e h = by_mark n t u [] false h ∙ ap (λ k. let x : Numbered = record { id = k; unit = settled u; tables = t } in x ∷ []) (let k : n ≡ m = omega (arith, e) in k)
-to_write-new n m t (x ∷ xs) u e h = step x.is_written refl (to_write-new (suc n) m t xs u (omega (arith, e)) h)
+pub to_write-new : (n m : ℕ) (t : Elsewhere) (xs : List UnitValue) (u : UnitValue) → m ≡ n + length xs → u.is_written ≡ false → to_write_from n t (xs ++ u ∷ []) ≡ to_write_from n t xs ++ settled_at m (past_all t xs) u ∷ []
+to_write-new n m t [] u e h = by_mark n t u [] false h ∙ ap (λ k. settled_at k t u ∷ []) (let k : n ≡ m = omega (arith, e) in k)
+to_write-new n m t (x ∷ xs) u e h = step x.is_written refl (to_write-new (suc n) m t xs u (omega (arith, e)) h) (to_write-new (suc n) m (past_lines t x) xs u (omega (arith, e)) h)
   where
-    step : (b : Bool) → x.is_written ≡ b → to_write_from (suc n) t (xs ++ u ∷ []) ≡ to_write_from (suc n) t xs ++ record { id = m; unit = settled u; tables = t } ∷ [] →
-        (if b then to_write_from (suc n) t (xs ++ u ∷ []) else record { id = n; unit = settled x; tables = t } ∷ to_write_from (suc n) t (xs ++ u ∷ [])) ≡ (if b then to_write_from (suc n) t xs else record { id = n; unit = settled x; tables = t } ∷ to_write_from (suc n) t xs) ++ record { id = m; unit = settled u; tables = t } ∷ []
-    step true is more = more
-    step false is more = ap (λ ys. record { id = n; unit = settled x; tables = t } ∷ ys) more
+    step : (b : Bool) → x.is_written ≡ b →
+        to_write_from (suc n) t (xs ++ u ∷ []) ≡ to_write_from (suc n) t xs ++ settled_at m (past_all t xs) u ∷ [] →
+        to_write_from (suc n) (past_lines t x) (xs ++ u ∷ []) ≡ to_write_from (suc n) (past_lines t x) xs ++ settled_at m (past_all (past_lines t x) xs) u ∷ [] →
+        to_write_from n t (x ∷ xs ++ u ∷ []) ≡ to_write_from n t (x ∷ xs) ++ settled_at m (past_all (past_elsewhere t x) xs) u ∷ []
+    step true is here behind =
+        by_mark n t x (xs ++ u ∷ []) true is
+        ∙ here
+        ∙ ap (λ s. to_write_from (suc n) t xs ++ settled_at m (past_all s xs) u ∷ []) (sym (past-old t x is))
+        ∙ ap (λ ys. ys ++ settled_at m (past_all (past_elsewhere t x) xs) u ∷ []) (sym (by_mark n t x xs true is))
+    step false is here behind =
+        by_mark n t x (xs ++ u ∷ []) false is
+        ∙ ap (λ ys. settled_at n t x ∷ ys) behind
+        ∙ ap (λ s. settled_at n t x ∷ (to_write_from (suc n) (past_lines t x) xs ++ settled_at m (past_all s xs) u ∷ [])) (sym (past-new t x is))
+        ∙ ap (λ ys. ys ++ settled_at m (past_all (past_elsewhere t x) xs) u ∷ []) (sym (by_mark n t x xs false is))
 
 -- where all are written, there is nothing to write
-pub to_write-none : (n : ℕ) (t : Tables) (us : List UnitValue) → All (λ u. u.is_written ≡ true) us → to_write_from n t us ≡ []
+pub to_write-none : (n : ℕ) (t : Elsewhere) (us : List UnitValue) → All (λ u. u.is_written ≡ true) us → to_write_from n t us ≡ []
 to_write-none n t [] h = refl
 to_write-none n t (u ∷ us) h = by_mark n t u us true (All-head (λ v. v.is_written ≡ true) u us h) ∙ to_write-none (suc n) t us (All-tail (λ v. v.is_written ≡ true) u us h)
 

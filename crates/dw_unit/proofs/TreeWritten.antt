@@ -19,14 +19,16 @@ use Rattle.dw_entries.specs.Tree.{preorder, children_in}
 use Rattle.dw_entries.proofs.Tagged.{root_within}
 use Rattle.dw_entries.proofs.TreeLaws.{preorder_one_tree}
 use Rattle.dw_entries.specs.Targets.{Tables}
-use Rattle.dw_unit.specs.Causes.{Because, TreeFails, RoomRefused}
+use Rattle.dw_unit.specs.Causes.{Because, TreeFails, LayoutRefused}
 use Rattle.dw_unit.specs.Coded.{shapes_of}
+use Rattle.dw_unit.specs.Early.{is_forward, tree_is_forward}
 use Rattle.dw_unit.specs.Places.{Placement, targets_of}
 use Rattle.dw_unit.specs.UnitFaults.{is_encodable, header_fails, marks_fail, unit_fails}
 use Rattle.dw_unit.specs.UnitText.{tree_draft, unit_draft, unit_length}
 use Rattle.dw_unit.specs.Valid.{IsWritableTree}
 use Rattle.dw_unit.specs.Whole.{tree_declared, tree_size, tree_table, IsTreePlacement, TreeHasNoRoom}
 use Rattle.dw_unit.proofs.DistinctShapes.{tree_shapes-found}
+use Rattle.dw_unit.proofs.EarlyLaws.{forward_quiet}
 use Rattle.dw_unit.proofs.ReadMarks.{tree_draft-size}
 use Rattle.dw_unit.proofs.TreeSteps.{header_fault, marks_fault, in_header}
 
@@ -64,31 +66,38 @@ module _ (e : Encoding) (es : List EntryValue) (t : Tables) (p : Placement) (pla
   length_is = ap (unit_length e) (tree_draft-size e es t p)
 
   -- a tree without a fault where its entries stand can be written
-  pub tree_writable : IsTrue (is_encodable e) → (end : ℕ) → end ≡ header_size e + tree_size e es p.place → end < 2 ^ 64 →
+  pub tree_writable : IsTrue (is_encodable e) → ((err : Error) → IsFalse (tree_is_forward e es err)) → (end : ℕ) → end ≡ header_size e + tree_size e es p.place → end < 2 ^ 64 →
       IsTrue (length_fits e.format (unit_length e (tree_draft e es (targets_of t p)).size)) → ((err : Error) → IsFalse (unit_fails e es table (targets_of t p) plain err)) → IsWritableTree plain e es t
-  tree_writable encodable end is small fits sound = record {
+  tree_writable encodable early end is small fits sound = record {
     encodable = encodable;
     places = p;
     placed = placed;
     room = omega (arith, is);
     fits = ap (length_fits e.format) (sym length_is) ∙ fits;
+    early = early;
     sound = λ err. second (header_fault e es table (targets_of t p) plain err) (marks_fault e es table (targets_of t p) plain (preorder es) err) (sound err);
   }
 
   -- a fault of the unit where its entries stand
   pub faulty : (err : Error) → IsTrue (unit_fails e es table (targets_of t p) plain err) → TreeFails e es t table plain err
-  faulty err h = inr (record { places = p; placed = placed; fails = h })
+  faulty err h = inr (inr (record { places = p; placed = placed; fails = h }))
 
   -- a length that is too long
   pub too_long_faulty : IsTrue (not (length_fits e.format (unit_length e (tree_size e es p.place)))) → TreeFails e es t table plain errors.InitialLengthOverflow
   too_long_faulty h =
       faulty errors.InitialLengthOverflow (in_header e es table (targets_of t p) plain errors.InitialLengthOverflow (ap (λ n. not (length_fits e.format n)) length_is ∙ h))
 
--- no room for the entries
-pub room_refused : (rise : Type 0) (e : Encoding) (es : List EntryValue) (t : Tables) (table : ℕ) (plain : Bool) (full : Type 0) → (full → TreeHasNoRoom e es) → (err : Error) → RoomRefused full err → Because rise (TreeFails e es t table plain) err
-room_refused rise e es t table plain full f errors.NoMemory h = tt
-room_refused rise e es t table plain full f errors.ValueTooLarge h = inl (refl, f h)
-room_refused rise e es t table plain full f err h = absurd h
+-- no size of the tree hangs on a later entry
+pub tree_early : (e : Encoding) (es : List EntryValue) (ms : List (Mark ℕ)) → ms ≡ preorder es → ((err : Error) → IsFalse (is_forward e es [] ms err)) → (err : Error) → IsFalse (tree_is_forward e es err)
+tree_early e es ms tree h err = subst (λ l. IsFalse (is_forward e es [] l err)) tree (h err)
+
+-- no room for the entries, or a size that hangs on a later one
+pub room_refused : (rise : Type 0) (e : Encoding) (es : List EntryValue) (t : Tables) (table : ℕ) (plain : Bool) (full : Type 0) → (full → TreeHasNoRoom e es) → (ms : List (Mark ℕ)) → ms ≡ preorder es →
+    (err : Error) → LayoutRefused full (is_forward e es [] ms) err → Because rise (TreeFails e es t table plain) err
+room_refused rise e es t table plain full f ms tree errors.NoMemory h = tt
+room_refused rise e es t table plain full f ms tree errors.ValueTooLarge h = inl (refl, f h)
+room_refused rise e es t table plain full f ms tree errors.WriteFault h = absurd (let k : true ≡ false = sym h ∙ forward_quiet e es [] ms in cc)
+room_refused rise e es t table plain full f ms tree err h = inr (inl (subst (λ l. IsTrue (is_forward e es [] l err)) tree h))
 
 -- the place of the table of a unit without a fault has room
 pub place_fits : (e : Encoding) (es : List EntryValue) (table : ℕ) (u : UnitTargets) (plain : Bool) → ((err : Error) → IsFalse (unit_fails e es table u plain err)) → IsTrue (offset_fits plain (word_of e.format) table)

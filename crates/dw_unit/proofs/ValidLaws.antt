@@ -10,6 +10,8 @@ use Rattle.dw_writer.specs.Causes.{offset_fits}
 use Rattle.dw_entries.specs.Entries.{EntryValue}
 use Rattle.dw_entries.specs.Tree.{preorder}
 use Rattle.dw_entries.specs.Targets.{Tables}
+use Rattle.dw_unit.specs.Early.{tree_is_forward}
+use Rattle.dw_unit.specs.Elsewhere.{Elsewhere, unit_tables, line_fails}
 use Rattle.dw_unit.specs.Causes.{TreeFails, UnitFails}
 use Rattle.dw_unit.specs.Places.{Placement, targets_of}
 use Rattle.dw_unit.specs.UnitFaults.{is_version, is_encodable, encoding_fails, fields_fail, header_fails, marks_fail, unit_fails}
@@ -59,15 +61,17 @@ module _ (plain : Bool) (e : Encoding) (es : List EntryValue) (t : Tables) (tabl
   tree_unfailing w err fails = by_case fails
     where
       by_case : TreeFails e es t table plain err → ⊥
-      by_case (inl full) = room_enough e es w.places w.placed w.room full.1
-      by_case (inr f) =
+      by_case (inl full) = room_enough e es w.places w.early w.placed w.room full.1
+      by_case (inr (inl forward)) = not_both (tree_is_forward e es err) forward (w.early err)
+      by_case (inr (inr f)) =
           not_both (unit_fails e es table (targets_of t f.places) plain err) f.fails
-          (sound_there w f.places (placement-same w.places f.places (one_placement e es w.places f.places w.placed f.placed)) err)
+          (sound_there w f.places (placement-same w.places f.places (one_placement e es w.places f.places w.early w.placed f.placed)) err)
 
 -- A unit that can be written, and whose table's place has room, has no cause to be refused.
-pub unit_unfailing : (plain : Bool) (t : Tables) (u : UnitValue) (table : ℕ) → IsTrue (offset_fits plain (word_of u.encoding.format) table) → IsWritable plain t u → (err : Error) → UnitFails u t table plain err → ⊥
+pub unit_unfailing : (plain : Bool) (t : Elsewhere) (u : UnitValue) (table : ℕ) → IsTrue (offset_fits plain (word_of u.encoding.format) table) → IsWritable plain t u → (err : Error) → UnitFails u t table plain err → ⊥
 unit_unfailing plain t u table room w err fails = by_case fails
   where
     by_case : UnitFails u t table plain err → ⊥
-    by_case (inl h) = encoding_sound u.encoding err w.encodable h
-    by_case (inr h) = tree_unfailing plain u.encoding (settled u).entries t table room w err h
+    by_case (inl h) = encoding_sound u.encoding err w.1.encodable h
+    by_case (inr (inl h)) = not_both (line_fails t u err) h (w.0 err)
+    by_case (inr (inr h)) = tree_unfailing plain u.encoding (settled u).entries (unit_tables t u) table room w.1 err h

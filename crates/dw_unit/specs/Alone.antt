@@ -7,6 +7,7 @@ use Rattle.dw_base.specs.declared.address.DebugInfoRef.TheVariants as refs
 use Rattle.dw_base.specs.declared.error.Error.{Error}
 use Rattle.dw_base.specs.declared.error.Error.TheVariants as errors
 use Rattle.dw_writer.specs.Drafts.{Info}
+use Rattle.dw_expr.specs.References.{nodes_refer}
 use Rattle.dw_writer.specs.Meaning.{Meaning}
 use Rattle.dw_writer.specs.Sections.{SomeHasRisen}
 use Rattle.dw_writer.specs.declared.sections.Sections.{Sections}
@@ -15,6 +16,7 @@ use Rattle.dw_entries.specs.declared.value.AttributeValue.{AttributeValue}
 use Rattle.dw_entries.specs.declared.value.AttributeValue.TheVariants as values
 use Rattle.dw_entries.specs.Entries.{EntryValue, entry_at}
 use Rattle.dw_entries.specs.Targets.{Tables}
+use Rattle.dw_unit.specs.Elsewhere.{Elsewhere}
 use Rattle.dw_entries.specs.Tree.{preorder}
 use Rattle.dw_unit.specs.Built.{Numbered}
 use Rattle.dw_unit.specs.Causes.{Because, UnitFails}
@@ -24,9 +26,10 @@ use Rattle.dw_unit.specs.UnitValue.{UnitValue}
 use Rattle.dw_unit.specs.Whole.{settled}
 use Rattle.dw_unit.specs.Written.{AppendsUnits}
 
--- a value names an entry by its place in .debug_info
+-- a value names an entry by its place in .debug_info, alone or in an expression
 abbrev pub is_info_reference : AttributeValue → Bool
 is_info_reference (values.DebugInfoRef (refs.Entry u i)) = true
+is_info_reference (values.Exprloc x) = nodes_refer x
 is_info_reference v = false
 
 -- some value of these attributes does
@@ -58,10 +61,10 @@ pub record AppendsAlone {W : Type 0} (meaning : W → Meaning) (old new : Sectio
   pub offsets_are : option_map offsets_in offsets ≡ Some (kept_offsets kept)
 
 -- a unit fails by itself, or names an entry by its place in .debug_info
-abbrev pub AloneFails : UnitValue → Tables → ℕ → Bool → Error → Type 0
+abbrev pub AloneFails : UnitValue → Elsewhere → ℕ → Bool → Error → Type 0
 AloneFails u t table is_plain err = UnitFails u t table is_plain err ⊎ ((err ≡ errors.InvalidReference) × IsTrue (has_info_reference u))
 
 -- why a unit alone is refused
-abbrev pub AloneRefused : {W : Type 0} → (W → Meaning) → Sections W → Sections W → UnitValue → Tables → Error → Type 0
+abbrev pub AloneRefused : {W : Type 0} → (W → Meaning) → Sections W → Sections W → UnitValue → Elsewhere → Error → Type 0
 AloneRefused meaning old new u t err =
     Because (SomeHasRisen meaning old new) (AloneFails u t (meaning old.debug_abbrev.0).size (meaning old.debug_info.0).is_plain) err

@@ -10,7 +10,8 @@ use Rattle.dw_entries.specs.Tree.{preorder}
 use Rattle.dw_unit.specs.Places.{Placement, Offsets, found, targets_of, info_from}
 use Rattle.dw_unit.specs.Read.{read_tree}
 use Rattle.dw_unit.specs.UnitValue.{UnitValue}
-use Rattle.dw_unit.specs.Whole.{tree_declared, tree_size, tree_table}
+use Rattle.dw_unit.specs.Elsewhere.{Elsewhere, unit_tables, past_lines}
+use Rattle.dw_unit.specs.Whole.{tree_declared, tree_size, tree_table, settled}
 
 -- where the row is read that has the same number in preorder as an entry
 abbrev pub place_read : List (Mark ℕ) → List Row → ℕ → ℕ
@@ -39,12 +40,16 @@ pub record Numbered : Type 0 where
   pub unit : UnitValue
   pub tables : Tables
 
--- units in the order of their numbers, the first of which has this one
-abbrev pub numbered_from : ℕ → Tables → List UnitValue → List Numbered
-numbered_from n t [] = []
-numbered_from n t (u ∷ us) = record { id = n; unit = u; tables = t } ∷ numbered_from (suc n) t us
+-- a unit as it is written, which finds this elsewhere
+abbrev pub settled_at : ℕ → Elsewhere → UnitValue → Numbered
+settled_at n t u = record { id = n; unit = settled u; tables = unit_tables t u }
 
-abbrev pub numbered : Tables → List UnitValue → List Numbered
+-- units in the order of their numbers, the first of which has this one, as they are written
+abbrev pub numbered_from : ℕ → Elsewhere → List UnitValue → List Numbered
+numbered_from n t [] = []
+numbered_from n t (u ∷ us) = settled_at n t u ∷ numbered_from (suc n) (past_lines t u) us
+
+abbrev pub numbered : Elsewhere → List UnitValue → List Numbered
 numbered t us = numbered_from 0 t us
 
 -- where the entries of a unit are read
@@ -142,5 +147,5 @@ abbrev pub at_zero : Layout
 at_zero = record { starts = []; own_start = 0; symbols = [] }
 
 -- one file whose sections are whole, as a plain writer holds them
-abbrev pub whole_file : Tables → List UnitValue → File
+abbrev pub whole_file : Elsewhere → List UnitValue → File
 whole_file t us = record { units = numbered t us; layout = at_zero }

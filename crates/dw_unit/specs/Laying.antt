@@ -1,5 +1,5 @@
 -- A layout on its way through the marks of a tree.
-use Rattle.std.specs.Prelude.{◌≡◌, ℕ, Bool, true, false, List, [], ◌∷◌, reverse, replicate, slice_index, slice_set}
+use Rattle.std.specs.Prelude.{◌≡◌, ℕ, Bool, Option, true, false, List, [], ◌∷◌, reverse, replicate, slice_index, slice_set}
 use Rattle.dw_base.specs.Entries.{Mark, Open, Null}
 use Rattle.dw_base.specs.declared.common.Encoding.{Encoding}
 use Rattle.dw_entries.specs.Entries.{EntryValue, entry_at, is_parent}
@@ -50,6 +50,10 @@ stepped es Null to v = closed_in v.parents to v
 abbrev pub mark_size : Encoding → List EntryValue → ℕ → Mark ℕ → (ℕ → ℕ) → ℕ
 mark_size e es code (Open i) place = entry_size e (found place) code (entry_at es i)
 mark_size e es code Null place = 1
+
+-- the places that a layout has so far
+abbrev pub known_in : LayoutValue → ℕ → Option ℕ
+known_in v = found (placement_in v).place
 
 -- places that keep those which a layout has so far
 abbrev pub Extends : LayoutValue → (ℕ → ℕ) → Type 0

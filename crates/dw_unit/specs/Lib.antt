@@ -4,11 +4,12 @@ pub mod Shapes
 pub mod Coded
 pub mod DistinctShapes
 pub mod Places
-pub mod Strings
+pub mod Elsewhere
 pub mod TargetsAt
 pub mod UnitIds
 pub mod Laid
 pub mod Laying
+pub mod Early
 pub mod Whole
 pub mod UnitText
 pub mod UnitFaults

@@ -1,11 +1,12 @@
 -- Units that were written, with the places that they keep.
-use Rattle.std.specs.Prelude.{◌≡◌, ℕ, ◌+◌, ◌<◌, ◌^◌, List, [], ◌∷◌, ◌++◌, length, map, All, Option, Some, None, Bool, true, ◌==◌, slice_get, IsTrue, if◌then◌else◌}
+use Rattle.std.specs.Prelude.{◌≡◌, ℕ, ◌+◌, ◌<◌, ◌^◌, List, [], ◌∷◌, ◌++◌, length, map, All, Option, Some, None, Bool, true, ◌==◌, slice_get, IsTrue, IsFalse, if◌then◌else◌}
 use Rattle.std.specs.List.{flat_map}
 use Rattle.std.specs.Option.{option_map}
 use Rattle.dw_base.specs.Numbers.{◌>>=◌, length_fits}
 use Rattle.dw_base.specs.Entries.{Mark, Open, Null, is_one_tree}
 use Rattle.dw_base.specs.Spellable.{AreDeclarations}
 use Rattle.dw_base.specs.declared.common.Encoding.{Encoding}
+use Rattle.dw_base.specs.declared.error.Error.{Error}
 use Rattle.dw_writer.specs.Texts.{Text, followed}
 use Rattle.dw_writer.specs.Meaning.{Meaning, Layout, IsSameWriter, IsTidy, Adds, resolved}
 use Rattle.dw_writer.specs.declared.sections.Sections.{Sections}
@@ -16,6 +17,7 @@ use Rattle.dw_entries.specs.Targets.{Tables, HaveInfoPlaces}
 use Rattle.dw_entries.specs.Tree.{preorder, children_in}
 use Rattle.dw_entries.specs.Values.{IsRanged}
 use Rattle.dw_unit.specs.Built.{Numbered, Starts, table_size, at_zero}
+use Rattle.dw_unit.specs.Early.{tree_is_forward}
 use Rattle.dw_unit.specs.Places.{Placement, Offsets, OffsetsValue, offsets_in, found, placement_of, targets_of, info_from}
 use Rattle.dw_unit.specs.declared.places.Places.{Places}
 use Rattle.dw_unit.specs.UnitText.{tree_draft, unit_draft, unit_length}
@@ -98,6 +100,7 @@ AreMarksRanged e es ms = All (IsMarkRanged e es) ms
 pub record Stands (at : Starts) (e : Encoding) (es : List EntryValue) (t : Tables) (k : Kept) : Type 0 where
   pub starts : k.starts ≡ at
   pub placed : IsTreePlacement e es k.places
+  pub early : (err : Error) → IsFalse (tree_is_forward e es err)
   pub draft : IsDraft (draft_of e es t k)
   pub encodable : IsTrue (is_encodable e)
   pub fits : IsTrue (length_fits e.format (unit_length e (tree_draft e es (targets_of t k.places)).size))

@@ -29,6 +29,10 @@ targets_of t p = record { place = found p.place; past = p.past; tables = t }
 abbrev pub placement_of : Places → Placement
 placement_of p = record { place = slice_index p.places.items; past = slice_index p.pasts.items }
 
+-- the places that are known there
+abbrev pub known_at : Places → ℕ → Option ℕ
+known_at p = found (placement_of p).place
+
 -- each place fits a word
 abbrev pub FitsWords : Format → Placement → Type 0
 FitsWords format p = (i : ℕ) → IsTrue (fits (word_of format) (p.place i)) × IsTrue (fits (word_of format) (p.past i))

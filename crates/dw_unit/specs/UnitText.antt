@@ -16,6 +16,8 @@ use Rattle.dw_writer.specs.Texts.{num_text}
 use Rattle.dw_writer.specs.Meaning.{Model}
 use Rattle.dw_writer.specs.SectionTexts.{bytes_text, offset_text, after}
 use Rattle.dw_writer.specs.Drafts.{Draft, no_draft, whole, then_draft, all_drafts, reference}
+use Rattle.dw_expr.specs.Trees.{Node}
+use Rattle.dw_expr.specs.Spelling.{bytes, expression_draft}
 use Rattle.dw_entries.specs.declared.attribute.Attribute.{Attribute}
 use Rattle.dw_entries.specs.Entries.{EntryValue, entry_at, has_sibling}
 use Rattle.dw_entries.specs.Targets.{UnitTargets}
@@ -58,6 +60,10 @@ table_text w section place big l = place >>= λ n. offset_text w section n big l
 abbrev pub info_draft : ℕ → InfoRef → Draft
 info_draft width (refs.Symbol s) = whole width (λ big l. None)
 info_draft width (refs.Entry u i) = reference width u i
+
+-- an expression, its length before it
+abbrev pub counted_draft : Encoding → (ℕ → Option ℕ) → List Node → Draft
+counted_draft e place ns = let d = expression_draft e place ns in then_draft (bytes (uleb d.size)) d
 
 -- the values of attributes
 abbrev pub attribute_draft : Encoding → UnitTargets → Attribute → Draft

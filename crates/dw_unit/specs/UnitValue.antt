@@ -1,7 +1,7 @@
 -- A unit, as contracts see it.
 use Rattle.std.specs.Prelude.{◌≡◌, ◌≢◌, ℕ, ◌<◌, Option, None, List, [], ◌∷◌, length, Bool, true, false, IsTrue, if◌then◌else◌}
 use Rattle.dw_base.specs.declared.common.Encoding.{Encoding}
-use Rattle.dw_unit.specs.declared.line_program.LineProgram.{LineProgram}
+use Rattle.dw_line.specs.LinePrograms.{LineProgramValue, no_line_program}
 use Rattle.dw_entries.specs.declared.value.AttributeValue.{AttributeValue}
 use Rattle.dw_entries.specs.Entries.{EntryValue, new_root, with_changed, value_of}
 use Rattle.std.specs.Option.{option_map}
@@ -11,7 +11,7 @@ use Rattle.dw_entries.specs.Arena.{EntriesValue, IsArena, is_reserved as is_rese
 -- The ids below `reserved` were handed out. A unit that was written and not skipped keeps where its entries stand.
 pub record UnitValue : Type 0 where
   pub encoding : Encoding
-  pub line_program : LineProgram
+  pub line_program : LineProgramValue
   pub entries : List EntryValue
   pub reserved : ℕ
   pub is_written : Bool
@@ -19,7 +19,7 @@ pub record UnitValue : Type 0 where
   pub offsets : Option OffsetsValue
 
 -- as it is made
-abbrev pub new_unit : Encoding → LineProgram → UnitValue
+abbrev pub new_unit : Encoding → LineProgramValue → UnitValue
 new_unit encoding line_program =
     record { encoding = encoding; line_program = line_program; entries = new_root ∷ []; reserved = 1; is_written = false; is_freed = false; offsets = None }
 
@@ -60,10 +60,6 @@ value_in u i n = value_of u.entries i n
 -- all but the value under a name in one entry have the values that they had
 abbrev pub KeepsOtherValues : UnitValue → UnitValue → ℕ → ℕ → Type 0
 KeepsOtherValues old new i n = (m : ℕ) → m ≢ n → value_in new i m ≡ value_in old i m
-
--- the line program that there is where there is none
-abbrev pub no_line_program : LineProgram
-no_line_program = record { 0 = tt }
 
 -- a unit that gave its line program and its entries up
 abbrev pub freed : UnitValue → UnitValue

@@ -9,8 +9,10 @@ use Rattle.dw_writer.specs.Meaning.{Meaning}
 use Rattle.dw_writer.specs.declared.sections.Sections.{Sections}
 use Rattle.dw_entries.specs.Entries.{EntryValue}
 use Rattle.dw_entries.specs.Targets.{Tables}
+use Rattle.dw_unit.specs.Elsewhere.{Elsewhere, unit_tables, LinesAreSound, past_elsewhere}
 use Rattle.dw_entries.specs.Tree.{preorder}
 use Rattle.dw_unit.specs.Built.{Numbered, Starts}
+use Rattle.dw_unit.specs.Early.{tree_is_forward}
 use Rattle.dw_unit.specs.Pending.{Kept, units_draft, info_of, starts_of, AreInRow, KeepPlaces, Pending}
 use Rattle.dw_unit.specs.Places.{Placement, targets_of}
 use Rattle.dw_unit.specs.UnitText.{unit_length}
@@ -19,29 +21,30 @@ use Rattle.dw_unit.specs.UnitFaults.{is_encodable, marks_fail, holes_fail}
 use Rattle.dw_unit.specs.UnitValue.{UnitValue}
 use Rattle.dw_unit.specs.Written.{to_write, past_table}
 
--- A tree can be written into a writer that is plain or not: its header and its length have a spelling, and where its entries
--- stand no value has a fault.
+-- A tree can be written into a writer that is plain or not: its header and its length have a spelling, no size hangs on a later
+-- entry, and where its entries stand no value has a fault.
 pub record IsWritableTree (is_plain : Bool) (e : Encoding) (es : List EntryValue) (t : Tables) : Type 0 where
   pub encodable : IsTrue (is_encodable e)
   pub places : Placement
   pub placed : IsTreePlacement e es places
   pub room : header_size e + tree_size e es places.place < 2 ^ 64
   pub fits : IsTrue (length_fits e.format (unit_length e (tree_size e es places.place)))
+  pub early : (err : Error) → IsFalse (tree_is_forward e es err)
   pub sound : (err : Error) → IsFalse (marks_fail e es (targets_of t places) is_plain (preorder es) err)
 
--- the same of a unit, settled
-abbrev pub IsWritable : Bool → Tables → UnitValue → Type 0
-IsWritable is_plain t u = IsWritableTree is_plain u.encoding (settled u).entries t
+-- the same of a unit, settled, with its line program, where that is in use
+abbrev pub IsWritable : Bool → Elsewhere → UnitValue → Type 0
+IsWritable is_plain t u = LinesAreSound t u × IsWritableTree is_plain u.encoding (settled u).entries (unit_tables t u)
 
 -- the same of a unit whose table is to stand at a place
-abbrev pub IsWritableAt : Bool → Tables → ℕ → UnitValue → Type 0
+abbrev pub IsWritableAt : Bool → Elsewhere → ℕ → UnitValue → Type 0
 IsWritableAt is_plain t table u = IsWritable is_plain t u × IsTrue (offset_fits is_plain (word_of u.encoding.format) table)
 
--- Each unit of a table that isn't written yet can be written where its abbreviations stand behind those of the units before
--- it.
-abbrev pub AreWritable : Bool → Tables → ℕ → List UnitValue → Type 0
+-- Each unit of a table that isn't written yet can be written where its abbreviations and its line program stand behind those
+-- of the units before it.
+abbrev pub AreWritable : Bool → Elsewhere → ℕ → List UnitValue → Type 0
 AreWritable is_plain t at [] = Unit {0}
-AreWritable is_plain t at (u ∷ us) = ((u.is_written ≡ true) ⊎ IsWritableAt is_plain t at u) × AreWritable is_plain t (past_table at u) us
+AreWritable is_plain t at (u ∷ us) = ((u.is_written ≡ true) ⊎ IsWritableAt is_plain t at u) × AreWritable is_plain (past_elsewhere t u) (past_table at u) us
 
 -- Every reference across these units leads to an entry of one of them, whose place has room.
 pub record ReferencesLead (is_plain : Bool) (at : Starts) (us : List Numbered) : Type 0 where
@@ -51,7 +54,7 @@ pub record ReferencesLead (is_plain : Bool) (at : Starts) (us : List Numbered) :
 
 -- The units of a table can be written behind those that are pending, whose places the table keeps: each unit that isn't
 -- written yet can be, and every reference across all of them leads to an entry of one of them, whose place has room.
-pub record CanFollow {W : Type 0} (meaning : W → Meaning) (old : Sections W) (table : List UnitValue) (t : Tables) : Type 0 where
+pub record CanFollow {W : Type 0} (meaning : W → Meaning) (old : Sections W) (table : List UnitValue) (t : Elsewhere) : Type 0 where
   pub before : Sections W
   pub units : List Numbered
   pub kept : List Kept

@@ -10,6 +10,7 @@ use Rattle.dw_unit.specs.DistinctShapes.{entry_shapes, distinct_shapes}
 use Rattle.dw_unit.specs.Laid.{sized, sizes_of, IsPlacement, HasNoRoom}
 use Rattle.dw_unit.specs.Places.{Placement, OffsetsValue}
 use Rattle.dw_entries.specs.Settled.{settled_entries}
+use Rattle.dw_unit.specs.Elsewhere.{lines_in_use}
 use Rattle.dw_unit.specs.UnitValue.{UnitValue}
 
 -- the different shapes of the tree's entries, in the order in which each first comes
@@ -35,9 +36,9 @@ IsTreePlacement e es p = IsPlacement (sized e es (tree_shapes e es)) es (header_
 abbrev pub TreeHasNoRoom : Encoding → List EntryValue → Type 0
 TreeHasNoRoom e es = HasNoRoom (sized e es (tree_shapes e es)) es (header_size e) (preorder es)
 
--- a unit with its root's base types first
+-- a unit whose root names its line program, where that is in use, and has its base types first
 abbrev pub settled : UnitValue → UnitValue
-settled u = record u { entries = settled_entries u.entries }
+settled u = record u { entries = settled_entries (lines_in_use u) u.entries }
 
 -- as it is once it was written, with the places that it keeps
 abbrev pub marked_written : Option OffsetsValue → UnitValue → UnitValue

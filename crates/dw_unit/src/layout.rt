@@ -1,14 +1,17 @@
 //! The places of a unit's entries, found before the first byte is written.
 
-ghost use Rattle.std.specs.Prelude.{◌≡◌, ◌+◌, ◌<◌, ◌≤◌, ◌^◌, ◌++◌, ◌∷◌, [], ℕ, Option, true, length, map, All, IfOk, OnOk, IfErr};
+ghost use Rattle.std.specs.Prelude.{◌≡◌, ◌+◌, ◌<◌, ◌≤◌, ◌^◌, ◌++◌, ◌∷◌, [], ℕ, Option, true, length, map, All, IsFalse, IfOk, OnOk, IfErr};
 ghost use Rattle.dw_base.specs.Entries.{Open, Null, closes};
 ghost use Rattle.dw_base.specs.Spelling.{header_size as size_of_header};
-ghost use Rattle.dw_base.specs.declared.error.Error.TheVariants.{NoMemory, ValueTooLarge};
+ghost use Rattle.dw_base.specs.declared.error.Error.{Error as AnError};
+ghost use Rattle.dw_base.specs.declared.error.Error.TheVariants.{NoMemory};
 ghost use Rattle.dw_entries.specs.Tree.{AreIn, IsIn, mark_of, marks, children_in, has_entry, are_entries_distinct};
-ghost use Rattle.dw_unit.specs.Causes.{RoomRefused};
+ghost use Rattle.dw_entries.specs.Values.{KeepsPlaces};
+ghost use Rattle.dw_unit.specs.Causes.{RoomRefused, LayoutRefused};
 ghost use Rattle.dw_unit.specs.Coded.{shapes_of, code_at};
 ghost use Rattle.dw_unit.specs.Laid.{values_size as size_of_values, entry_size as size_of_entry, sized, sizes_of, IsPlacement, HasNoRoom};
-ghost use Rattle.dw_unit.specs.Places.{placement_of, has_place};
+ghost use Rattle.dw_unit.specs.Early.{attributes_unplaced, mark_unplaced, is_forward, ValuesUnsized, EntryUnsized};
+ghost use Rattle.dw_unit.specs.Places.{placement_of, known_at, has_place};
 
 use crate::places::Places;
 use dw_base::{Encoding, Result, uleb128_size};
@@ -27,35 +30,46 @@ fn header_size(encoding: Encoding) -> u64
 }
 
 /// The bytes of values.
-fn values_size(encoding: Encoding, attributes: &[Attribute]) -> Result<u64>
+fn values_size(encoding: Encoding, attributes: &[Attribute], places: &Places) -> Result<u64>
     ensures ok { IfOk result
-        (λ n. (place : ℕ → Option ℕ) → n ≡ size_of_values encoding place attributes.now) }
+        (λ n. (place : ℕ → Option ℕ) → KeepsPlaces (known_at places.now) place →
+        n ≡ size_of_values encoding place attributes.now) }
+    ensures sound { OnOk result
+        ((e : AnError) →
+        IsFalse (attributes_unplaced encoding (known_at places.now) attributes.now e)) }
     ensures err { IfErr result
-        (λ e. (e ≡ ValueTooLarge)
-        × ((place : ℕ → Option ℕ) → 2 ^ 64 ≤ size_of_values encoding place attributes.now)) }
+        (ValuesUnsized encoding (known_at places.now) attributes.now) }
 {
     let mut size: u64 = 0;
     for attribute in attributes {
-        let more = attribute.get().size(encoding)?;
+        let more = attribute.get().size(encoding, places)?;
         size = sum(size, more)?;
     }
     Ok(size)
 }
 
 /// The bytes of an entry with its code.
-fn entry_size(encoding: Encoding, entry: &DebuggingInformationEntry, code: u64) -> Result<u64>
+fn entry_size(
+    encoding: Encoding,
+    entry: &DebuggingInformationEntry,
+    code: u64,
+    places: &Places,
+) -> Result<u64>
     ensures ok { IfOk result
-        (λ n. (place : ℕ → Option ℕ) → n ≡ size_of_entry encoding place code entry.now) }
+        (λ n. (place : ℕ → Option ℕ) → KeepsPlaces (known_at places.now) place →
+        n ≡ size_of_entry encoding place code entry.now) }
+    ensures sound { OnOk result
+        ((e : AnError) →
+        IsFalse (attributes_unplaced encoding (known_at places.now) entry.now.attributes e)) }
     ensures err { IfErr result
-        (λ e. (e ≡ ValueTooLarge)
-        × ((place : ℕ → Option ℕ) → 2 ^ 64 ≤ size_of_entry encoding place code entry.now)) }
+        (EntryUnsized encoding (known_at places.now) code entry.now) }
 {
     let sibling = if entry.has_sibling() {
         encoding.format.word_size() as u64
     } else {
         0
     };
-    let values = values_size(encoding, entry.attributes())?;
+    let values = values_size(encoding, entry.attributes(), places)?;
     let behind_code = sum(sibling, values)?;
     sum(uleb128_size(code) as u64, behind_code)
 }
@@ -68,7 +82,7 @@ pub(crate) struct Layout {
 }
 
 impl Layout {
-    ghost use Rattle.dw_unit.specs.Laying.{layout_value, unlaid, begun, entered, closed_in, stepped, mark_size, Extends};
+    ghost use Rattle.dw_unit.specs.Laying.{layout_value, unlaid, begun, entered, closed_in, stepped, mark_size, known_in, Extends};
 
     /// Entries of which none has a place yet.
     fn new(alloc: Global, count: usize, start: u64) -> Result<Layout>
@@ -147,17 +161,22 @@ impl Layout {
             ((layout_value self.old).end
             + mark_size encoding entries.now code (mark_of item) place)
             (layout_value self.old)) }
+        ensures sound { OnOk result
+            ((e : AnError) → IsFalse (mark_unplaced encoding entries.now
+            (known_in (begun (mark_of item) (layout_value self.old))) (mark_of item) e)) }
         ensures err { IfErr result
-            (RoomRefused ((place : ℕ → ℕ) →
+            (LayoutRefused ((place : ℕ → ℕ) →
             Extends (begun (mark_of item) (layout_value self.old)) place →
             2 ^ 64 ≤ (layout_value self.old).end
-            + mark_size encoding entries.now code (mark_of item) place)) }
+            + mark_size encoding entries.now code (mark_of item) place)
+            (mark_unplaced encoding entries.now
+            (known_in (begun (mark_of item) (layout_value self.old))) (mark_of item))) }
     {
         match item {
             Item::Open(index) => {
                 let entry = &entries[index];
                 self.begin(index);
-                let size = entry_size(encoding, entry, code)?;
+                let size = entry_size(encoding, entry, code, &self.places)?;
                 self.enter(index, size, !entry.child_ids().is_empty())
             }
             Item::Null => self.close(),
@@ -166,7 +185,8 @@ impl Layout {
 }
 
 /// Finds the place of each entry among items that are one tree. Refused as `ValueTooLarge` where
-/// they come to no number of 64 bits.
+/// they come to no number of 64 bits, and as `UnsupportedExpressionForwardReference` where the size
+/// of an entry hangs on the place of a later one.
 pub(crate) fn lay_out(
     alloc: Global,
     encoding: Encoding,
@@ -193,10 +213,13 @@ pub(crate) fn lay_out(
         (λ p. (i : ℕ) → has_place (placement_of p) i ≡ has_entry (marks items.now) i) }
     ensures bounded { IfOk result
         (λ p. (i : ℕ) → ((placement_of p).place i ≤ p.end) × ((placement_of p).past i ≤ p.end)) }
+    ensures early { OnOk result
+        ((e : AnError) → IsFalse (is_forward encoding entries.now [] (marks items.now) e)) }
     ensures err { IfErr result
-        (RoomRefused (HasNoRoom
+        (LayoutRefused (HasNoRoom
         (sized encoding entries.now (shapes_of encoding entries.now [] (marks items.now)))
-        entries.now (size_of_header encoding) (marks items.now))) }
+        entries.now (size_of_header encoding) (marks items.now))
+        (is_forward encoding entries.now [] (marks items.now))) }
 {
     let mut layout = Layout::new(alloc, entries.len(), header_size(encoding))?;
     for (k, item) in items.iter().enumerate() {

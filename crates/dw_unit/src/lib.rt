@@ -7,7 +7,6 @@ mod compile_unit;
 mod entry_mut;
 mod header;
 mod layout;
-mod line_program;
 mod offsets;
 mod places;
 #[cfg(test)]
@@ -29,8 +28,9 @@ mod write_tests;
 pub use dw_entries::{
     AttrMut, Attribute, AttributeValue, AttributeWalk, AttrsMut, Bytes, DebuggingInformationEntry,
 };
+pub use dw_expr::{Expression, Operation};
+pub use dw_line::{FileInfo, LineProgram, LineRow, LineString};
 pub use entry_mut::EntryMut;
-pub use line_program::LineProgram;
 pub use offsets::UnitOffsets;
 pub use unit::Unit;
 pub use unit_iter::UnitIter;

@@ -7,6 +7,7 @@ ghost use Rattle.dw_base.specs.declared.error.Error.TheVariants.{InitialLengthOv
 ghost use Rattle.dw_unit.specs.Places.{placement_of, found};
 
 use dw_base::{Error, Format, Result, UnitEntryId};
+use dw_expr::EntryPlaces;
 
 /// The first place past a unit whose length has no spelling in the 32-bit format: the four bytes of
 /// the length, and 0xfffffff0 more (DWARF 5, 7.4).
@@ -21,6 +22,14 @@ pub(crate) struct Places {
     pub(crate) pasts: Vec<u64>,
     /// The place past the whole unit.
     pub(crate) end: u64,
+}
+
+impl EntryPlaces for Places {
+    ghost places = { λ p. found (placement_of p).place };
+
+    fn unit_place(&self, id: UnitEntryId) -> Option<u64> {
+        self.place(id)
+    }
 }
 
 impl Places {

@@ -1,12 +1,12 @@
 //! Units built by calls.
 
-use crate::line_program::LineProgram;
 use crate::unit::Unit;
 use dw_base::constants::{
     DW_AT_byte_size, DW_AT_name, DW_AT_type, DW_TAG_base_type, DW_TAG_compile_unit, DW_TAG_variable,
 };
 use dw_base::{Encoding, Format, UnitEntryId};
 use dw_entries::AttributeValue;
+use dw_line::LineProgram;
 use dw_writer::Bytes;
 use std::test::Fail;
 

@@ -1,7 +1,7 @@
 //! One unit.
 
 ghost use Rattle.std.specs.Prelude.{◌≡◌, ◌≢◌, ◌+◌, ◌<◌, true, false, length, None, Some, slice_get, OnOk, OnErr, IfOk, IfErr};
-ghost use Rattle.std.specs.Option.{option_map};
+ghost use Rattle.std.specs.Option.{is_some, option_map};
 ghost use Rattle.dw_base.specs.declared.error.Error.TheVariants.{NoMemory};
 ghost use Rattle.dw_entries.specs.Entries.{with_added};
 ghost use Rattle.dw_unit.specs.Places.{offsets_in};
@@ -10,10 +10,10 @@ ghost use Rattle.dw_unit.specs.UnitValue.{new_unit, offsets_of, is_reserved, IsR
 use crate::compile_unit::write_tree;
 use crate::entry_mut::EntryMut;
 use crate::header::check_encoding;
-use crate::line_program::LineProgram;
 use crate::offsets::UnitOffsets;
-use dw_base::{DwTag, Encoding, Error, Format, Result, UnitEntryId};
+use dw_base::{DebugLineOffset, DwTag, Encoding, Error, Format, Result, UnitEntryId};
 use dw_entries::{DebuggingInformationEntry, Entries};
+use dw_line::LineProgram;
 use dw_strings::{LineStringTable, StringTable};
 use dw_writer::{Sections, Writer};
 use std::alloc::Global;
@@ -33,8 +33,12 @@ pub struct Unit {
 
 impl Model for Unit {
     ghost use Rattle.dw_unit.specs.UnitValue.{UnitValue, IsKept};
+    ghost use Rattle.std.specs.Coded.{codes};
+    ghost use Rattle.dw_expr.specs.Codes.{node_code};
 
     ghost Value = { UnitValue };
+
+    ghost coded = { Prim.hlevel (codes, node_code) };
 
     ghost view = { λ u. record {
       encoding = u.encoding;
@@ -229,14 +233,16 @@ impl Unit {
 impl Unit {
     ghost use Rattle.dw_entries.specs.Settled.{settled_entries};
 
-    /// Moves the root's base types before its other children.
-    pub(crate) fn settle(&mut self) -> Result<()>
+    /// Names the line program in the root's `DW_AT_stmt_list` where there is one in use, else
+    /// deletes that, and moves the root's base types before its other children.
+    fn settle(&mut self, has_line_program: bool) -> Result<()>
         ensures ok { OnOk result
-            (self.new ≡ record self.old { entries = settled_entries self.old.entries }) }
+            (self.new ≡ record self.old
+            { entries = settled_entries has_line_program self.old.entries }) }
         ensures err { IfErr result (λ e. e ≡ NoMemory) }
         ensures kept { OnErr result (self.new ≡ self.old) }
     {
-        self.entries.settle()
+        self.entries.settle(has_line_program)
     }
 }
 
@@ -247,26 +253,33 @@ impl Unit {
     ghost use Rattle.dw_unit.specs.Whole.{settled, marked_written};
     ghost use Rattle.dw_unit.specs.Valid.{IsWritableAt};
     ghost use Rattle.dw_unit.specs.Pending.{PendsUnit, ExtendsPending};
-    ghost use Rattle.dw_unit.specs.Strings.{tables_in};
+    ghost use Rattle.dw_unit.specs.Elsewhere.{elsewhere, unit_tables, lines_in_use, line_place, line_fails, AppendsLine, LinesAreSound};
     ghost use Rattle.dw_unit.specs.Written.{KeepsOtherSections};
-    ghost use Rattle.dw_unit.specs.Causes.{UnitRefused};
+    ghost use Rattle.dw_unit.specs.Causes.{Because, Is, UnitRefused};
 
-    /// Writes the unit at the end of `.debug_info` and its abbreviation table at the end of
-    /// `.debug_abbrev` (DWARF 5, 7.5.1 to 7.5.3), and marks it written; from then on it keeps where
-    /// its entries stand. The root's base types move before its other children. References to
-    /// entries by their place in `.debug_info` are left open, with a fixup each in
-    /// `debug_info_fixups`, until `UnitTable::write` fills them in.
+    /// Writes the unit at the end of `.debug_info`, its abbreviation table at the end of
+    /// `.debug_abbrev` (DWARF 5, 7.5.1 to 7.5.3) and its line program, where it is in use, at the
+    /// end of `.debug_line` (6.2), and marks it written; from then on it keeps where its entries
+    /// stand. A line program is in use where a sequence was begun in it or some entry names one of
+    /// its files: then the root names its place in `DW_AT_stmt_list`, and else has no such
+    /// attribute. The root's base types move before its other children. References to entries by
+    /// their place in `.debug_info` are left open, with a fixup each in `debug_info_fixups`, until
+    /// `UnitTable::write` fills them in.
     ///
     /// Refused as `UnsupportedVersion` or `UnsupportedWordSize` where the version isn't 2 to 5 or
-    /// the address size isn't 1, 2, 4 or 8, as `InvalidAttributeValue` where a string has a zero
-    /// byte, as `InvalidReference` where a reference within the unit names an entry outside its
-    /// tree, one by its place in `.debug_info` names a symbol, or a string isn't in its table, as
+    /// the address size isn't 1, 2, 4 or 8, for what `LineProgram::write` refuses, as
+    /// `InvalidAttributeValue` where a string has a zero byte or a value names a line program that
+    /// isn't in use, as `InvalidReference` where a reference within the unit names an entry outside
+    /// its tree, one by its place in `.debug_info` names a symbol, or a string isn't in its table,
+    /// as `UnsetBranchTarget` where a branch of an expression has no target, as
+    /// `UnsupportedExpressionForwardReference` where an expression spells in LEB128 the place of an
+    /// entry that comes later in the tree, or any place in the unit of one outside it, as
     /// `InvalidAddress` where an address is a symbol's and the writer records no relocations, as
     /// `InitialLengthOverflow` where a 32-bit unit has 0xffff_fff0 bytes or more after its length
-    /// (DWARF 5, 7.4), as `ValueTooLarge` where an address or an offset has no room in its width,
-    /// the place of the table none in a word, or the unit's size none in 64 bits, and as
-    /// `WriteFault` or `NoMemory`. A refused unit is as it was, or has its base types moved, and
-    /// the two sections may have got some of the bytes.
+    /// (DWARF 5, 7.4), as `ValueTooLarge` where an address, an offset or the number of a file has
+    /// no room in its width, the place of the table or of the line program none in a word, or the
+    /// unit's size none in 64 bits, and as `WriteFault` or `NoMemory`. A refused unit is as it was,
+    /// or settled, and the sections may have got some of the bytes.
     pub fn write<W: Writer>(
         &mut self,
         sections: &mut Sections<W>,
@@ -276,25 +289,31 @@ impl Unit {
         requires { self.old.is_written ≡ false }
         ensures unit { OnOk result
             (PendsUnit W.meaning sections.old sections.new (settled self.old)
-            (tables_in line_strings.now strings.now) self.new.offsets) }
+            (unit_tables (elsewhere W.meaning sections.old line_strings.now strings.now) self.old)
+            self.new.offsets) }
         ensures pending { OnOk result
             (ExtendsPending W.meaning sections.old sections.new (settled self.old)
-            (tables_in line_strings.now strings.now) self.new.offsets) }
+            (unit_tables (elsewhere W.meaning sections.old line_strings.now strings.now) self.old)
+            self.new.offsets) }
+        // Its line program, where it is in use, stands behind what `.debug_line` held.
+        ensures lines { OnOk result
+            (AppendsLine W.meaning sections.old sections.new line_strings.now strings.now
+            self.old) }
         ensures writable { OnOk result
             (IsWritableAt (W.meaning sections.old.debug_info.0).is_plain
-            (tables_in line_strings.now strings.now)
+            (elsewhere W.meaning sections.old line_strings.now strings.now)
             (W.meaning sections.old.debug_abbrev.0).size self.old) }
         ensures marked { OnOk result
             (self.new ≡ marked_written self.new.offsets (settled self.old)) }
 
         ensures err { IfErr result
             (UnitRefused W.meaning sections.old sections.new self.old
-            (tables_in line_strings.now strings.now)) }
+            (elsewhere W.meaning sections.old line_strings.now strings.now)) }
         ensures kept { OnErr result ((self.new ≡ self.old) ⊎ (self.new ≡ settled self.old)) }
         // A unit that can be written is refused only for want of memory, or by a fault that was
         // counted. References across units are looked at when they are filled in.
         ensures complete { IsWritableAt (W.meaning sections.old.debug_info.0).is_plain
-            (tables_in line_strings.now strings.now)
+            (elsewhere W.meaning sections.old line_strings.now strings.now)
             (W.meaning sections.old.debug_abbrev.0).size self.old →
             (SomeHasRisen W.meaning sections.old sections.new → ⊥) →
             IfErr result (λ e. e ≡ NoMemory) }
@@ -322,19 +341,23 @@ impl Unit {
         requires none_open { sections.old.debug_info_fixups ≡ [] }
         ensures appends { OnOk result
             (AppendsAlone W.meaning sections.old sections.new (settled self.old)
-            (tables_in line_strings.now strings.now) self.new.offsets) }
+            (unit_tables (elsewhere W.meaning sections.old line_strings.now strings.now) self.old)
+            self.new.offsets) }
+        ensures lines { OnOk result
+            (AppendsLine W.meaning sections.old sections.new line_strings.now strings.now
+            self.old) }
         ensures alone { OnOk result (IsFalse (has_info_reference self.old)) }
         ensures closed { OnOk result (sections.new.debug_info_fixups ≡ []) }
         ensures writable { OnOk result
             (IsWritableAt (W.meaning sections.old.debug_info.0).is_plain
-            (tables_in line_strings.now strings.now)
+            (elsewhere W.meaning sections.old line_strings.now strings.now)
             (W.meaning sections.old.debug_abbrev.0).size self.old) }
         ensures marked { OnOk result
             (self.new ≡ marked_written self.new.offsets (settled self.old)) }
 
         ensures err { IfErr result
             (AloneRefused W.meaning sections.old sections.new self.old
-            (tables_in line_strings.now strings.now)) }
+            (elsewhere W.meaning sections.old line_strings.now strings.now)) }
         ensures kept { OnErr result ((self.new ≡ self.old) ⊎ (self.new ≡ settled self.old)) }
 
         ensures others { KeepsOtherSections sections.old sections.new }
@@ -359,34 +382,88 @@ impl Unit {
         requires { self.old.is_written ≡ false }
         ensures unit { IfOk result
             (λ o. PendsUnit W.meaning sections.old sections.new (settled self.old)
-            (tables_in line_strings.now strings.now) (Some o)) }
+            (unit_tables (elsewhere W.meaning sections.old line_strings.now strings.now) self.old)
+            (Some o)) }
+        ensures lines { OnOk result
+            (AppendsLine W.meaning sections.old sections.new line_strings.now strings.now
+            self.old) }
         ensures writable { OnOk result
             (IsWritableAt (W.meaning sections.old.debug_info.0).is_plain
-            (tables_in line_strings.now strings.now)
+            (elsewhere W.meaning sections.old line_strings.now strings.now)
             (W.meaning sections.old.debug_abbrev.0).size self.old) }
         ensures settled { OnOk result (self.new ≡ settled self.old) }
 
         ensures err { IfErr result
             (UnitRefused W.meaning sections.old sections.new self.old
-            (tables_in line_strings.now strings.now)) }
+            (elsewhere W.meaning sections.old line_strings.now strings.now)) }
         ensures kept { OnErr result ((self.new ≡ self.old) ⊎ (self.new ≡ settled self.old)) }
 
         ensures others { KeepsOtherSections sections.old sections.new }
         ensures faults { fault_sum W.meaning sections.old ≤ fault_sum W.meaning sections.new }
     {
         check_encoding(self.encoding)?;
-        self.settle()?;
+        let line_program = self.write_line_program(sections, line_strings, strings)?;
+        self.settle(line_program.is_some())?;
         let start = sections.debug_info.0.len();
         let alloc = self.entries.allocator();
         let places = write_tree(
             alloc,
             self.encoding,
             self.entries.as_slice(),
+            line_program,
             line_strings,
             strings,
             sections,
         )?;
         Ok(UnitOffsets::of(start, places))
+    }
+
+    /// Tells that the line program is written with the unit: there is one, and a sequence was begun
+    /// in it, or some entry names one of its files.
+    fn line_program_in_use(&self) -> bool
+        ensures { result ≡ lines_in_use self.now }
+    {
+        !self.line_program.is_none() && (!self.line_program.is_empty() || self.entries.names_file())
+    }
+
+    /// Writes the line program, where it is in use, and answers its place in `.debug_line`.
+    fn write_line_program<W: Writer>(
+        &self,
+        sections: &mut Sections<W>,
+        line_strings: &LineStringTable,
+        strings: &StringTable,
+    ) -> Result<Option<DebugLineOffset>>
+        ensures ok { OnOk result
+            (AppendsLine W.meaning sections.old sections.new line_strings.now strings.now
+            self.now) }
+        ensures place { IfOk result
+            (λ p. option_map (λ o. o.0) p
+            ≡ line_place (elsewhere W.meaning sections.old line_strings.now strings.now)
+            self.now) }
+        ensures used { IfOk result (λ p. is_some p ≡ lines_in_use self.now) }
+        ensures sound { OnOk result
+            (LinesAreSound (elsewhere W.meaning sections.old line_strings.now strings.now)
+            self.now) }
+
+        ensures err { IfErr result
+            (Because (SomeHasRisen W.meaning sections.old sections.new)
+            (Is (line_fails (elsewhere W.meaning sections.old line_strings.now strings.now)
+            self.now))) }
+
+        ensures others { sections.new
+            ≡ record sections.old { debug_line = sections.new.debug_line } }
+        ensures faults { fault_sum W.meaning sections.old ≤ fault_sum W.meaning sections.new }
+    {
+        if !self.line_program_in_use() {
+            return Ok(None);
+        }
+        let place = self.line_program.write(
+            &mut sections.debug_line,
+            self.encoding,
+            line_strings,
+            strings,
+        )?;
+        Ok(Some(place))
     }
 
     /// Marks the unit written, with where its entries stand.

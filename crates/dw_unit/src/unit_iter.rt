@@ -25,9 +25,13 @@ pub struct UnitIter<'a> {
 
 impl<'a> Model for UnitIter<'a> {
     ghost use Rattle.std.specs.Prelude.{List, length, ◌+◌, ◌<◌, ◌^◌};
+    ghost use Rattle.std.specs.Coded.{codes};
+    ghost use Rattle.dw_expr.specs.Codes.{node_code};
     ghost use Rattle.dw_unit.specs.UnitIds.{UnitWithId, with_ids_from};
 
     ghost Value = { List UnitWithId };
+
+    ghost coded = { Prim.hlevel (codes, node_code) };
 
     ghost view = { λ it. with_ids_from it.index it.units.now };
 

@@ -1,9 +1,9 @@
 //! The units of a table, one after another.
 
-use crate::line_program::LineProgram;
 use crate::unit::Unit;
 use crate::unit_table::UnitTable;
 use dw_base::{Encoding, Format};
+use dw_line::LineProgram;
 use std::test::Fail;
 
 #[test]

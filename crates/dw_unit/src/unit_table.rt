@@ -6,7 +6,7 @@ ghost use Rattle.dw_base.specs.declared.error.Error.TheVariants.{NoMemory};
 ghost use Rattle.dw_writer.specs.Causes.{IsNotMemory, NotAtAll};
 ghost use Rattle.dw_writer.specs.Sections.{fault_sum, SomeHasRisen, NoFixups};
 ghost use Rattle.dw_unit.specs.UnitValue.{UnitValue};
-ghost use Rattle.dw_unit.specs.Strings.{tables_in};
+ghost use Rattle.dw_unit.specs.Elsewhere.{elsewhere, AppendsLines};
 ghost use Rattle.dw_unit.specs.Valid.{IsWritableAt, AreWritable, CanFollow};
 ghost use Rattle.dw_unit.specs.Pending.{starts_of};
 ghost use Rattle.dw_unit.specs.Whole.{IsRefused};
@@ -29,7 +29,14 @@ pub struct UnitTable {
 }
 
 impl Model for UnitTable {
+    ghost use Rattle.std.specs.Prelude.{List};
+    ghost use Rattle.std.specs.Coded.{codes};
+    ghost use Rattle.dw_expr.specs.Codes.{node_code};
+    ghost use Rattle.dw_unit.specs.UnitValue.{UnitValue};
+
     ghost Value = { List UnitValue };
+
+    ghost coded = { Prim.hlevel (codes, node_code) };
 
     ghost view = { λ t. t.units.items };
 }
@@ -98,16 +105,16 @@ impl UnitTable {
         UnitIter::new(self.units.as_slice())
     }
 
-    /// Writes the units that aren't written yet, each behind what `.debug_info` and `.debug_abbrev`
-    /// hold, marks them written, and fills in the references across units that are open: those of
-    /// these units, and those that `Unit::write` left in `debug_info_fixups`. After Ok the three
-    /// lists of fixups are empty.
+    /// Writes the units that aren't written yet, each behind what `.debug_info`, `.debug_abbrev`
+    /// and for its line program `.debug_line` hold, marks them written, and fills in the references
+    /// across units that are open: those of these units, and those that `Unit::write` left in
+    /// `debug_info_fixups`. After Ok the three lists of fixups are empty.
     ///
     /// Refused as `Unit::write` refuses a unit that isn't written yet, and where a reference across
     /// units names an entry outside its unit's tree, or a unit that is absent or was skipped
     /// (`InvalidReference`), or where its place has no room (`ValueTooLarge`). The units before the
-    /// one that was refused are written, it is as it was or has its base types moved, and those
-    /// behind it are as they were. The two sections may have got some bytes.
+    /// one that was refused are written, it is as it was or settled, and those behind it are as
+    /// they were. The sections may have got some bytes.
     pub fn write<W: Writer>(
         &mut self,
         sections: &mut Sections<W>,
@@ -116,25 +123,29 @@ impl UnitTable {
     ) -> Result<()>
         ensures completes { OnOk result
             (CompletesAny W.meaning sections.old sections.new self.old self.new
-            (tables_in line_strings.now strings.now)) }
+            (elsewhere W.meaning sections.old line_strings.now strings.now)) }
         ensures writable { OnOk result
             (AreWritable (W.meaning sections.old.debug_info.0).is_plain
-            (tables_in line_strings.now strings.now)
+            (elsewhere W.meaning sections.old line_strings.now strings.now)
             (W.meaning sections.old.debug_abbrev.0).size self.old) }
         // Each unit that wasn't written before keeps where its entries stand: in a row from where
         // the sections ended.
         ensures marked { OnOk result
             (AreWritten (starts_of W.meaning sections.old) (starts_of W.meaning sections.new)
-            (tables_in line_strings.now strings.now) self.old self.new) }
+            (elsewhere W.meaning sections.old line_strings.now strings.now) self.old self.new) }
+        // The line programs in use stand behind what `.debug_line` held, in the order of the units.
+        ensures lines { OnOk result
+            (AppendsLines W.meaning sections.old sections.new line_strings.now strings.now
+            self.old) }
         ensures emptied { OnOk result (NoFixups sections.new) }
 
         ensures err { IfErr result
             (RefusesAny W.meaning sections.old sections.new self.old self.new
-            (tables_in line_strings.now strings.now)) }
+            (elsewhere W.meaning sections.old line_strings.now strings.now)) }
         // Where the units can be written behind those that are pending, and their references lead
         // to entries, they are refused only for want of memory, or by a fault that was counted.
         ensures complete { CanFollow W.meaning sections.old self.old
-            (tables_in line_strings.now strings.now) →
+            (elsewhere W.meaning sections.old line_strings.now strings.now) →
             (SomeHasRisen W.meaning sections.old sections.new → ⊥) →
             IfErr result (λ e. e ≡ NoMemory) }
         // Where every unit is written already, references are patched, and no memory is taken.
@@ -142,11 +153,12 @@ impl UnitTable {
             IfErr result IsNotMemory }
         ensures stopped { OnErr result
             (AreStopped (starts_of W.meaning sections.old)
-            (tables_in line_strings.now strings.now) self.old self.new) }
+            (elsewhere W.meaning sections.old line_strings.now strings.now) self.old self.new) }
 
         ensures others { sections.new
             ≡ record sections.old {
               debug_abbrev = sections.new.debug_abbrev;
+              debug_line = sections.new.debug_line;
               debug_info = sections.new.debug_info;
               debug_info_fixups = sections.new.debug_info_fixups;
               debug_loc_fixups = sections.new.debug_loc_fixups;
@@ -175,25 +187,28 @@ impl UnitTable {
     ) -> Result<()>
         ensures pending { OnOk result
             (PendsUnits W.meaning sections.old sections.new self.old self.new
-            (tables_in line_strings.now strings.now)) }
+            (elsewhere W.meaning sections.old line_strings.now strings.now)) }
         ensures writable { OnOk result
             (AreWritable (W.meaning sections.old.debug_info.0).is_plain
-            (tables_in line_strings.now strings.now)
+            (elsewhere W.meaning sections.old line_strings.now strings.now)
             (W.meaning sections.old.debug_abbrev.0).size self.old) }
         ensures marked { OnOk result
             (AreWritten (starts_of W.meaning sections.old) (starts_of W.meaning sections.new)
-            (tables_in line_strings.now strings.now) self.old self.new) }
+            (elsewhere W.meaning sections.old line_strings.now strings.now) self.old self.new) }
 
         ensures err { IfErr result
             (Because (SomeHasRisen W.meaning sections.old sections.new)
             (UnitsFail (W.meaning sections.old.debug_info.0).is_plain
-            (tables_in line_strings.now strings.now)
+            (elsewhere W.meaning sections.old line_strings.now strings.now)
             (W.meaning sections.old.debug_abbrev.0).size self.old)) }
         ensures idle { All (λ u. u.is_written ≡ true) self.old → IfErr result NotAtAll }
         ensures stopped { OnErr result
             (AreStopped (starts_of W.meaning sections.old)
-            (tables_in line_strings.now strings.now) self.old self.new) }
+            (elsewhere W.meaning sections.old line_strings.now strings.now) self.old self.new) }
 
+        ensures lines { OnOk result
+            (AppendsLines W.meaning sections.old sections.new line_strings.now strings.now
+            self.old) }
         ensures others { KeepsOtherSections sections.old sections.new }
         ensures faults { fault_sum W.meaning sections.old ≤ fault_sum W.meaning sections.new }
     {
@@ -213,17 +228,17 @@ fn write_if_new<W: Writer>(
 ) -> Result<()>
     ensures ok { OnOk result
         (WritesIfNew W.meaning sections.old sections.new unit.old unit.new
-        (tables_in line_strings.now strings.now)) }
+        (elsewhere W.meaning sections.old line_strings.now strings.now)) }
     ensures writable { OnOk result
         ((unit.old.is_written ≡ true)
         ⊎ IsWritableAt (W.meaning sections.old.debug_info.0).is_plain
-        (tables_in line_strings.now strings.now)
+        (elsewhere W.meaning sections.old line_strings.now strings.now)
         (W.meaning sections.old.debug_abbrev.0).size unit.old) }
 
     ensures err { IfErr result
         (λ e. (unit.old.is_written ≡ false)
         × UnitRefused W.meaning sections.old sections.new unit.old
-        (tables_in line_strings.now strings.now) e) }
+        (elsewhere W.meaning sections.old line_strings.now strings.now) e) }
     ensures stopped { OnErr result (IsRefused unit.old unit.new) }
 
     ensures others { KeepsOtherSections sections.old sections.new }

@@ -1,6 +1,6 @@
 //! How values are written.
 
-ghost use Rattle.std.specs.Prelude.{◌++◌, ◌∷◌, [], length, IsTrue, IsFalse, OnOk, IfErr};
+ghost use Rattle.std.specs.Prelude.{◌++◌, ◌∷◌, [], Some, true, length, IsTrue, IsFalse, OnOk, IfErr};
 ghost use Rattle.dw_base.specs.Leb128.{uleb};
 ghost use Rattle.dw_base.specs.Numbers.{is_width, num, word_of};
 ghost use Rattle.dw_base.specs.declared.error.Error.{Error as AnError};
@@ -8,16 +8,19 @@ ghost use Rattle.dw_writer.specs.Drafts.{Drafts};
 ghost use Rattle.dw_writer.specs.Meaning.{IsSameWriter, Adds, Appends};
 ghost use Rattle.dw_writer.specs.Causes.{BytesRefused};
 ghost use Rattle.dw_writer.specs.SectionTexts.{offset_text, address_text};
-ghost use Rattle.dw_entries.specs.Content.{number_fails, text_fails, address_fails, offset_fails, table_fails, reference_fails, info_fails};
+ghost use Rattle.dw_entries.specs.Content.{number_fails, text_fails, address_fails, offset_fails, table_fails, own_fails, reference_fails, info_fails};
+ghost use Rattle.dw_entries.specs.ContentView.{number_or_past};
 ghost use Rattle.dw_entries.specs.Values.{value_draft, value_fails, IsRanged};
-ghost use Rattle.dw_unit.specs.UnitText.{info_draft, table_text};
+ghost use Rattle.dw_expr.specs.Causes.{expression_fails};
+ghost use Rattle.dw_unit.specs.UnitText.{counted_draft, info_draft, table_text};
 ghost use Rattle.dw_unit.specs.Causes.{Refused, Is};
 ghost use Rattle.dw_unit.specs.Places.{FitsWords};
 ghost use Rattle.dw_unit.specs.TargetsAt.{placement_at, tables_at, targets_at};
 
-use crate::targets::{Targets, place_in_table};
+use crate::targets::{Targets, own_place, place_in_table};
 use dw_base::{Address, DebugInfoRef, Encoding, Error, Format, Result, SectionId, UnitEntryId};
 use dw_entries::{AttributeValue, Content, info_place_size};
+use dw_expr::Expression;
 use dw_writer::{DebugInfoFixup, FixupList, Writer};
 
 /// Writes what stands for the value in an entry.
@@ -50,12 +53,17 @@ pub(crate) fn write_value<W: Writer>(
         Content::Leb(number) => w.write_uleb128(number),
         Content::SignedLeb(number) => w.write_sleb128(number),
         Content::Block(bytes) => write_block(bytes, w),
+        Content::Expression(expression) => {
+            write_expression(encoding, targets, expression, w, fixups)
+        }
         Content::Closed(text) => write_text(text, w),
         Content::Target(address) => write_target(address, encoding.address_size, w),
         Content::Offset { value, section } => write_place(encoding.format, value, section, w),
         Content::InTable { section, index } => {
             write_place_in_table(encoding.format, targets, section, index, w)
         }
+        Content::OwnPart(section) => write_own_place(encoding.format, targets, section, w),
+        Content::File(number) => write_file(number, w),
         Content::EntryPlace(entry) => write_reference(encoding.format, targets, entry, w),
         Content::InfoPlace(entry) => {
             write_info_reference(entry, info_place_size(encoding), w, fixups)
@@ -85,6 +93,32 @@ fn write_block<W: Writer>(bytes: &[u8], w: &mut W) -> Result<()>
 {
     w.write_uleb128(bytes.len() as u64)?;
     w.write(bytes)
+}
+
+/// Writes an expression with its length before it.
+fn write_expression<W: Writer>(
+    encoding: Encoding,
+    targets: &Targets<'_>,
+    expression: &Expression,
+    w: &mut W,
+    fixups: &mut FixupList,
+) -> Result<()>
+    ensures ok { OnOk result
+        (Drafts (W.meaning w.old) (W.meaning w.new) fixups.old fixups.new
+        (counted_draft encoding (targets_at targets.now).place expression.now)) }
+    ensures sound { OnOk result
+        ((e : AnError) → IsFalse (expression_fails encoding
+        (Some (targets_at targets.now).place) true (W.meaning w.old).is_plain
+        expression.now e)) }
+    ensures err { IfErr result
+        (Refused (W.meaning w.old) (W.meaning w.new)
+        (Is (expression_fails encoding (Some (targets_at targets.now).place) true
+        (W.meaning w.old).is_plain expression.now))) }
+    ensures same { IsSameWriter (W.meaning w.old) (W.meaning w.new) }
+{
+    let size = expression.size(encoding, Some(targets.places))?;
+    w.write_uleb128(size as u64)?;
+    expression.write(w, Some(fixups), encoding, Some(targets.places))
 }
 
 /// Writes a text and the zero that closes it, or nothing where the text itself has a zero.
@@ -143,21 +177,64 @@ fn write_place_in_table<W: Writer>(
 ) -> Result<()>
     ensures ok { OnOk result
         (Appends (W.meaning w.old) (W.meaning w.new) (word_of format)
-        (table_text (word_of format) section (tables_at targets.now section index))) }
+        (table_text (word_of format) section ((tables_at targets.now).part section index))) }
     ensures sound { OnOk result
         ((e : AnError) →
         IsFalse (table_fails (word_of format) (W.meaning w.old).is_plain
-        (tables_at targets.now section index) e)) }
+        ((tables_at targets.now).part section index) e)) }
     ensures err { IfErr result
         (Refused (W.meaning w.old) (W.meaning w.new)
         (Is (table_fails (word_of format) (W.meaning w.old).is_plain
-        (tables_at targets.now section index)))) }
+        ((tables_at targets.now).part section index)))) }
     ensures same { IsSameWriter (W.meaning w.old) (W.meaning w.new) }
 {
     let Some(place) = place_in_table(section, index, targets.line_strings, targets.strings) else {
         return Err(Error::InvalidReference);
     };
     w.write_offset(place, section, format.word_size())
+}
+
+/// Writes the place where the unit's own part of a section begins.
+fn write_own_place<W: Writer>(
+    format: Format,
+    targets: &Targets<'_>,
+    section: SectionId,
+    w: &mut W,
+) -> Result<()>
+    ensures ok { OnOk result
+        (Appends (W.meaning w.old) (W.meaning w.new) (word_of format)
+        (table_text (word_of format) section ((tables_at targets.now).own section))) }
+    ensures sound { OnOk result
+        ((e : AnError) →
+        IsFalse (own_fails (word_of format) (W.meaning w.old).is_plain
+        ((tables_at targets.now).own section) e)) }
+    ensures err { IfErr result
+        (Refused (W.meaning w.old) (W.meaning w.new)
+        (Is (own_fails (word_of format) (W.meaning w.old).is_plain
+        ((tables_at targets.now).own section)))) }
+    ensures same { IsSameWriter (W.meaning w.old) (W.meaning w.new) }
+{
+    let Some(place) = own_place(section, targets.line_program) else {
+        return Err(Error::InvalidAttributeValue);
+    };
+    w.write_offset(place, section, format.word_size())
+}
+
+/// Writes the number of a file, where 64 bits have room for it.
+fn write_file<W: Writer>(number: Option<u64>, w: &mut W) -> Result<()>
+    ensures ok { OnOk result
+        (Adds (W.meaning w.old) (W.meaning w.new) (uleb (number_or_past number))) }
+    ensures sound { OnOk result
+        ((e : AnError) → IsFalse (number_fails 8 (number_or_past number) e)) }
+    ensures err { IfErr result
+        (Refused (W.meaning w.old) (W.meaning w.new)
+        (Is (number_fails 8 (number_or_past number)))) }
+    ensures same { IsSameWriter (W.meaning w.old) (W.meaning w.new) }
+{
+    let Some(number) = number else {
+        return Err(Error::ValueTooLarge);
+    };
+    w.write_uleb128(number)
 }
 
 /// Writes the place of an entry, which has to stand in the tree.

@@ -6,11 +6,12 @@ use Rattle.dw_base.specs.Numbers.{word_of, is_width}
 use Rattle.dw_base.specs.declared.error.Error.TheVariants as errors
 use Rattle.dw_writer.proofs.Outcomes.{OnOk-map}
 use Rattle.dw_writer.proofs.WriteLaws.{Drafts-is, Drafts-whole, Drafts-nothing}
-use Rattle.dw_entries.specs.ContentView.{content_in}
+use Rattle.dw_entries.specs.Content.{content_fails}
+use Rattle.dw_entries.specs.ContentView.{content_in, number_or_past}
 use Rattle.dw_entries.proofs.ContentLaws.{plain_width}
 use Rattle.dw_entries.proofs.ValueTexts.{info_width}
 use Rattle.dw_unit.specs.TargetsAt.{placement_at, targets_at}
-use Rattle.dw_unit.proofs.Drafted.{Drafts-bytes, Drafts-number, nothing_is, plain_is, wide_is, leb_is, signed_leb_is, block_is, closed_is, target_is, offset_is, in_table_is, entry_place_is, info_is}
+use Rattle.dw_unit.proofs.Drafted.{Drafts-bytes, Drafts-number, nothing_is, plain_is, wide_is, leb_is, signed_leb_is, block_is, expression_is, expression_short, closed_is, target_is, offset_is, in_table_is, own_part_is, file_is, entry_place_is, info_is}
 use Rattle.dw_unit.proofs.Faults.{OnOk-both, fitting_number}
 use Rattle.dw_unit.proofs.PlaceLaws.{found_some}
 use Rattle.dw_unit.proofs.value.write_value.Goals as goal
@@ -59,6 +60,23 @@ returns-in-Block-clause-ok g c =
     OnOk-map c.write_block.result c.write_block.ensures.ok
     (λ p. Drafts-is (Drafts-bytes c.args.fixups.now p) (block_is c.args.encoding (targets_at c.args.targets.now) c.args.value.now c.in-Block.bytes.now is))
 
+pub returns-in-Expression-clause-ok : goal.returns-in-Expression-clause-ok
+returns-in-Expression-clause-ok g c =
+    let is = sym c.content.ensures ∙ ap content_in c.in-Expression.is in
+    let e = c.args.encoding in
+    let u = targets_at c.args.targets.now in
+    let ns = c.in-Expression.expression.now in
+    OnOk-both c.write_expression.result c.write_expression.ensures.ok c.write_expression.ensures.sound
+    (λ p h. Drafts-is p (expression_is e u c.args.value.now ns is (expression_short e u.place (g.W.Writer.meaning c.args.w.now).is_plain ns h)))
+
+pub returns-in-Expression-clause-sound : goal.returns-in-Expression-clause-sound
+returns-in-Expression-clause-sound g c =
+    let is = sym c.content.ensures ∙ ap content_in c.in-Expression.is in
+    let e = c.args.encoding in
+    let u = targets_at c.args.targets.now in
+    OnOk-map c.write_expression.result c.write_expression.ensures.sound
+    (λ h err. ap (λ k. content_fails e u (g.W.Writer.meaning c.args.w.now).is_plain k err) is ∙ h err)
+
 pub returns-in-Closed-clause-ok : goal.returns-in-Closed-clause-ok
 returns-in-Closed-clause-ok g c =
     let is = sym c.content.ensures ∙ ap content_in c.in-Closed.is in
@@ -82,6 +100,19 @@ returns-in-InTable-clause-ok g c =
     let is = sym c.content.ensures ∙ ap content_in c.in-InTable.is in
     OnOk-map c.write_place_in_table.result c.write_place_in_table.ensures.ok
     (λ p. Drafts-is (Drafts-whole c.args.fixups.now p) (in_table_is c.args.encoding (targets_at c.args.targets.now) c.args.value.now c.in-InTable.section c.in-InTable.index is))
+
+pub returns-in-OwnPart-clause-ok : goal.returns-in-OwnPart-clause-ok
+returns-in-OwnPart-clause-ok g c =
+    let is = sym c.content.ensures ∙ ap content_in c.in-OwnPart.is in
+    OnOk-map c.write_own_place.result c.write_own_place.ensures.ok
+    (λ p. Drafts-is (Drafts-whole c.args.fixups.now p) (own_part_is c.args.encoding (targets_at c.args.targets.now) c.args.value.now c.in-OwnPart.section is))
+
+pub returns-in-File-clause-ok : goal.returns-in-File-clause-ok
+returns-in-File-clause-ok g c =
+    let is = sym c.content.ensures ∙ ap content_in c.in-File.is in
+    let n = number_or_past c.in-File.number in
+    OnOk-both c.write_file.result c.write_file.ensures.ok c.write_file.ensures.sound
+    (λ p h. Drafts-is (Drafts-bytes c.args.fixups.now p) (file_is c.args.encoding (targets_at c.args.targets.now) c.args.value.now n is (fitting_number 8 n (h errors.ValueTooLarge))))
 
 pub returns-in-EntryPlace-clause-ok : goal.returns-in-EntryPlace-clause-ok
 returns-in-EntryPlace-clause-ok g c =

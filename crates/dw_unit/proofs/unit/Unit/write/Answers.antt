@@ -1,7 +1,7 @@
 use Rattle.std.proofs.Common.{sym, ap, subst, Some}
 use Rattle.std.proofs.lemmas.Result.{err_from_is_err_and}
 use Rattle.dw_unit.specs.Pending.{ExtendsPending}
-use Rattle.dw_unit.specs.Strings.{tables_in}
+use Rattle.dw_unit.specs.Elsewhere.{elsewhere, unit_tables}
 use Rattle.dw_unit.specs.Whole.{settled}
 use Rattle.dw_unit.proofs.Complete.{unit_complete}
 use Rattle.dw_unit.proofs.PendingSteps.{pending_more}
@@ -13,10 +13,10 @@ returns-clause-pending g c =
     let old = c.args.sections.now in
     let new = c.write_open.new.sections in
     let u = settled c.args.self.now in
-    subst (ExtendsPending meaning old new u (tables_in c.args.line_strings.now c.args.strings.now)) (sym (ap (λ v. v.offsets) c.mark_written.ensures))
-    (pending_more meaning u (tables_in c.args.line_strings.now c.args.strings.now) old new (Some c.in_ok-offsets.offsets) c.in_ok-offsets.ensures.unit)
+    subst (ExtendsPending meaning old new u (unit_tables (elsewhere g.W.Writer.meaning c.args.sections.now c.args.line_strings.now c.args.strings.now) c.args.self.now)) (sym (ap (λ v. v.offsets) c.mark_written.ensures))
+    (pending_more meaning u (unit_tables (elsewhere g.W.Writer.meaning c.args.sections.now c.args.line_strings.now c.args.strings.now) c.args.self.now) old new (Some c.in_ok-offsets.offsets) c.in_ok-offsets.ensures.unit)
 
 pub returns-in_err-offsets-clause-complete : goal.returns-in_err-offsets-clause-complete
 returns-in_err-offsets-clause-complete g c = λ can calm.
     let p = err_from_is_err_and c.from_residual.result c.from_residual.ensures.1 in
-    rw (p.1, p.2) (unit_complete g.W.Writer.meaning c.args.sections.now c.write_open.new.sections (tables_in c.args.line_strings.now c.args.strings.now) c.args.self.now can calm c.in_err-offsets.field-0.0 c.in_err-offsets.ensures.err)
+    rw (p.1, p.2) (unit_complete g.W.Writer.meaning c.args.sections.now c.write_open.new.sections (elsewhere g.W.Writer.meaning c.args.sections.now c.args.line_strings.now c.args.strings.now) c.args.self.now can calm c.in_err-offsets.field-0.0 c.in_err-offsets.ensures.err)
