@@ -1,5 +1,5 @@
 -- A valid Dwarf is refused over new sections only for want of memory, or by a fault.
-use Rattle.std.specs.Prelude.{◌≡◌, ◌⊎◌, ℕ, Bool, true, false, List, [], refl, IsTrue, IsFalse}
+use Rattle.std.specs.Prelude.{◌≡◌, ◌⊎◌, ℕ, Bool, true, false, List, [], ◌∷◌, refl, IsTrue, IsFalse}
 use Rattle.std.proofs.Common.{sym, ◌∙◌, ap, subst, inl, inr}
 use Rattle.dw_base.specs.declared.error.Error.{Error}
 use Rattle.dw_base.specs.declared.error.Error.TheVariants as errors
@@ -7,7 +7,9 @@ use Rattle.dw_writer.specs.Contents.{Meaning}
 use Rattle.dw_writer.specs.Sections.{SomeHasRisen}
 use Rattle.dw_writer.proofs.NewLemmas.{IsEmptyWriter-from_plain}
 use Rattle.dw_writer.specs.declared.sections.Sections.{Sections}
+use Rattle.dw_line.specs.Parts.{NoCause}
 use Rattle.dw_unit.specs.Built.{Starts, at_begin}
+use Rattle.dw_unit.specs.Elsewhere.{End, end_of}
 use Rattle.dw_unit.specs.Causes.{UnitsFail, UnitsRefused, RefusesAny, ReferencesFail}
 use Rattle.dw_unit.specs.Pending.{Kept, AreInRow, units_draft, info_at, info_of, starts_of}
 use Rattle.dw_unit.specs.UnitFaults.{holes_fail}
@@ -17,9 +19,9 @@ use Rattle.dw_unit.specs.Written.{to_write}
 use Rattle.dw_unit.proofs.Faults.{because-map}
 use Rattle.dw_unit.proofs.PendingSteps.{pending_none}
 use Rattle.dw_unit.proofs.TableLaws.{info_kept, unwritten_keeps, to_write-unwritten, units_unfailing, one_row}
-use Rattle.dw_dwarf.specs.Valid.{AreUnwritten, IsValid, IsValidAt, SomeReferenceFails, DwarfRefused, string_tables, settled_units}
+use Rattle.dw_dwarf.specs.Valid.{AreUnwritten, IsValid, IsValidAt, SomeReferenceFails, DwarfFails, DwarfRefused, found_from, found_in, no_lines, extra_fails, settled_units}
 use Rattle.dw_dwarf.specs.Written.{AreNewPlain, AreNew}
-use Rattle.dw_dwarf.specs.declared.dwarf.Dwarf.{Dwarf}
+use Rattle.dw_dwarf.specs.DwarfValue.{DwarfValue}
 use Rattle.dw_dwarf.proofs.Held.{WritesWhole}
 
 -- plain sections are some of any kind
@@ -27,37 +29,41 @@ pub AreNew-from_plain : {W : Type 0} (meaning : W → Meaning) (s : Sections W) 
 AreNew-from_plain meaning s empty = record {
   info = IsEmptyWriter-from_plain (meaning s.debug_info.0) (meaning s.debug_info.0).is_big empty.writers.debug_info;
   abbrevs = IsEmptyWriter-from_plain (meaning s.debug_abbrev.0) (meaning s.debug_abbrev.0).is_big empty.writers.debug_abbrev;
+  lines = IsEmptyWriter-from_plain (meaning s.debug_line.0) (meaning s.debug_line.0).is_big empty.writers.debug_line;
+  kind = empty.writers.debug_line.plain ∙ sym empty.writers.debug_info.plain;
   fixups = empty.fixups;
 }
 
 -- what was written was valid
-pub whole_valid : {W : Type 0} (meaning : W → Meaning) (old new : Sections W) (d : Dwarf) → AreWritable (meaning old.debug_info.0).is_plain (string_tables d) (meaning old.debug_abbrev.0).size d.units →
-    WritesWhole meaning old new (settled_units d) → IsValidAt (meaning old.debug_info.0).is_plain (starts_of meaning old) d
-whole_valid meaning old new d units whole = record {
+pub whole_valid : {W : Type 0} (meaning : W → Meaning) (old new : Sections W) (d : DwarfValue) → AreWritable (meaning old.debug_info.0).is_plain (found_in meaning old d) (meaning old.debug_abbrev.0).size d.units →
+    WritesWhole meaning old new (settled_units (end_of (meaning old.debug_line.0)) d) → NoCause (extra_fails (meaning old.debug_line.0).is_plain d) →
+    IsValidAt (meaning old.debug_info.0).is_plain (starts_of meaning old) (end_of (meaning old.debug_line.0)) d
+whole_valid meaning old new d units whole extra = record {
   units = units;
   references = record { kept = whole.kept; in_row = whole.adds.units.in_row; lead = whole.lead };
+  extra = extra;
 }
 
 -- Why a table is refused, where none of its units was written before and no reference was open.
-pub whole_refused : {W : Type 0} (meaning : W → Meaning) (old new : Sections W) (d : Dwarf) (vs : List UnitValue) (err : Error) → old.debug_info_fixups ≡ [] → AreUnwritten d → RefusesAny meaning old new d.units vs (string_tables d) err →
+pub whole_refused : {W : Type 0} (meaning : W → Meaning) (old new : Sections W) (d : DwarfValue) (vs : List UnitValue) (err : Error) → old.debug_info_fixups ≡ [] → AreUnwritten d → RefusesAny meaning old new d.units vs (found_in meaning old d) err →
     DwarfRefused meaning old new d err
 whole_refused {W} meaning old new d vs err none unwritten any =
-    because-map {p = λ e. UnitsFail (meaning old.debug_info.0).is_plain (string_tables d) (meaning old.debug_abbrev.0).size d.units e ⊎ ReferencesFail meaning old d.units vs (string_tables d) [] [] e}
-    {q = λ e. UnitsFail (meaning old.debug_info.0).is_plain (string_tables d) (meaning old.debug_abbrev.0).size d.units e ⊎ SomeReferenceFails (meaning old.debug_info.0).is_plain (starts_of meaning old) (settled_units d) e}
+    because-map {p = λ e. UnitsFail (meaning old.debug_info.0).is_plain (found_in meaning old d) (meaning old.debug_abbrev.0).size d.units e ⊎ ReferencesFail meaning old d.units vs (found_in meaning old d) [] [] e}
+    {q = DwarfFails (meaning old.debug_info.0).is_plain (starts_of meaning old) (end_of (meaning old.debug_line.0)) d}
     (λ r. r) (λ e h. by_case e h) err (any old [] [] none (pending_none meaning old))
   where
-    by_case : (e : Error) → UnitsFail (meaning old.debug_info.0).is_plain (string_tables d) (meaning old.debug_abbrev.0).size d.units e ⊎ ReferencesFail meaning old d.units vs (string_tables d) [] [] e →
-        UnitsFail (meaning old.debug_info.0).is_plain (string_tables d) (meaning old.debug_abbrev.0).size d.units e ⊎ SomeReferenceFails (meaning old.debug_info.0).is_plain (starts_of meaning old) (settled_units d) e
+    by_case : (e : Error) → UnitsFail (meaning old.debug_info.0).is_plain (found_in meaning old d) (meaning old.debug_abbrev.0).size d.units e ⊎ ReferencesFail meaning old d.units vs (found_in meaning old d) [] [] e →
+        DwarfFails (meaning old.debug_info.0).is_plain (starts_of meaning old) (end_of (meaning old.debug_line.0)) d e
     by_case e (inl h) = inl h
     by_case e (inr h) =
-        let us = to_write (string_tables d) d.units in
-        let info : info_at vs ≡ info_of us h.kept = info_kept vs us h.kept (h.keeps (unwritten_keeps d.units unwritten)) in
-        let here : SomeReferenceFails (meaning old.debug_info.0).is_plain (starts_of meaning old) us e = record {
+        let ns = to_write (found_in meaning old d) d.units in
+        let info : info_at vs ≡ info_of ns h.kept = info_kept vs ns h.kept (h.keeps (unwritten_keeps d.units unwritten)) in
+        let here : SomeReferenceFails (meaning old.debug_info.0).is_plain (starts_of meaning old) ns e = record {
           kept = h.kept;
           in_row = h.in_row;
-          fails = subst (λ f. IsTrue (holes_fail f (meaning old.debug_info.0).is_plain (units_draft us h.kept).holes e)) info h.fails;
+          fails = subst (λ f. IsTrue (holes_fail f (meaning old.debug_info.0).is_plain (units_draft ns h.kept).holes e)) info h.fails;
         } in
-        inr (subst (λ xs. SomeReferenceFails (meaning old.debug_info.0).is_plain (starts_of meaning old) xs e) (to_write-unwritten 0 (string_tables d) d.units unwritten) here)
+        inr (inl (subst (λ xs. SomeReferenceFails (meaning old.debug_info.0).is_plain (starts_of meaning old) xs e) (to_write-unwritten 0 (found_in meaning old d) d.units unwritten) here))
 
 starts_are : (a b : Starts) → a.info ≡ b.info → a.abbrevs ≡ b.abbrevs → a ≡ b
 starts_are a b p q =
@@ -68,33 +74,36 @@ not_both true t f = absurd (let x : true ≡ false = f in cc)
 not_both false t f = absurd (let x : false ≡ true = t in cc)
 
 -- A valid Dwarf has no cause to be refused.
-module _ (plain : Bool) (d : Dwarf) (valid : IsValid plain d) (err : Error) where
-  references_fail : SomeReferenceFails plain at_begin (settled_units d) err → ⊥
+module _ (plain : Bool) (d : DwarfValue) (valid : IsValid plain d) (err : Error) where
+  references_fail : SomeReferenceFails plain at_begin (settled_units (no_lines plain) d) err → ⊥
   references_fail h =
-      let us = settled_units d in
+      let us = settled_units (no_lines plain) d in
       let own = valid.references in
       let same = one_row at_begin us own.kept h.kept own.in_row h.in_row in
       not_both (holes_fail (info_of us h.kept) plain (units_draft us h.kept).holes err) h.fails
       (subst (λ (ks : List Kept). IsFalse (holes_fail (info_of us ks) plain (units_draft us ks).holes err)) same (own.lead err))
 
-  pub valid_unfailing : UnitsFail plain (string_tables d) 0 d.units err ⊎ SomeReferenceFails plain at_begin (settled_units d) err → ⊥
-  valid_unfailing (inl h) = units_unfailing plain (string_tables d) 0 d.units valid.units err h
-  valid_unfailing (inr h) = references_fail h
+  pub valid_unfailing : DwarfFails plain at_begin (no_lines plain) d err → ⊥
+  valid_unfailing (inl h) = units_unfailing plain (found_from (no_lines plain) d) 0 d.units valid.units err h
+  valid_unfailing (inr (inl h)) = references_fail h
+  valid_unfailing (inr (inr h)) = not_both (extra_fails plain d err) h (valid.extra err)
 
-module _ {W : Type 0} (meaning : W → Meaning) (old new : Sections W) (empty : AreNew meaning old) (calm : SomeHasRisen meaning old new → ⊥) (d : Dwarf) where
+module _ {W : Type 0} (meaning : W → Meaning) (old new : Sections W) (empty : AreNew meaning old) (calm : SomeHasRisen meaning old new → ⊥) (d : DwarfValue) where
   abbrev plain : Bool
   plain = (meaning old.debug_info.0).is_plain
 
   begins : starts_of meaning old ≡ at_begin
   begins = starts_are (starts_of meaning old) at_begin empty.info.size empty.abbrevs.size
 
-  at_zero : (err : Error) → UnitsFail plain (string_tables d) (meaning old.debug_abbrev.0).size d.units err ⊎ SomeReferenceFails plain (starts_of meaning old) (settled_units d) err →
-      UnitsFail plain (string_tables d) 0 d.units err ⊎ SomeReferenceFails plain at_begin (settled_units d) err
-  at_zero err (inl h) = inl (subst (λ n. UnitsFail plain (string_tables d) n d.units err) empty.abbrevs.size h)
-  at_zero err (inr h) = inr (subst (λ at. SomeReferenceFails plain at (settled_units d) err) begins h)
+  lines_begin : end_of (meaning old.debug_line.0) ≡ no_lines plain
+  lines_begin =
+      ap (λ n. let e : End = record { size = n; is_plain = (meaning old.debug_line.0).is_plain } in e) empty.lines.size ∙ ap (λ b. let e : End = record { size = 0; is_plain = b } in e) empty.kind
+
+  at_zero : (err : Error) → DwarfFails plain (starts_of meaning old) (end_of (meaning old.debug_line.0)) d err → DwarfFails plain at_begin (no_lines plain) d err
+  at_zero err h = subst (λ e. DwarfFails plain at_begin e d err) lines_begin (subst (λ at. DwarfFails plain at (end_of (meaning old.debug_line.0)) d err) begins h)
 
   -- what a refusal comes to that isn't want of memory
-  pub dwarf_fails : (err : Error) → (err ≡ errors.NoMemory → ⊥) → DwarfRefused meaning old new d err → UnitsFail plain (string_tables d) 0 d.units err ⊎ SomeReferenceFails plain at_begin (settled_units d) err
+  pub dwarf_fails : (err : Error) → (err ≡ errors.NoMemory → ⊥) → DwarfRefused meaning old new d err → DwarfFails plain at_begin (no_lines plain) d err
   dwarf_fails errors.NoMemory some r = absurd (some refl)
   dwarf_fails errors.WriteFault some r = absurd (calm r)
   dwarf_fails err some r = at_zero err r
@@ -105,7 +114,12 @@ module _ {W : Type 0} (meaning : W → Meaning) (old new : Sections W) (empty : 
   dwarf_complete valid err r = absurd (valid_unfailing plain d valid err (at_zero err r))
 
 -- what is valid where new plain sections begin is valid
-pub starts_valid : {W : Type 0} (meaning : W → Meaning) (old : Sections W) (d : Dwarf) → AreNewPlain meaning old → IsValidAt (meaning old.debug_info.0).is_plain (starts_of meaning old) d → IsValid true d
+pub starts_valid : {W : Type 0} (meaning : W → Meaning) (old : Sections W) (d : DwarfValue) → AreNewPlain meaning old → IsValidAt (meaning old.debug_info.0).is_plain (starts_of meaning old) (end_of (meaning old.debug_line.0)) d → IsValid true d
 starts_valid meaning old d empty valid =
+    let plain = (meaning old.debug_info.0).is_plain in
     let at = starts_are (starts_of meaning old) at_begin empty.writers.debug_info.size empty.writers.debug_abbrev.size in
-    subst (λ b. IsValid b d) empty.writers.debug_info.plain (subst (λ s. IsValidAt (meaning old.debug_info.0).is_plain s d) at valid)
+    let lines : end_of (meaning old.debug_line.0) ≡ no_lines true =
+    ap (λ n. let e : End = record { size = n; is_plain = (meaning old.debug_line.0).is_plain } in e) empty.writers.debug_line.size ∙ ap (λ b. let e : End = record { size = 0; is_plain = b } in e) empty.writers.debug_line.plain
+    in
+    subst (λ b. IsValidAt b at_begin (no_lines true) d) empty.writers.debug_info.plain
+    (subst (λ e. IsValidAt plain at_begin e d) lines (subst (λ s. IsValidAt plain s (end_of (meaning old.debug_line.0)) d) at valid))

@@ -1,4 +1,5 @@
 pub mod Held
 pub mod Complete
 pub mod OneUnit
-pub mod StringSections
+pub mod RestSections
+pub mod Left

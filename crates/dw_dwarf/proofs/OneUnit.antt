@@ -1,32 +1,34 @@
 -- A Dwarf of one unit, which was written alone.
 use Rattle.std.specs.Prelude.{◌≡◌, ◌⊎◌, ℕ, Bool, true, false, List, [], ◌∷◌, Option, refl, IsTrue, IsFalse}
-use Rattle.std.proofs.Common.{sym, ◌∙◌, ap, subst, inl, inr}
+use Rattle.std.proofs.Common.{sym, ◌∙◌, ap, subst, inl, inr, arith}
 use Rattle.dw_base.specs.Numbers.{word_of}
 use Rattle.dw_base.specs.declared.error.Error.{Error}
 use Rattle.dw_base.specs.declared.error.Error.TheVariants as errors
 use Rattle.dw_writer.specs.Contents.{Meaning}
 use Rattle.dw_writer.specs.Sections.{SomeHasRisen, NoFixups}
 use Rattle.dw_writer.specs.declared.sections.Sections.{Sections}
-use Rattle.dw_entries.specs.Targets.{Tables}
+use Rattle.dw_unit.specs.Elsewhere.{Elsewhere, elsewhere, end_of, unit_tables, line_text, AppendsLine}
+use Rattle.dw_unit.proofs.LineSteps.{behind-then, behind-as, lines_none, lines_new}
+use Rattle.dw_writer.proofs.Parts.{followed-nothing}
 use Rattle.dw_unit.specs.Alone.{has_info_reference, only_unit, AppendsAlone, AloneFails, AloneRefused}
 use Rattle.dw_unit.specs.Pending.{info_of}
 use Rattle.dw_unit.specs.Places.{OffsetsValue}
-use Rattle.dw_unit.specs.Strings.{tables_in}
 use Rattle.dw_unit.specs.UnitFaults.{holes_fail}
 use Rattle.dw_unit.specs.UnitValue.{UnitValue}
 use Rattle.dw_unit.specs.Valid.{IsWritableAt}
 use Rattle.dw_unit.specs.Whole.{settled}
 use Rattle.dw_unit.specs.Written.{KeepsOtherSections}
 use Rattle.dw_unit.proofs.ValidLaws.{unit_unfailing}
-use Rattle.dw_dwarf.specs.Valid.{dwarf_of, settled_units}
-use Rattle.dw_dwarf.specs.Written.{KeepsAllButStrings, KeepsOthers}
+use Rattle.dw_dwarf.specs.DwarfValue.{dwarf_of}
+use Rattle.dw_dwarf.specs.Valid.{programs_fail, settled_units}
+use Rattle.dw_dwarf.specs.Written.{AddsPrograms, AddsLines, KeepsAllButRest, KeepsOthers}
 use Rattle.dw_dwarf.proofs.Held.{WritesWhole}
 
 -- a unit that was added alone is a whole Dwarf
-pub alone_whole : {W : Type 0} (meaning : W → Meaning) (old new : Sections W) (line_strings strings : List (List ℕ)) (u : UnitValue) (offsets : Option OffsetsValue) → AppendsAlone meaning old new (settled u) (tables_in line_strings strings) offsets →
-    WritesWhole meaning old new (settled_units (dwarf_of line_strings strings u))
+pub alone_whole : {W : Type 0} (meaning : W → Meaning) (old new : Sections W) (line_strings strings : List (List ℕ)) (u : UnitValue) (offsets : Option OffsetsValue) → AppendsAlone meaning old new (settled u) (unit_tables (elsewhere meaning old line_strings strings) u) offsets →
+    WritesWhole meaning old new (settled_units (end_of (meaning old.debug_line.0)) (dwarf_of line_strings strings u))
 alone_whole meaning old new line_strings strings u offsets p =
-    let us = only_unit (tables_in line_strings strings) (settled u) in
+    let us = only_unit (unit_tables (elsewhere meaning old line_strings strings) u) (settled u) in
     let ks = p.kept ∷ [] in
     let info = info_of us ks in
     record {
@@ -35,17 +37,30 @@ alone_whole meaning old new line_strings strings u offsets p =
       lead = λ err. subst (λ hs. IsFalse (holes_fail info (meaning old.debug_info.0).is_plain hs err)) (sym p.closed) refl;
     }
 
+module _ {W : Type 0} (meaning : W → Meaning) (old mid new : Sections W) (line_strings strings : List (List ℕ)) (u : UnitValue) where
+  -- its line program, with no other behind it
+  pub line_behind : AppendsLine meaning old mid line_strings strings u → AddsPrograms meaning mid new line_strings strings [] → AppendsLine meaning old new line_strings strings u
+  line_behind p q = behind-as (behind-then p q) (omega arith) (λ big l. followed-nothing (line_text line_strings strings u big l))
+
+  -- is all that is added to .debug_line
+  pub line_alone : u.is_written ≡ false → AppendsLine meaning old mid line_strings strings u → AddsPrograms meaning mid new line_strings strings [] → AddsLines meaning old new (dwarf_of line_strings strings u)
+  line_alone unwritten p q = behind-then (lines_new line_strings strings meaning old old mid [] u unwritten (lines_none line_strings strings meaning old) p) q
+
+-- no line program has a fault
+pub no_program : (line_strings strings : List (List ℕ)) (plain : Bool) (e : Error) → IsTrue (programs_fail line_strings strings plain [] e) → ⊥
+no_program line_strings strings plain e h = absurd (let x : false ≡ true = h in cc)
+
 -- the lists of fixups of .debug_loc and .debug_loclists stay, too
-pub others_kept : {W : Type 0} (old mid new : Sections W) → KeepsOtherSections old mid → KeepsAllButStrings mid new → KeepsOthers old new
+pub others_kept : {W : Type 0} (old mid new : Sections W) → KeepsOtherSections old mid → KeepsAllButRest mid new → KeepsOthers old new
 others_kept {W} old mid new h k =
-    let both : new ≡ record old { debug_abbrev = new.debug_abbrev; debug_str = new.debug_str; debug_line_str = new.debug_line_str; debug_info = new.debug_info; debug_info_fixups = new.debug_info_fixups } =
+    let both : new ≡ record old { debug_abbrev = new.debug_abbrev; debug_str = new.debug_str; debug_line_str = new.debug_line_str; debug_line = new.debug_line; debug_info = new.debug_info; debug_info_fixups = new.debug_info_fixups } =
     k
-    ∙ ap (λ (s : Sections W). let t : Sections W = record s { debug_str = new.debug_str; debug_line_str = new.debug_line_str } in t) h
-    ∙ ap (λ (s : Sections W). let t : Sections W = record old { debug_abbrev = s.debug_abbrev; debug_str = new.debug_str; debug_line_str = new.debug_line_str; debug_info = s.debug_info; debug_info_fixups = s.debug_info_fixups } in t) (sym k)
+    ∙ ap (λ (s : Sections W). let t : Sections W = record s { debug_str = new.debug_str; debug_line_str = new.debug_line_str; debug_line = new.debug_line } in t) h
+    ∙ ap (λ (s : Sections W). let t : Sections W = record old { debug_abbrev = s.debug_abbrev; debug_str = new.debug_str; debug_line_str = new.debug_line_str; debug_line = new.debug_line; debug_info = s.debug_info; debug_info_fixups = s.debug_info_fixups } in t) (sym k)
     in
     both
-    ∙ ap (λ xs. let s : Sections W = record old { debug_abbrev = new.debug_abbrev; debug_str = new.debug_str; debug_line_str = new.debug_line_str; debug_info = new.debug_info; debug_info_fixups = new.debug_info_fixups; debug_loc_fixups = xs } in s) (sym (ap (λ s. s.debug_loc_fixups) both))
-    ∙ ap (λ xs. let s : Sections W = record old { debug_abbrev = new.debug_abbrev; debug_str = new.debug_str; debug_line_str = new.debug_line_str; debug_info = new.debug_info; debug_info_fixups = new.debug_info_fixups; debug_loc_fixups = new.debug_loc_fixups; debug_loclists_fixups = xs } in s) (sym (ap (λ s. s.debug_loclists_fixups) both))
+    ∙ ap (λ xs. let s : Sections W = record old { debug_abbrev = new.debug_abbrev; debug_str = new.debug_str; debug_line_str = new.debug_line_str; debug_line = new.debug_line; debug_info = new.debug_info; debug_info_fixups = new.debug_info_fixups; debug_loc_fixups = xs } in s) (sym (ap (λ s. s.debug_loc_fixups) both))
+    ∙ ap (λ xs. let s : Sections W = record old { debug_abbrev = new.debug_abbrev; debug_str = new.debug_str; debug_line_str = new.debug_line_str; debug_line = new.debug_line; debug_info = new.debug_info; debug_info_fixups = new.debug_info_fixups; debug_loc_fixups = new.debug_loc_fixups; debug_loclists_fixups = xs } in s) (sym (ap (λ s. s.debug_loclists_fixups) both))
 
 pub no_fixups : {W : Type 0} (old new : Sections W) → KeepsOtherSections old new → NoFixups old → new.debug_info_fixups ≡ [] → NoFixups new
 no_fixups old new others none closed = record {
@@ -59,11 +74,11 @@ not_both true t f = absurd (let x : true ≡ false = f in cc)
 not_both false t f = absurd (let x : false ≡ true = t in cc)
 
 -- A unit that can be written, and has no reference by a place in .debug_info, has no cause to be refused.
-alone_unfailing : (plain : Bool) (t : Tables) (table : ℕ) (u : UnitValue) → IsWritableAt plain t table u → IsFalse (has_info_reference u) → (err : Error) → AloneFails u t table plain err → ⊥
+alone_unfailing : (plain : Bool) (t : Elsewhere) (table : ℕ) (u : UnitValue) → IsWritableAt plain t table u → IsFalse (has_info_reference u) → (err : Error) → AloneFails u t table plain err → ⊥
 alone_unfailing plain t table u w alone err (inl h) = unit_unfailing plain t u table w.1 w.0 err h
 alone_unfailing plain t table u w alone err (inr h) = not_both (has_info_reference u) h.1 alone
 
-pub alone_complete : {W : Type 0} (meaning : W → Meaning) (old new : Sections W) (t : Tables) (u : UnitValue) → IsWritableAt (meaning old.debug_info.0).is_plain t (meaning old.debug_abbrev.0).size u → IsFalse (has_info_reference u) →
+pub alone_complete : {W : Type 0} (meaning : W → Meaning) (old new : Sections W) (t : Elsewhere) (u : UnitValue) → IsWritableAt (meaning old.debug_info.0).is_plain t (meaning old.debug_abbrev.0).size u → IsFalse (has_info_reference u) →
     (SomeHasRisen meaning old new → ⊥) → (err : Error) → AloneRefused meaning old new u t err → err ≡ errors.NoMemory
 alone_complete meaning old new t u w alone calm errors.NoMemory r = refl
 alone_complete meaning old new t u w alone calm errors.WriteFault r = absurd (calm r)

@@ -1,28 +1,34 @@
 -- What sections hold once a Dwarf was written into them.
-use Rattle.std.specs.Prelude.{◌≡◌, ◌⊎◌, ℕ, Bool, List, [], ◌∷◌, Some}
+use Rattle.std.specs.Prelude.{◌≡◌, ◌⊎◌, ℕ, ◌+◌, Bool, true, List, [], ◌∷◌, Some}
 use Rattle.dw_base.specs.declared.section_id.SectionId.TheVariants.{DebugAbbrev, DebugInfo}
 use Rattle.dw_writer.specs.Causes.{HasRisen}
 use Rattle.dw_writer.specs.Contents.{Meaning}
-use Rattle.dw_writer.specs.Meaning.{Adds}
+use Rattle.dw_writer.specs.Texts.{followed}
+use Rattle.dw_writer.specs.Meaning.{Model, Adds}
 use Rattle.dw_writer.specs.Layout.{Layout, start_of}
 use Rattle.dw_writer.specs.Resolved.{resolved}
 use Rattle.dw_writer.specs.New.{IsEmptyPlainWriter, IsEmptyWriter}
 use Rattle.dw_writer.specs.Sections.{EachWriter, NoFixups}
 use Rattle.dw_writer.specs.declared.sections.Sections.{Sections}
-use Rattle.dw_unit.specs.Built.{Built, numbered, whole_file}
+use Rattle.dw_line.specs.LinePrograms.{LineProgramValue, line_program_size, line_program_text}
+use Rattle.dw_line.specs.Parts.{sizes, texts}
+use Rattle.dw_unit.specs.Built.{Built, at_zero, whole_file}
+use Rattle.dw_unit.specs.Elsewhere.{line_text, new_line_size, new_line_text, AppendsBehind}
 use Rattle.dw_strings.specs.Strings.{string_bytes}
-use Rattle.dw_dwarf.specs.Valid.{string_tables}
-use Rattle.dw_dwarf.specs.declared.dwarf.Dwarf.{Dwarf}
+use Rattle.dw_dwarf.specs.Valid.{found_from, no_lines, settled_units}
+use Rattle.dw_dwarf.specs.DwarfValue.{DwarfValue}
 
 -- nothing was written yet: every writer is empty, and plain, in an order of its own
 pub record AreNewPlain {W : Type 0} (meaning : W → Meaning) (s : Sections W) : Type 0 where
   pub writers : EachWriter (λ w. IsEmptyPlainWriter (meaning w) (meaning w).is_big) s
   pub fixups : NoFixups s
 
--- the same of writers of any kind, of the two sections that units are written into
+-- the same of writers of any kind, of the three sections that units with their line programs are written into
 pub record AreNew {W : Type 0} (meaning : W → Meaning) (s : Sections W) : Type 0 where
   pub info : IsEmptyWriter (meaning s.debug_info.0) (meaning s.debug_info.0).is_big
   pub abbrevs : IsEmptyWriter (meaning s.debug_abbrev.0) (meaning s.debug_abbrev.0).is_big
+  pub lines : IsEmptyWriter (meaning s.debug_line.0) (meaning s.debug_line.0).is_big
+  pub kind : (meaning s.debug_line.0).is_plain ≡ (meaning s.debug_info.0).is_plain
   pub fixups : NoFixups s
 
 -- the bytes of the eleven sections
@@ -39,13 +45,19 @@ pub record SectionTexts : Type 0 where
   pub debug_frame : List ℕ
   pub eh_frame : List ℕ
 
--- These are the texts of a Dwarf: .debug_info and .debug_abbrev are read, to their last byte, as exactly its units, its
--- strings stand in their sections, and there is nothing else.
-pub record AreTextsOf (big : Bool) (d : Dwarf) (t : SectionTexts) : Type 0 where
-  pub units : Built (whole_file (string_tables d) d.units ∷ []) big t.debug_info t.debug_abbrev
+-- the line programs of units that are in use, and those of no unit behind them
+abbrev pub dwarf_lines : DwarfValue → Model
+dwarf_lines d big l =
+    followed (texts (line_text d.line_strings d.strings) d.units big l) (texts (line_program_text d.strings d.line_strings) d.line_programs big l)
+
+-- These are the texts of a Dwarf: .debug_info and .debug_abbrev are read, to their last byte, as exactly its units, each of which
+-- names the place of its line program, its line programs and its strings stand in their sections, and there is nothing else.
+-- The byte orders are those of .debug_info and of .debug_line.
+pub record AreTextsOf (big lines_big : Bool) (d : DwarfValue) (t : SectionTexts) : Type 0 where
+  pub units : Built (whole_file (found_from (no_lines true) d) d.units ∷ []) big t.debug_info t.debug_abbrev
   pub strings : t.debug_str ≡ string_bytes d.strings
   pub line_strings : t.debug_line_str ≡ string_bytes d.line_strings
-  pub lines : t.debug_line ≡ []
+  pub lines : dwarf_lines d lines_big at_zero ≡ Some t.debug_line
   pub ranges : t.debug_ranges ≡ []
   pub range_lists : t.debug_rnglists ≡ []
   pub locations : t.debug_loc ≡ []
@@ -68,25 +80,27 @@ pub record TellTexts {W : Type 0} (meaning : W → Meaning) (s : Sections W) (t 
   pub eh_frame : (meaning s.eh_frame.0).bytes ≡ Some t.eh_frame
 
 -- the sections hold exactly this Dwarf
-pub record HoldsDwarf {W : Type 0} (meaning : W → Meaning) (s : Sections W) (d : Dwarf) : Type 0 where
+pub record HoldsDwarf {W : Type 0} (meaning : W → Meaning) (s : Sections W) (d : DwarfValue) : Type 0 where
   pub texts : SectionTexts
-  pub are : AreTextsOf (meaning s.debug_info.0).is_big d texts
+  pub are : AreTextsOf (meaning s.debug_info.0).is_big (meaning s.debug_line.0).is_big d texts
   pub told : TellTexts meaning s texts
 
 -- Once a linker has put every record's number in, where the two sections start at 0, they are read as exactly the units, with
--- the layout's values in the place of symbols.
-pub record ResolvesTo {W : Type 0} (meaning : W → Meaning) (s : Sections W) (d : Dwarf) : Type 0 where
+-- the layout's values in the place of symbols, and .debug_line is the line programs.
+pub record ResolvesTo {W : Type 0} (meaning : W → Meaning) (s : Sections W) (d : DwarfValue) : Type 0 where
   pub built : (l : Layout) (info abbrevs : List ℕ) → start_of l DebugInfo ≡ 0 → start_of l DebugAbbrev ≡ 0 →
       resolved l (meaning s.debug_info.0) ≡ Some info → resolved l (meaning s.debug_abbrev.0) ≡ Some abbrevs →
-      Built (record { units = numbered (string_tables d) d.units; layout = l } ∷ []) (meaning s.debug_info.0).is_big info abbrevs
+      Built (record { units = settled_units (no_lines true) d; layout = l } ∷ []) (meaning s.debug_info.0).is_big info abbrevs
+  pub lines : (l : Layout) (bytes : List ℕ) → resolved l (meaning s.debug_line.0) ≡ Some bytes → dwarf_lines d (meaning s.debug_line.0).is_big l ≡ Some bytes
 
--- all but the sections of units and of strings and the lists of fixups is as before
+-- all but the sections of units, of line programs and of strings and the lists of fixups is as before
 abbrev pub KeepsOthers : {W : Type 0} → Sections W → Sections W → Type 0
 KeepsOthers old new =
     new ≡ record old {
       debug_abbrev = new.debug_abbrev;
       debug_str = new.debug_str;
       debug_line_str = new.debug_line_str;
+      debug_line = new.debug_line;
       debug_info = new.debug_info;
       debug_info_fixups = new.debug_info_fixups;
       debug_loc_fixups = new.debug_loc_fixups;
@@ -98,11 +112,23 @@ pub record AddsStrings {W : Type 0} (meaning : W → Meaning) (old new : Section
   pub lines : Adds (meaning old.debug_line_str.0) (meaning new.debug_line_str.0) (string_bytes line_strings)
   pub others : Adds (meaning old.debug_str.0) (meaning new.debug_str.0) (string_bytes strings)
 
--- all but the sections of strings is as before
-abbrev pub KeepsAllButStrings : {W : Type 0} → Sections W → Sections W → Type 0
-KeepsAllButStrings old new = new ≡ record old { debug_str = new.debug_str; debug_line_str = new.debug_line_str }
+-- line programs of no unit are added
+abbrev pub AddsPrograms : {W : Type 0} → (W → Meaning) → Sections W → Sections W → List (List ℕ) → List (List ℕ) → List LineProgramValue → Type 0
+AddsPrograms meaning old new line_strings strings programs =
+    AppendsBehind (meaning old.debug_line.0) (meaning new.debug_line.0) (sizes line_program_size programs) (texts (line_program_text strings line_strings) programs)
 
--- a fault was counted in a section of strings
-abbrev pub StringsHaveRisen : {W : Type 0} → (W → Meaning) → Sections W → Sections W → Type 0
-StringsHaveRisen meaning old new =
-    HasRisen (meaning old.debug_line_str.0) (meaning new.debug_line_str.0) ⊎ HasRisen (meaning old.debug_str.0) (meaning new.debug_str.0)
+-- line programs are added, those of units and behind them those of no unit
+abbrev pub AddsLines : {W : Type 0} → (W → Meaning) → Sections W → Sections W → DwarfValue → Type 0
+AddsLines meaning old new d =
+    AppendsBehind (meaning old.debug_line.0) (meaning new.debug_line.0) (sizes new_line_size d.units + sizes line_program_size d.line_programs)
+    (λ big l. followed (texts (new_line_text d.line_strings d.strings) d.units big l) (texts (line_program_text d.strings d.line_strings) d.line_programs big l))
+
+-- all but the sections of line programs and of strings is as before
+abbrev pub KeepsAllButRest : {W : Type 0} → Sections W → Sections W → Type 0
+KeepsAllButRest old new = new ≡ record old { debug_str = new.debug_str; debug_line_str = new.debug_line_str; debug_line = new.debug_line }
+
+-- a fault was counted in one of these sections
+abbrev pub RestHasRisen : {W : Type 0} → (W → Meaning) → Sections W → Sections W → Type 0
+RestHasRisen meaning old new =
+    HasRisen (meaning old.debug_line.0) (meaning new.debug_line.0)
+    ⊎ (HasRisen (meaning old.debug_line_str.0) (meaning new.debug_line_str.0) ⊎ HasRisen (meaning old.debug_str.0) (meaning new.debug_str.0))

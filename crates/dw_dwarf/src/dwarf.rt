@@ -1,27 +1,37 @@
 //! The DWARF of one file.
 
-ghost use Rattle.std.specs.Prelude.{◌≡◌, ◌≤◌, [], OnOk, OnErr, IfErr};
+ghost use Rattle.std.specs.Prelude.{◌≡◌, ◌⊎◌, ◌≤◌, Bool, [], Some, IsTrue, OnOk, OnErr, IfErr};
 ghost use Rattle.dw_base.specs.declared.error.Error.TheVariants.{NoMemory};
+ghost use Rattle.dw_writer.specs.New.{IsNew};
 ghost use Rattle.dw_writer.specs.Sections.{SomeHasRisen, fault_sum, NoFixups};
+ghost use Rattle.dw_line.specs.Parts.{NoCause};
 ghost use Rattle.dw_unit.specs.Causes.{RefusesAny};
+ghost use Rattle.dw_unit.specs.Elsewhere.{end_of};
 ghost use Rattle.dw_unit.specs.Pending.{starts_of};
 ghost use Rattle.dw_unit.specs.Valid.{CanFollow};
 ghost use Rattle.dw_unit.specs.Written.{AreWritten, AreStopped, CompletesAny};
-ghost use Rattle.dw_dwarf.specs.Valid.{AreUnwritten, IsValid, IsValidAt, DwarfRefused, settled_dwarf, string_tables};
-ghost use Rattle.dw_dwarf.specs.Written.{AreNewPlain, AreNew, HoldsDwarf, ResolvesTo, AddsStrings, KeepsOthers};
+ghost use Rattle.dw_dwarf.specs.DwarfValue.{dwarf_in};
+ghost use Rattle.dw_dwarf.specs.Left.{IsLeft};
+ghost use Rattle.dw_dwarf.specs.LineNames.{IsThere, bytes_of};
+ghost use Rattle.dw_dwarf.specs.Valid.{AreUnwritten, IsValid, IsValidAt, DwarfRefused, extra_fails, found_in};
+ghost use Rattle.dw_dwarf.specs.Written.{AreNewPlain, AreNew, HoldsDwarf, ResolvesTo, AddsLines, AddsStrings, KeepsOthers};
 
-use crate::strings::write_strings;
+use crate::line_string::line_string_bytes;
+use crate::rest::write_rest;
 use dw_base::Result;
 use dw_strings::{LineStringTable, StringTable};
-use dw_unit::UnitTable;
+use dw_unit::{LineProgram, LineString, UnitTable};
 use dw_writer::{Sections, Writer};
 use std::alloc::Global;
 
-/// What is written into the sections of one file.
+/// What is written into the sections of one file: units with their line programs, further line
+/// programs, and strings.
 #[derive(Drop)]
 pub struct Dwarf {
     /// The units of `.debug_info`, in the order in which they are written.
     pub units: UnitTable,
+    /// Line programs of no unit, which are written behind those of units.
+    pub line_programs: Vec<LineProgram>,
     /// The strings of `.debug_line_str`.
     pub line_strings: LineStringTable,
     /// The strings of `.debug_str`.
@@ -29,36 +39,46 @@ pub struct Dwarf {
 }
 
 impl Dwarf {
-    /// No units and no strings.
+    /// No units, no line programs and no strings.
     pub fn new(alloc: Global) -> Dwarf
-        ensures { result ≡ record { units = []; line_strings = []; strings = [] } }
+        ensures { dwarf_in result
+            ≡ record { units = []; line_programs = []; line_strings = []; strings = [] } }
     {
         Dwarf {
             units: UnitTable::new(alloc),
+            line_programs: Vec::new(alloc),
             line_strings: LineStringTable::new(alloc),
             strings: StringTable::new(alloc),
         }
     }
 
     /// Writes the units that aren't written yet, each with an abbreviation table of its own, and
-    /// marks them written, and then the strings. After Ok the three lists of fixups are empty.
+    /// marks them written, then the line programs of no unit and the strings. After Ok the three
+    /// lists of fixups are empty.
     ///
     /// Over new plain sections, as `Sections::new` gives them over an empty `EndianVec`, and where
     /// none of the units was written before, `.debug_info` and `.debug_abbrev` then hold exactly
-    /// these units, to their last byte (DWARF 5, 7.5), `.debug_str` and `.debug_line_str` the
-    /// strings (7.26), and the other sections are empty. In each unit the root's base types stand
-    /// before its other children.
+    /// these units, to their last byte (DWARF 5, 7.5), `.debug_line` the line programs in use and
+    /// behind them those of no unit (6.2), `.debug_str` and `.debug_line_str` the strings (7.26),
+    /// and the other sections are empty. In each unit the root names its line program in
+    /// `DW_AT_stmt_list`, where that is in use, and its base types stand before its other children.
     ///
     /// Refused as `UnsupportedVersion` or `UnsupportedWordSize` where a unit's version isn't 2 to 5
     /// or its address size isn't 1, 2, 4 or 8, as `InvalidAttributeValue` where a string value has
-    /// a zero byte, as `InvalidReference` where a reference names an entry outside its unit's tree,
-    /// a unit that is absent or was skipped, a symbol, or a string that isn't in its table, as
-    /// `InvalidAddress` where an address is a symbol's and the sections record no relocations, as
-    /// `InitialLengthOverflow` where a 32-bit unit has 0xffff_fff0 bytes or more after its length
-    /// (DWARF 5, 7.4), as `ValueTooLarge` where an address, an offset, the place of a table, of a
-    /// string or of an entry, or the size of a unit has no room, and as `WriteFault` or `NoMemory`.
-    /// The units before the one that was refused are written, it stays as it was or has its base
-    /// types moved, and those behind it stay as they were; the sections may have got some bytes.
+    /// a zero byte or a value names a line program that isn't in use, as `InvalidReference` where a
+    /// reference names an entry outside its unit's tree, a unit that is absent or was skipped, a
+    /// symbol, or a string that isn't in its table, as `UnsetBranchTarget` where a branch of an
+    /// expression has no target, as `UnsupportedExpressionForwardReference` where an expression
+    /// spells in LEB128 the place of an entry that comes later in the tree, or any place in the
+    /// unit of one outside it, as `InvalidAddress` where an address is a symbol's and the sections
+    /// record no relocations, as `InitialLengthOverflow` where a 32-bit unit or line program has
+    /// 0xffff_fff0 bytes or more after its length (DWARF 5, 7.4), as `NeedVersion`,
+    /// `LineStringFormMismatch` or `IncompatibleLineProgramEncoding` where `LineProgram::write`
+    /// refuses a line program, as `ValueTooLarge` where an address, an offset, the place of a
+    /// table, of a string, of a line program or of an entry, the number of a file, a change of
+    /// line, or the size of a unit has no room, and as `WriteFault` or `NoMemory`. The units before
+    /// the one that was refused are written, it stays as it was or is settled, and those behind it
+    /// stay as they were; the sections may have got some bytes.
     ///
     /// ```
     /// let mut dwarf = Dwarf::new(alloc);
@@ -69,17 +89,25 @@ impl Dwarf {
     pub fn write<W: Writer>(&mut self, sections: &mut Sections<W>) -> Result<()>
         // Over new plain sections, each in its own byte order: they are read back as the units.
         ensures built { OnOk result
-            (AreNewPlain W.meaning sections.old → AreUnwritten self.old →
-            HoldsDwarf W.meaning sections.new (settled_dwarf self.old)) }
+            (AreNewPlain W.meaning sections.old → AreUnwritten (dwarf_in self.old) →
+            HoldsDwarf W.meaning sections.new (dwarf_in self.old)) }
         // Over new sections of any kind: so they are once a linker has resolved them.
         ensures resolves { OnOk result
-            (AreNew W.meaning sections.old → AreUnwritten self.old →
-            ResolvesTo W.meaning sections.new (settled_dwarf self.old)) }
+            (AreNew W.meaning sections.old → AreUnwritten (dwarf_in self.old) →
+            ResolvesTo W.meaning sections.new (dwarf_in self.old)) }
+        // So a linker finds it.
+        ensures left { OnOk result
+            ((big : Bool) → IsNew W.meaning big sections.old → AreUnwritten (dwarf_in self.old) →
+            IsLeft W.meaning big sections.new (dwarf_in self.old)) }
         // Over sections of any kind, behind whatever units are pending there: units that weren't
         // written before are added, and every reference that is open is filled in.
         ensures completes { OnOk result
             (CompletesAny W.meaning sections.old sections.new self.old.units self.new.units
-            (string_tables self.old)) }
+            (found_in W.meaning sections.old (dwarf_in self.old))) }
+        // The line programs in use stand behind what `.debug_line` held, in the order of the units,
+        // and behind them those of no unit.
+        ensures lines { OnOk result
+            (AddsLines W.meaning sections.old sections.new (dwarf_in self.old)) }
         // The strings stand behind what their sections held.
         ensures strings { OnOk result
             (AddsStrings W.meaning sections.old sections.new self.old.line_strings
@@ -89,29 +117,37 @@ impl Dwarf {
         // the sections ended.
         ensures marked { OnOk result
             (AreWritten (starts_of W.meaning sections.old) (starts_of W.meaning sections.new)
-            (string_tables self.old) self.old.units self.new.units) }
+            (found_in W.meaning sections.old (dwarf_in self.old)) self.old.units
+            self.new.units) }
         ensures valid { OnOk result
-            (sections.old.debug_info_fixups ≡ [] → AreUnwritten self.old →
+            (sections.old.debug_info_fixups ≡ [] → AreUnwritten (dwarf_in self.old) →
             IsValidAt (W.meaning sections.old.debug_info.0).is_plain
-            (starts_of W.meaning sections.old) self.old) }
+            (starts_of W.meaning sections.old) (end_of (W.meaning sections.old.debug_line.0))
+            (dwarf_in self.old)) }
 
         ensures err { IfErr result
-            (λ e. sections.old.debug_info_fixups ≡ [] → AreUnwritten self.old →
-            DwarfRefused W.meaning sections.old sections.new self.old e) }
+            (λ e. sections.old.debug_info_fixups ≡ [] → AreUnwritten (dwarf_in self.old) →
+            DwarfRefused W.meaning sections.old sections.new (dwarf_in self.old) e) }
         ensures refused { IfErr result
-            (RefusesAny W.meaning sections.old sections.new self.old.units self.new.units
-            (string_tables self.old)) }
+            (λ e. RefusesAny W.meaning sections.old sections.new self.old.units self.new.units
+            (found_in W.meaning sections.old (dwarf_in self.old)) e
+            ⊎ IsTrue (extra_fails (W.meaning sections.old.debug_line.0).is_plain
+            (dwarf_in self.old) e)) }
         ensures stopped { OnErr result
-            (AreStopped (starts_of W.meaning sections.old) (string_tables self.old) self.old.units
+            (AreStopped (starts_of W.meaning sections.old)
+            (found_in W.meaning sections.old (dwarf_in self.old)) self.old.units
             self.new.units) }
         // A valid Dwarf is refused over new sections only for want of memory, or by a fault that
         // was counted. What is valid hangs on whether symbols can be written.
-        ensures complete { AreNew W.meaning sections.old → AreUnwritten self.old →
-            IsValid (W.meaning sections.old.debug_info.0).is_plain self.old →
+        ensures complete { AreNew W.meaning sections.old → AreUnwritten (dwarf_in self.old) →
+            IsValid (W.meaning sections.old.debug_info.0).is_plain (dwarf_in self.old) →
             (SomeHasRisen W.meaning sections.old sections.new → ⊥) →
             IfErr result (λ e. e ≡ NoMemory) }
         // The same behind units that are pending.
-        ensures follows { CanFollow W.meaning sections.old self.old.units (string_tables self.old) →
+        ensures follows { CanFollow W.meaning sections.old self.old.units
+            (found_in W.meaning sections.old (dwarf_in self.old)) →
+            NoCause (extra_fails (W.meaning sections.old.debug_line.0).is_plain
+            (dwarf_in self.old)) →
             (SomeHasRisen W.meaning sections.old sections.new → ⊥) →
             IfErr result (λ e. e ≡ NoMemory) }
         // Only the units change.
@@ -122,6 +158,20 @@ impl Dwarf {
     {
         self.units
             .write(sections, &self.line_strings, &self.strings)?;
-        write_strings(&self.line_strings, &self.strings, sections)
+        write_rest(
+            self.line_programs.as_slice(),
+            &self.line_strings,
+            &self.strings,
+            sections,
+        )
+    }
+
+    /// The bytes of a string of a line program, without a closing zero (DWARF 5, 6.2.4.1). One that
+    /// is named by its id has to be in its table.
+    pub fn get_line_string<'a>(&'a self, string: &'a LineString) -> &'a [u8]
+        requires { IsThere self.now.line_strings self.now.strings string.now }
+        ensures { bytes_of self.now.line_strings self.now.strings string.now ≡ Some result.now }
+    {
+        line_string_bytes(string, &self.line_strings, &self.strings)
     }
 }

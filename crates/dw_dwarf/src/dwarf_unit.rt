@@ -1,20 +1,23 @@
 //! The DWARF of a file that has one unit.
 
-ghost use Rattle.std.specs.Prelude.{◌≡◌, ◌⊎◌, ◌≤◌, [], true, false, IfOk, OnOk, OnErr, IfErr, IsFalse};
+ghost use Rattle.std.specs.Prelude.{◌≡◌, ◌⊎◌, ◌≤◌, [], true, false, Some, IfOk, OnOk, OnErr, IfErr, IsFalse};
 ghost use Rattle.dw_base.specs.declared.error.Error.TheVariants.{NoMemory};
 ghost use Rattle.dw_writer.specs.Sections.{SomeHasRisen, fault_sum, NoFixups};
 ghost use Rattle.dw_unit.specs.Alone.{has_info_reference, AppendsAlone, AloneRefused};
-ghost use Rattle.dw_unit.specs.Strings.{tables_in};
-ghost use Rattle.dw_unit.specs.UnitValue.{new_unit, no_line_program};
+ghost use Rattle.dw_unit.specs.Elsewhere.{elsewhere, unit_tables, AppendsLine};
+ghost use Rattle.dw_line.specs.LinePrograms.{no_line_program};
+ghost use Rattle.dw_unit.specs.UnitValue.{new_unit};
 ghost use Rattle.dw_unit.specs.Valid.{IsWritableAt};
 ghost use Rattle.dw_unit.specs.Whole.{settled, marked_written};
-ghost use Rattle.dw_dwarf.specs.Valid.{dwarf_of};
+ghost use Rattle.dw_dwarf.specs.DwarfValue.{dwarf_of};
+ghost use Rattle.dw_dwarf.specs.LineNames.{IsThere, bytes_of};
 ghost use Rattle.dw_dwarf.specs.Written.{AreNewPlain, AreNew, HoldsDwarf, ResolvesTo, AddsStrings, KeepsOthers};
 
-use crate::strings::write_strings;
+use crate::line_string::line_string_bytes;
+use crate::rest::write_rest;
 use dw_base::{Encoding, Result};
 use dw_strings::{LineStringTable, StringTable};
-use dw_unit::{LineProgram, Unit};
+use dw_unit::{LineProgram, LineString, Unit};
 use dw_writer::{Sections, Writer};
 use std::alloc::Global;
 
@@ -57,12 +60,14 @@ impl DwarfUnit {
     }
 
     /// Writes the unit with its abbreviation table behind what the two sections hold, and marks it
-    /// written. Over new sections they then hold exactly this unit, to their last byte (DWARF 5,
-    /// 7.5). The root's base types move before its other children.
+    /// written, with its line program, where that is in use, and the strings. Over new sections
+    /// they then hold exactly these, to their last byte (DWARF 5, 6.2, 7.5 and 7.26). The root
+    /// names the line program in `DW_AT_stmt_list`, and its base types move before its other
+    /// children.
     ///
     /// Refused as `Unit::write` refuses the unit, and as `InvalidReference` where a reference names
     /// an entry by its place in `.debug_info`, also one of this unit. A refused unit is as it was,
-    /// or has its base types moved, and the two sections may have got some bytes.
+    /// or settled, and the sections may have got some bytes.
     pub fn write<W: Writer>(&mut self, sections: &mut Sections<W>) -> Result<()>
         requires unwritten { self.old.unit.is_written ≡ false }
         requires fixups { NoFixups sections.old }
@@ -70,16 +75,21 @@ impl DwarfUnit {
         ensures built { OnOk result
             (AreNewPlain W.meaning sections.old →
             HoldsDwarf W.meaning sections.new (dwarf_of self.old.line_strings
-            self.old.strings (settled self.old.unit))) }
+            self.old.strings self.old.unit)) }
         // Over new sections of any kind: so they are once a linker has resolved them.
         ensures resolves { OnOk result
             (AreNew W.meaning sections.old →
             ResolvesTo W.meaning sections.new (dwarf_of self.old.line_strings
-            self.old.strings (settled self.old.unit))) }
+            self.old.strings self.old.unit)) }
         // Over sections of any kind, behind whatever stands there.
         ensures appends { OnOk result
             (AppendsAlone W.meaning sections.old sections.new (settled self.old.unit)
-            (tables_in self.old.line_strings self.old.strings) self.new.unit.offsets) }
+            (unit_tables (elsewhere W.meaning sections.old self.old.line_strings
+            self.old.strings) self.old.unit) self.new.unit.offsets) }
+        // Its line program, where it is in use, stands behind what `.debug_line` held.
+        ensures lines { OnOk result
+            (AppendsLine W.meaning sections.old sections.new self.old.line_strings
+            self.old.strings self.old.unit) }
         // The strings stand behind what their sections held.
         ensures strings { OnOk result
             (AddsStrings W.meaning sections.old sections.new self.old.line_strings
@@ -89,13 +99,13 @@ impl DwarfUnit {
             (self.new.unit ≡ marked_written self.new.unit.offsets (settled self.old.unit)) }
         ensures writable { OnOk result
             (IsWritableAt (W.meaning sections.old.debug_info.0).is_plain
-            (tables_in self.old.line_strings self.old.strings)
+            (elsewhere W.meaning sections.old self.old.line_strings self.old.strings)
             (W.meaning sections.old.debug_abbrev.0).size self.old.unit) }
         ensures alone { OnOk result (IsFalse (has_info_reference self.old.unit)) }
 
         ensures err { IfErr result
             (AloneRefused W.meaning sections.old sections.new self.old.unit
-            (tables_in self.old.line_strings self.old.strings)) }
+            (elsewhere W.meaning sections.old self.old.line_strings self.old.strings)) }
         // A refused unit is as it was or settled, or was written, where only the strings were
         // refused.
         ensures kept { OnErr result
@@ -106,7 +116,7 @@ impl DwarfUnit {
         // A unit that can be written, without such references, is refused only for want of memory,
         // or by a fault that was counted.
         ensures complete { IsWritableAt (W.meaning sections.old.debug_info.0).is_plain
-            (tables_in self.old.line_strings self.old.strings)
+            (elsewhere W.meaning sections.old self.old.line_strings self.old.strings)
             (W.meaning sections.old.debug_abbrev.0).size self.old.unit →
             IsFalse (has_info_reference self.old.unit) →
             (SomeHasRisen W.meaning sections.old sections.new → ⊥) →
@@ -117,6 +127,14 @@ impl DwarfUnit {
     {
         self.unit
             .write_alone(sections, &self.line_strings, &self.strings)?;
-        write_strings(&self.line_strings, &self.strings, sections)
+        write_rest(&[], &self.line_strings, &self.strings, sections)
+    }
+
+    /// The bytes of a string of a line program, as `Dwarf::get_line_string` gives them.
+    pub fn get_line_string<'a>(&'a self, string: &'a LineString) -> &'a [u8]
+        requires { IsThere self.now.line_strings self.now.strings string.now }
+        ensures { bytes_of self.now.line_strings self.now.strings string.now ≡ Some result.now }
+    {
+        line_string_bytes(string, &self.line_strings, &self.strings)
     }
 }

@@ -2,27 +2,35 @@
 //! are all offered here, so that it names this crate alone.
 #![tactic(auto)]
 
+#[cfg(test)]
+mod building;
 mod dwarf;
 mod dwarf_unit;
 #[cfg(test)]
 mod dwarf_unit_tests;
 #[cfg(test)]
+mod expression_tests;
+mod line_string;
+#[cfg(test)]
+mod line_tests;
+#[cfg(test)]
 mod relocation_tests;
-mod strings;
+mod rest;
 #[cfg(test)]
 mod tests;
 #[cfg(test)]
 mod unit_table_tests;
 
 pub use dw_base::{
-    BigEndian, DebugInfoRef, DwAt, DwAte, DwForm, DwLang, DwTag, Encoding, Endianity, Error,
-    Format, LineStringId, LittleEndian, Result, RunTimeEndian, SectionId, StringId, UnitEntryId,
-    UnitId, constants,
+    Address, BigEndian, DebugInfoRef, DirectoryId, DwAt, DwAte, DwForm, DwLang, DwTag, Encoding,
+    Endianity, Error, FileId, Format, LineEncoding, LineStringId, LittleEndian, Result,
+    RunTimeEndian, SectionId, StringId, UnitEntryId, UnitId, constants,
 };
 pub use dw_strings::{LineStringTable, StringTable};
 pub use dw_unit::{
     AttrMut, Attribute, AttributeValue, AttributeWalk, AttrsMut, DebuggingInformationEntry,
-    EntryMut, LineProgram, Unit, UnitIter, UnitOffsets, UnitTable,
+    EntryMut, Expression, FileInfo, LineProgram, LineRow, LineString, Operation, Unit, UnitIter,
+    UnitOffsets, UnitTable,
 };
 pub use dw_writer::{Bytes, EndianVec, Section, Sections, Writer};
 pub use dwarf::Dwarf;

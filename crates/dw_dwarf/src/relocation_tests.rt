@@ -1,6 +1,7 @@
 //! Units, written with relocations.
 
 use crate::Dwarf;
+use crate::building::set;
 use dw_base::constants::{DW_AT_low_pc, DW_AT_macros, DW_AT_type};
 use dw_base::{
     Address, DebugInfoRef, DebugMacroOffset, Encoding, Error, Format, LittleEndian, Result,
@@ -125,17 +126,21 @@ fn root_alone(alloc: Global) -> Result<Unit> {
     Unit::new(alloc, encoding, LineProgram::none())
 }
 
+/// Two roots, the first of which names the second.
+fn naming_the_next(alloc: Global) -> Result<Dwarf> {
+    let mut first = root_alone(alloc)?;
+    let second_root = DebugInfoRef::Entry(UnitId::new(1), UnitEntryId::new(0));
+    let reference = AttributeValue::DebugInfoRef(second_root);
+    set(&mut first, 0, DW_AT_type, reference)?;
+    let mut dwarf = Dwarf::new(alloc);
+    dwarf.units.add(first)?;
+    dwarf.units.add(root_alone(alloc)?)?;
+    Ok(dwarf)
+}
+
 #[test]
 fn records_a_reference_across_units_once(rt: HostRuntime) -> std::result::Result<(), Fail> {
-    let mut first = root_alone(rt.alloc())?;
-    let second_root = DebugInfoRef::Entry(UnitId::new(1), UnitEntryId::new(0));
-    assert_eq!(rt; first.count(), 1);
-    first
-        .get_mut(UnitEntryId::new(0))
-        .set(DW_AT_type, AttributeValue::DebugInfoRef(second_root))?;
-    let mut dwarf = Dwarf::new(rt.alloc());
-    dwarf.units.add(first)?;
-    dwarf.units.add(root_alone(rt.alloc())?)?;
+    let mut dwarf = naming_the_next(rt.alloc())?;
     let writer = RelocVec::new(rt.alloc(), LittleEndian);
     let mut sections = Sections::new(rt.alloc(), writer)?;
     dwarf.write(&mut sections)?;
@@ -148,19 +153,23 @@ fn records_a_reference_across_units_once(rt: HostRuntime) -> std::result::Result
     Ok(())
 }
 
-/// A plain writer takes no symbol, and one that records takes no offset that isn't below 2^63.
+/// A plain writer takes no symbol.
 #[test]
-fn refuses_what_it_cannot_record(rt: HostRuntime) -> std::result::Result<(), Fail> {
+fn refuses_a_symbol(rt: HostRuntime) -> std::result::Result<(), Fail> {
     let mut dwarf = dwarf_of(rt.alloc(), 0x22)?;
     let writer = EndianVec::new(rt.alloc(), LittleEndian);
     let mut sections = Sections::new(rt.alloc(), writer)?;
-    assert_eq!(rt; dwarf.units.count(), 1);
     let answer = dwarf.write(&mut sections);
     assert_eq!(rt; answer, Err(Error::InvalidAddress));
+    Ok(())
+}
+
+/// A writer that records takes no offset that isn't below 2^63.
+#[test]
+fn refuses_what_it_cannot_record(rt: HostRuntime) -> std::result::Result<(), Fail> {
     let mut dwarf = dwarf_of(rt.alloc(), 1 << 63)?;
     let writer = RelocVec::new(rt.alloc(), LittleEndian);
     let mut sections = Sections::new(rt.alloc(), writer)?;
-    assert_eq!(rt; dwarf.units.count(), 1);
     let answer = dwarf.write(&mut sections);
     assert_eq!(rt; answer, Err(Error::ValueTooLarge));
     assert_eq!(rt; dwarf.units.count(), 1);

@@ -1,6 +1,7 @@
 //! A unit, written into memory.
 
 use crate::Dwarf;
+use crate::building::{add, delete, set, set_sibling, string};
 use dw_base::constants::{
     DW_AT_byte_size, DW_AT_name, DW_AT_type, DW_TAG_base_type, DW_TAG_variable,
 };
@@ -224,23 +225,29 @@ const TREE_TABLE: [u8; 22] = [
     1, 0x11, 1, 0, 0, 2, 0x24, 0, 3, 8, 0x0b, 0x0f, 0, 0, 3, 0x34, 0, 0x0b, 0x0b, 0, 0, 0,
 ];
 
+/// New sections into which a unit was written.
+fn written(alloc: Global, unit: Unit) -> Result<Sections<EndianVec<RunTimeEndian>>> {
+    let mut dwarf = Dwarf::new(alloc);
+    dwarf.units.add(unit)?;
+    let mut sections = new_sections(alloc)?;
+    dwarf.write(&mut sections)?;
+    Ok(sections)
+}
+
+/// Adds a variable, and behind it a base type.
+fn add_a_base_type(alloc: Global, unit: &mut Unit) -> Result<()> {
+    add(unit, 0, DW_TAG_variable)?;
+    set(unit, 1, DW_AT_byte_size, AttributeValue::Data1(4))?;
+    add(unit, 0, DW_TAG_base_type)?;
+    set(unit, 2, DW_AT_name, string(alloc, b"int")?)?;
+    set(unit, 2, DW_AT_byte_size, AttributeValue::Udata(300))
+}
+
 #[test]
 fn writes_base_types_first(rt: HostRuntime) -> std::result::Result<(), Fail> {
     let mut unit = Unit::new(rt.alloc(), encoding(5), LineProgram::none())?;
-    let root = unit.root();
-    let variable = unit.add(root, DW_TAG_variable)?;
-    unit.get_mut(variable)
-        .set(DW_AT_byte_size, AttributeValue::Data1(4))?;
-    let base_type = unit.add(root, DW_TAG_base_type)?;
-    let mut entry = unit.get_mut(base_type);
-    let name = Bytes::new(rt.alloc(), b"int")?;
-    entry.set(DW_AT_name, AttributeValue::String(name))?;
-    entry.set(DW_AT_byte_size, AttributeValue::Udata(300))?;
-    let mut dwarf = Dwarf::new(rt.alloc());
-    dwarf.units.add(unit)?;
-    let mut sections = new_sections(rt.alloc())?;
-    assert_eq!(rt; dwarf.units.count(), 1);
-    dwarf.write(&mut sections)?;
+    add_a_base_type(rt.alloc(), &mut unit)?;
+    let sections = written(rt.alloc(), unit)?;
     assert_eq!(rt; sections.debug_info.0.slice(), TREE.as_slice());
     assert_eq!(rt; sections.debug_abbrev.0.slice(), TREE_TABLE.as_slice());
     Ok(())
@@ -273,35 +280,42 @@ const CHANGED_TABLE: [u8; 22] = [
     1, 0x11, 1, 0, 0, 2, 0x34, 1, 1, 0x13, 3, 8, 0x49, 0x13, 0, 0, 3, 0x24, 0, 0, 0, 0,
 ];
 
-#[test]
-fn changes_an_entry_through_its_handle(rt: HostRuntime) -> std::result::Result<(), Fail> {
-    let mut unit = Unit::new(rt.alloc(), encoding(5), LineProgram::none())?;
-    let root = unit.root();
-    let child = unit.add(root, DW_TAG_variable)?;
-    unit.add(child, DW_TAG_base_type)?;
-    let mut entry = unit.get_mut(child);
-    entry.set_sibling(true);
-    let name = Bytes::new(rt.alloc(), b"a")?;
-    entry.set(DW_AT_name, AttributeValue::String(name))?;
-    entry.set(DW_AT_byte_size, AttributeValue::Data1(4))?;
-    entry.set(DW_AT_type, AttributeValue::Udata(0))?;
-    entry.delete(DW_AT_byte_size);
+/// Adds a variable with a place past its child, a name, a size that is deleted, and a type.
+fn add_a_parent(alloc: Global, unit: &mut Unit) -> Result<()> {
+    add(unit, 0, DW_TAG_variable)?;
+    add(unit, 1, DW_TAG_base_type)?;
+    set_sibling(unit, 1)?;
+    set(unit, 1, DW_AT_name, string(alloc, b"a")?)?;
+    set(unit, 1, DW_AT_byte_size, AttributeValue::Data1(4))?;
+    set(unit, 1, DW_AT_type, AttributeValue::Udata(0))?;
+    delete(unit, 1, DW_AT_byte_size)
+}
+
+/// Changes values of an entry: the type by its name, and the name by a walk.
+fn change(alloc: Global, unit: &mut Unit, id: UnitEntryId) -> Result<()> {
+    if id.index() >= unit.count() {
+        return Err(Error::InvalidReference);
+    }
+    let mut entry = unit.get_mut(id);
     if let Some(value) = entry.get_mut(DW_AT_type) {
-        *value = AttributeValue::UnitRef(root);
+        *value = AttributeValue::UnitRef(UnitEntryId::new(0));
     }
     let attributes = entry.attrs_mut();
     'attributes: while let Some(mut attribute) = attributes.next() {
         if attribute.name() == DW_AT_name {
-            let name = Bytes::new(rt.alloc(), b"b")?;
+            let name = Bytes::new(alloc, b"b")?;
             attribute.set(AttributeValue::String(name));
         }
     }
-    assert!(rt; entry.entry().sibling());
-    let mut dwarf = Dwarf::new(rt.alloc());
-    dwarf.units.add(unit)?;
-    let mut sections = new_sections(rt.alloc())?;
-    assert_eq!(rt; dwarf.units.count(), 1);
-    dwarf.write(&mut sections)?;
+    Ok(())
+}
+
+#[test]
+fn changes_an_entry_through_its_handle(rt: HostRuntime) -> std::result::Result<(), Fail> {
+    let mut unit = Unit::new(rt.alloc(), encoding(5), LineProgram::none())?;
+    add_a_parent(rt.alloc(), &mut unit)?;
+    change(rt.alloc(), &mut unit, UnitEntryId::new(1))?;
+    let sections = written(rt.alloc(), unit)?;
     assert_eq!(rt; sections.debug_info.0.slice(), CHANGED.as_slice());
     assert_eq!(rt; sections.debug_abbrev.0.slice(), CHANGED_TABLE.as_slice());
     Ok(())
@@ -310,21 +324,19 @@ fn changes_an_entry_through_its_handle(rt: HostRuntime) -> std::result::Result<(
 /// The abbreviations of the root, of a variable with children, and of one without.
 const CHAIN_TABLE: [u8; 16] = [1, 0x11, 1, 0, 0, 2, 0x34, 1, 0, 0, 3, 0x34, 0, 0, 0, 0];
 
-/// Each entry is the only child of the one before, 100,000 with the root.
+/// Adds entries, each the only child of the one before, up to this number of entries.
+fn add_a_chain(unit: &mut Unit, count: usize) -> Result<()> {
+    for parent in 1..count {
+        add(unit, parent - 1, DW_TAG_variable)?;
+    }
+    Ok(())
+}
+
 #[test]
 fn writes_a_long_chain(rt: HostRuntime) -> std::result::Result<(), Fail> {
     let mut unit = Unit::new(rt.alloc(), encoding(5), LineProgram::none())?;
-    let mut last = unit.root();
-    for _ in 1..100_000 {
-        assert!(rt; last.index() < unit.reserved() && unit.reserved() < usize::MAX);
-        assert!(rt; !unit.is_freed());
-        last = unit.add(last, DW_TAG_variable)?;
-    }
-    let mut dwarf = Dwarf::new(rt.alloc());
-    dwarf.units.add(unit)?;
-    let mut sections = new_sections(rt.alloc())?;
-    assert_eq!(rt; dwarf.units.count(), 1);
-    dwarf.write(&mut sections)?;
+    add_a_chain(&mut unit, 100_000)?;
+    let sections = written(rt.alloc(), unit)?;
     // The length counts 8 bytes of the header, a code for each entry, and a zero for each that has
     // children: 200,007, which is 0x30d47.
     let mut info = vec![in rt.alloc(); 0x47, 0x0d, 3, 0, 5, 0, 1, 8, 0, 0, 0, 0, 1]?;

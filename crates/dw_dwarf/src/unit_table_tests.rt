@@ -1,6 +1,7 @@
 //! Several units: what they answer, their bytes, and what stays of them after a refusal.
 
 use crate::Dwarf;
+use crate::building::{add, set, string};
 use dw_base::constants::{
     DW_AT_name, DW_AT_producer, DW_AT_type, DW_TAG_base_type, DW_TAG_compile_unit,
     DW_TAG_subprogram, DW_TAG_variable,
@@ -9,16 +10,12 @@ use dw_base::{
     DebugInfoOffset, DebugInfoRef, Encoding, Error, Format, LittleEndian, Result, UnitEntryId,
     UnitId,
 };
-use dw_unit::{AttributeValue, Bytes, LineProgram, Unit};
+use dw_unit::{AttributeValue, LineProgram, Unit};
 use dw_writer::{EndianVec, Sections};
 use std::alloc::Global;
 use std::test::Fail;
 
 const ROOT: UnitEntryId = UnitEntryId(0);
-
-fn string(alloc: Global, text: &[u8]) -> Result<AttributeValue> {
-    Ok(AttributeValue::String(Bytes::new(alloc, text)?))
-}
 
 fn new_sections(alloc: Global) -> Result<Sections<EndianVec<LittleEndian>>> {
     Sections::new(alloc, EndianVec::new(alloc, LittleEndian))
@@ -48,19 +45,25 @@ fn before_two_others(alloc: Global, first: Unit) -> Result<Dwarf> {
 }
 
 #[test]
+fn a_root_begins_without_attributes(rt: HostRuntime) -> std::result::Result<(), Fail> {
+    let unit = unit_of(rt.alloc(), 4, 8, Format::Dwarf32)?;
+    assert_eq!(rt; unit.count(), 1);
+    assert_eq!(rt; unit.root(), ROOT);
+    let root = unit.get(ROOT);
+    assert_eq!(rt; root.id(), ROOT);
+    assert!(rt; root.parent().is_none());
+    assert_eq!(rt; root.tag(), DW_TAG_compile_unit);
+    assert!(rt; root.get(DW_AT_producer).is_none());
+    Ok(())
+}
+
+#[test]
 fn a_root_answers_what_was_set(rt: HostRuntime) -> std::result::Result<(), Fail> {
     let mut unit = unit_of(rt.alloc(), 4, 8, Format::Dwarf32)?;
     let mut producer = string(rt.alloc(), b"root")?;
+    set(&mut unit, 0, DW_AT_producer, producer.try_clone()?)?;
     assert_eq!(rt; unit.count(), 1);
-    assert_eq!(rt; unit.root(), ROOT);
     let mut root = unit.get_mut(ROOT);
-    assert_eq!(rt; root.entry().id(), ROOT);
-    assert!(rt; root.entry().parent().is_none());
-    assert_eq!(rt; root.entry().tag(), DW_TAG_compile_unit);
-    assert!(rt; root.entry().get(DW_AT_producer).is_none());
-    assert!(rt; root.get_mut(DW_AT_producer).is_none());
-    root.set(DW_AT_producer, producer.try_clone()?)?;
-    assert_eq!(rt; root.entry().get(DW_AT_producer), Some(&producer));
     assert_eq!(rt; root.get_mut(DW_AT_producer), Some(&mut producer));
     let mut attributes = root.entry().attrs();
     let names = attributes.next().map(|a| (a.name(), a.get() == &producer));
@@ -69,32 +72,41 @@ fn a_root_answers_what_was_set(rt: HostRuntime) -> std::result::Result<(), Fail>
     Ok(())
 }
 
-/// The first function's name is replaced by a walk, the second one's by its name.
-fn unit_with_functions(alloc: Global) -> Result<(Unit, UnitEntryId, UnitEntryId)> {
-    let encoding = encoding(4, 8, Format::Dwarf32);
-    let mut unit = Unit::new(alloc, encoding, LineProgram::none())?;
-    unit.get_mut(ROOT)
-        .set(DW_AT_producer, string(alloc, b"root")?)?;
-    let first = unit.add(ROOT, DW_TAG_subprogram)?;
-    let second = unit.add(ROOT, DW_TAG_subprogram)?;
-    let mut entry = unit.get_mut(second);
-    entry.set(DW_AT_name, string(alloc, b"tmp")?)?;
-    entry.set(DW_AT_name, string(alloc, b"child2")?)?;
-    let mut entry = unit.get_mut(first);
-    entry.set(DW_AT_name, string(alloc, b"tmp")?)?;
-    if let Some(mut attribute) = entry.attrs_mut().next() {
-        attribute.set(string(alloc, b"child1")?);
+/// Replaces the value of an entry's first attribute by a walk.
+fn replace_first(unit: &mut Unit, id: UnitEntryId, value: AttributeValue) -> Result<()> {
+    if id.index() >= unit.count() {
+        return Err(Error::InvalidReference);
     }
-    Ok((unit, first, second))
+    if let Some(mut attribute) = unit.get_mut(id).attrs_mut().next() {
+        attribute.set(value);
+    }
+    Ok(())
+}
+
+/// Adds two functions: the first one's name is replaced by a walk, the second one's by its name.
+fn add_functions(alloc: Global, unit: &mut Unit) -> Result<()> {
+    set(unit, 0, DW_AT_producer, string(alloc, b"root")?)?;
+    add(unit, 0, DW_TAG_subprogram)?;
+    add(unit, 0, DW_TAG_subprogram)?;
+    set(unit, 2, DW_AT_name, string(alloc, b"tmp")?)?;
+    set(unit, 2, DW_AT_name, string(alloc, b"child2")?)?;
+    set(unit, 1, DW_AT_name, string(alloc, b"tmp")?)?;
+    replace_first(unit, UnitEntryId::new(1), string(alloc, b"child1")?)
+}
+
+fn unit_with_functions(alloc: Global) -> Result<Unit> {
+    let mut unit = unit_of(alloc, 4, 8, Format::Dwarf32)?;
+    add_functions(alloc, &mut unit)?;
+    Ok(unit)
 }
 
 #[test]
 fn a_function_answers_its_last_name(rt: HostRuntime) -> std::result::Result<(), Fail> {
-    let (unit, first, second) = unit_with_functions(rt.alloc())?;
+    let unit = unit_with_functions(rt.alloc())?;
     assert_eq!(rt; unit.count(), 3);
-    assert_eq!(rt; (first.index(), second.index()), (1, 2));
-    for (id, text) in [(first, b"child1"), (second, b"child2")] {
-        assert!(rt; id.index() < unit.count());
+    for (index, text) in [(1, b"child1"), (2, b"child2")] {
+        assert!(rt; index < unit.count());
+        let id = UnitEntryId::new(index);
         let entry = unit.get(id);
         let name = string(rt.alloc(), text)?;
         assert_eq!(rt; entry.id(), id);
@@ -102,8 +114,8 @@ fn a_function_answers_its_last_name(rt: HostRuntime) -> std::result::Result<(), 
         assert_eq!(rt; entry.get(DW_AT_name), Some(&name));
     }
     let mut children = unit.get(ROOT).children();
-    assert_eq!(rt; children.next(), Some(&first));
-    assert_eq!(rt; children.next(), Some(&second));
+    assert_eq!(rt; children.next(), Some(&UnitEntryId(1)));
+    assert_eq!(rt; children.next(), Some(&UnitEntryId(2)));
     assert!(rt; children.next().is_none());
     Ok(())
 }
@@ -152,14 +164,32 @@ fn places_of(unit: &Unit, entry: UnitEntryId) -> Option<(u64, DebugInfoOffset)> 
     ))
 }
 
+/// New sections into which this was written.
+fn written(alloc: Global, dwarf: &mut Dwarf) -> Result<Sections<EndianVec<LittleEndian>>> {
+    let mut sections = new_sections(alloc)?;
+    dwarf.write(&mut sections)?;
+    Ok(sections)
+}
+
+/// A unit with functions and two roots.
+fn three_units(alloc: Global) -> Result<Dwarf> {
+    let first = unit_with_functions(alloc)?;
+    before_two_others(alloc, first)
+}
+
 #[test]
 fn writes_three_units(rt: HostRuntime) -> std::result::Result<(), Fail> {
-    let (first, ..) = unit_with_functions(rt.alloc())?;
-    let mut dwarf = before_two_others(rt.alloc(), first)?;
-    let mut sections = new_sections(rt.alloc())?;
-    dwarf.write(&mut sections)?;
+    let mut dwarf = three_units(rt.alloc())?;
+    let sections = written(rt.alloc(), &mut dwarf)?;
     assert_eq!(rt; sections.debug_info.0.slice(), THREE_UNITS.as_slice());
     assert_eq!(rt; sections.debug_abbrev.0.slice(), THREE_TABLES.as_slice());
+    Ok(())
+}
+
+#[test]
+fn tells_where_entries_of_three_units_stand(rt: HostRuntime) -> std::result::Result<(), Fail> {
+    let mut dwarf = three_units(rt.alloc())?;
+    written(rt.alloc(), &mut dwarf)?;
     assert_eq!(rt; dwarf.units.count(), 3);
     let rows = [
         (0, 0, (11, DebugInfoOffset(11))),

@@ -3,10 +3,17 @@
 
 use dw_dwarf::constants::*;
 use dw_dwarf::{
-    AttributeValue, Bytes, Dwarf, Encoding, EndianVec, Format, LineProgram, LittleEndian, Result,
-    Sections, Unit,
+    AttributeValue, Bytes, Dwarf, Encoding, EndianVec, EntryMut, Format, LineProgram, LittleEndian,
+    Result, Sections, Unit,
 };
 use std::alloc::Global;
+
+fn describe_int(alloc: Global, entry: &mut EntryMut<'_>) -> Result<()> {
+    let name = Bytes::new(alloc, b"int")?;
+    entry.set(DW_AT_name, AttributeValue::String(name))?;
+    entry.set(DW_AT_encoding, AttributeValue::Data1(0x05))?; // with a sign
+    entry.set(DW_AT_byte_size, AttributeValue::Data1(4))
+}
 
 fn unit_of_x(alloc: Global) -> Result<Unit> {
     let encoding = Encoding {
@@ -14,19 +21,14 @@ fn unit_of_x(alloc: Global) -> Result<Unit> {
         format: Format::Dwarf32,
         version: 5,
     };
+    let name = Bytes::new(alloc, b"x")?;
     let mut unit = Unit::new(alloc, encoding, LineProgram::none())?;
     let int = unit.add(unit.root(), DW_TAG_base_type)?;
-    let mut entry = unit.get_mut(int);
-    entry.set(
-        DW_AT_name,
-        AttributeValue::String(Bytes::new(alloc, b"int")?),
-    )?;
-    entry.set(DW_AT_encoding, AttributeValue::Data1(0x05))?; // with a sign
-    entry.set(DW_AT_byte_size, AttributeValue::Data1(4))?;
     let x = unit.add(unit.root(), DW_TAG_variable)?;
     let mut entry = unit.get_mut(x);
-    entry.set(DW_AT_name, AttributeValue::String(Bytes::new(alloc, b"x")?))?;
+    entry.set(DW_AT_name, AttributeValue::String(name))?;
     entry.set(DW_AT_type, AttributeValue::UnitRef(int))?;
+    describe_int(alloc, &mut unit.get_mut(int))?;
     Ok(unit)
 }
 

@@ -1,13 +1,20 @@
-use Rattle.std.proofs.Common.{[], sym, ap, subst}
+use Rattle.std.proofs.Common.{[], ◌∙◌, sym, ap, subst, inl, inr}
 use Rattle.std.proofs.lemmas.Result.{err_from_is_err_and}
+use Rattle.std.specs.Prelude.{◌⊎◌, IsTrue}
 use Rattle.dw_writer.proofs.Outcomes.{OnOk-map, IfErr-map, OnErr-always}
+use Rattle.dw_line.specs.Parts.{NoCause}
+use Rattle.dw_unit.specs.Causes.{RefusesAny}
+use Rattle.dw_unit.proofs.Faults.{OnOk-both}
+use Rattle.dw_unit.specs.Elsewhere.{end_of}
 use Rattle.dw_unit.specs.Pending.{starts_of}
 use Rattle.dw_unit.specs.Written.{AreWritten}
 use Rattle.dw_unit.proofs.TableSteps.{stopped_after}
-use Rattle.dw_dwarf.specs.Valid.{string_tables}
+use Rattle.dw_dwarf.specs.DwarfValue.{dwarf_in}
+use Rattle.dw_dwarf.specs.Valid.{DwarfFails, extra_fails, found_in}
+use Rattle.dw_dwarf.proofs.Left.{dwarf_left}
 use Rattle.dw_dwarf.proofs.Held.{writes_whole, dwarf_held, dwarf_resolved}
 use Rattle.dw_dwarf.proofs.Complete.{whole_valid, whole_refused, dwarf_complete}
-use Rattle.dw_dwarf.proofs.StringSections.{completes_after, strings_after, strings_memory, others_after, fixups_after, starts_after, refuses_any}
+use Rattle.dw_dwarf.proofs.RestSections.{completes_after, lines_after, strings_after, rest_because, rest_memory, refuses_any, others_after, fixups_after, starts_after}
 use Rattle.dw_dwarf.proofs.dwarf.Dwarf.write.Goals as goal
 
 -- where the units are refused
@@ -17,18 +24,23 @@ returns-in_err-write-clause-err g c =
     let p = err_from_is_err_and c.from_residual.result c.from_residual.ensures.1 in
     rw (p.1, p.2)
     (λ none unwritten.
-    whole_refused g.W.Writer.meaning c.args.sections.now c.write.new.sections c.args.self.now c.write.new.self c.in_err-write.field-0.0 none unwritten c.in_err-write.ensures.err)
+    whole_refused g.W.Writer.meaning c.args.sections.now c.write.new.sections (dwarf_in c.args.self.now) c.write.new.self c.in_err-write.field-0.0 none unwritten c.in_err-write.ensures.err)
 
 pub returns-in_err-write-clause-complete : goal.returns-in_err-write-clause-complete
 returns-in_err-write-clause-complete g c = λ empty unwritten valid calm.
     let meaning = g.W.Writer.meaning in
     let old = c.args.sections.now in
     let new = c.write.new.sections in
-    let d = c.args.self.now in
+    let d = dwarf_in c.args.self.now in
     let p = err_from_is_err_and c.from_residual.result c.from_residual.ensures.1 in
     rw (p.1, p.2)
     (dwarf_complete meaning old new empty calm d valid c.in_err-write.field-0.0
     (whole_refused meaning old new d c.write.new.self c.in_err-write.field-0.0 empty.fixups.info unwritten c.in_err-write.ensures.err))
+
+pub returns-in_err-write-clause-refused : goal.returns-in_err-write-clause-refused
+returns-in_err-write-clause-refused g c =
+    let p = err_from_is_err_and c.from_residual.result c.from_residual.ensures.1 in
+    rw (p.1, p.2) (inl c.in_err-write.ensures.err)
 
 -- behind the units
 
@@ -37,98 +49,155 @@ returns-clause-built g c =
     let meaning = g.W.Writer.meaning in
     let old = c.args.sections.now in
     let mid = c.write.new.sections in
-    let new = c.write_strings.new.sections in
-    let d = c.args.self.now in
+    let new = c.write_rest.new.sections in
+    let d = dwarf_in c.args.self.now in
     let others = c.in_ok-write.ensures.others in
-    let same = c.write_strings.ensures.others in
-    let any = completes_after meaning old mid new d.units c.write.new.self (string_tables d) same c.in_ok-write.ensures.completes in
-    OnOk-map c.write_strings.result c.write_strings.ensures.ok
-    (λ strings empty unwritten.
-    dwarf_held meaning old new d (writes_whole meaning old new d c.write.new.self empty.fixups.info unwritten any) g.met.W.Writer.plain_records_nothing empty
+    let same = c.write_rest.ensures.others in
+    let any = completes_after meaning old mid new d.units c.write.new.self (found_in meaning old d) same c.in_ok-write.ensures.completes in
+    let programs = rw c.as_slice.ensures.value at c.write_rest.ensures.lines in
+    OnOk-both c.write_rest.result programs c.write_rest.ensures.strings
+    (λ lines strings empty unwritten.
+    dwarf_held meaning old new d (writes_whole meaning old new d c.write.new.self empty.fixups.info unwritten any) g.met.W.Writer.plain_records_nothing empty unwritten
+    (lines_after meaning old mid new d c.in_ok-write.ensures.lines lines)
     (strings_after meaning old mid new d.line_strings d.strings (ap (λ s. s.debug_line_str) others) (ap (λ s. s.debug_str) others) strings) (others_after meaning old mid new others same))
 
 pub returns-clause-resolves : goal.returns-clause-resolves
 returns-clause-resolves g c =
     let meaning = g.W.Writer.meaning in
     let old = c.args.sections.now in
-    let new = c.write_strings.new.sections in
-    let d = c.args.self.now in
-    let any = completes_after meaning old c.write.new.sections new d.units c.write.new.self (string_tables d) c.write_strings.ensures.others c.in_ok-write.ensures.completes in
-    OnOk-map c.write_strings.result c.write_strings.ensures.ok
-    (λ strings empty unwritten. dwarf_resolved meaning old new d (writes_whole meaning old new d c.write.new.self empty.fixups.info unwritten any) empty)
+    let mid = c.write.new.sections in
+    let new = c.write_rest.new.sections in
+    let d = dwarf_in c.args.self.now in
+    let any = completes_after meaning old mid new d.units c.write.new.self (found_in meaning old d) c.write_rest.ensures.others c.in_ok-write.ensures.completes in
+    let programs = rw c.as_slice.ensures.value at c.write_rest.ensures.lines in
+    OnOk-map c.write_rest.result programs
+    (λ lines empty unwritten. dwarf_resolved meaning old new d (writes_whole meaning old new d c.write.new.self empty.fixups.info unwritten any) empty unwritten (lines_after meaning old mid new d c.in_ok-write.ensures.lines lines))
+
+pub returns-clause-left : goal.returns-clause-left
+returns-clause-left g c =
+    let meaning = g.W.Writer.meaning in
+    let old = c.args.sections.now in
+    let mid = c.write.new.sections in
+    let new = c.write_rest.new.sections in
+    let d = dwarf_in c.args.self.now in
+    let others = c.in_ok-write.ensures.others in
+    let any = completes_after meaning old mid new d.units c.write.new.self (found_in meaning old d) c.write_rest.ensures.others c.in_ok-write.ensures.completes in
+    let programs = rw c.as_slice.ensures.value at c.write_rest.ensures.lines in
+    OnOk-both c.write_rest.result programs c.write_rest.ensures.strings
+    (λ lines strings big empty unwritten.
+    dwarf_left meaning big old new d empty (writes_whole meaning old new d c.write.new.self empty.fixups.info unwritten any) unwritten (lines_after meaning old mid new d c.in_ok-write.ensures.lines lines)
+    (strings_after meaning old mid new d.line_strings d.strings (ap (λ s. s.debug_line_str) others) (ap (λ s. s.debug_str) others) strings))
 
 pub returns-clause-completes : goal.returns-clause-completes
 returns-clause-completes g c =
-    let d = c.args.self.now in
-    let any = completes_after g.W.Writer.meaning c.args.sections.now c.write.new.sections c.write_strings.new.sections d.units c.write.new.self (string_tables d) c.write_strings.ensures.others c.in_ok-write.ensures.completes in
-    OnOk-map c.write_strings.result c.write_strings.ensures.ok (λ strings. any)
+    let meaning = g.W.Writer.meaning in
+    let old = c.args.sections.now in
+    let d = dwarf_in c.args.self.now in
+    let any = completes_after meaning old c.write.new.sections c.write_rest.new.sections d.units c.write.new.self (found_in meaning old d) c.write_rest.ensures.others c.in_ok-write.ensures.completes in
+    OnOk-map c.write_rest.result c.write_rest.ensures.lines (λ lines. any)
+
+pub returns-clause-lines : goal.returns-clause-lines
+returns-clause-lines g c =
+    let programs = rw c.as_slice.ensures.value at c.write_rest.ensures.lines in
+    OnOk-map c.write_rest.result programs
+    (lines_after g.W.Writer.meaning c.args.sections.now c.write.new.sections c.write_rest.new.sections (dwarf_in c.args.self.now) c.in_ok-write.ensures.lines)
 
 pub returns-clause-strings : goal.returns-clause-strings
 returns-clause-strings g c =
     let others = c.in_ok-write.ensures.others in
-    OnOk-map c.write_strings.result c.write_strings.ensures.ok
-    (strings_after g.W.Writer.meaning c.args.sections.now c.write.new.sections c.write_strings.new.sections c.args.self.now.line_strings c.args.self.now.strings (ap (λ s. s.debug_line_str) others) (ap (λ s. s.debug_str) others))
+    OnOk-map c.write_rest.result c.write_rest.ensures.strings
+    (strings_after g.W.Writer.meaning c.args.sections.now c.write.new.sections c.write_rest.new.sections c.args.self.now.line_strings c.args.self.now.strings (ap (λ s. s.debug_line_str) others) (ap (λ s. s.debug_str) others))
 
 pub returns-clause-emptied : goal.returns-clause-emptied
 returns-clause-emptied g c =
-    OnOk-map c.write_strings.result c.write_strings.ensures.ok
-    (λ strings. fixups_after g.W.Writer.meaning c.write.new.sections c.write_strings.new.sections c.write_strings.ensures.others c.in_ok-write.ensures.emptied)
+    OnOk-map c.write_rest.result c.write_rest.ensures.lines
+    (λ lines. fixups_after g.W.Writer.meaning c.write.new.sections c.write_rest.new.sections c.write_rest.ensures.others c.in_ok-write.ensures.emptied)
 
 pub returns-clause-marked : goal.returns-clause-marked
 returns-clause-marked g c =
     let meaning = g.W.Writer.meaning in
-    let marked = subst (λ e. AreWritten (starts_of meaning c.args.sections.now) e (string_tables c.args.self.now) c.args.self.now.units c.write.new.self)
-    (starts_after meaning c.write.new.sections c.write_strings.new.sections c.write_strings.ensures.others) c.in_ok-write.ensures.marked
+    let old = c.args.sections.now in
+    let d = dwarf_in c.args.self.now in
+    let marked = subst (λ e. AreWritten (starts_of meaning old) e (found_in meaning old d) d.units c.write.new.self)
+    (starts_after meaning c.write.new.sections c.write_rest.new.sections c.write_rest.ensures.others) c.in_ok-write.ensures.marked
     in
-    OnOk-map c.write_strings.result c.write_strings.ensures.ok (λ strings. marked)
+    OnOk-map c.write_rest.result c.write_rest.ensures.lines (λ lines. marked)
 
 pub returns-clause-valid : goal.returns-clause-valid
 returns-clause-valid g c =
     let meaning = g.W.Writer.meaning in
     let old = c.args.sections.now in
-    let new = c.write_strings.new.sections in
-    let d = c.args.self.now in
-    let any = completes_after meaning old c.write.new.sections new d.units c.write.new.self (string_tables d) c.write_strings.ensures.others c.in_ok-write.ensures.completes in
-    OnOk-map c.write_strings.result c.write_strings.ensures.ok
-    (λ strings none unwritten. whole_valid meaning old new d c.in_ok-write.ensures.writable (writes_whole meaning old new d c.write.new.self none unwritten any))
+    let new = c.write_rest.new.sections in
+    let d = dwarf_in c.args.self.now in
+    let any = completes_after meaning old c.write.new.sections new d.units c.write.new.self (found_in meaning old d) c.write_rest.ensures.others c.in_ok-write.ensures.completes in
+    let kind = c.in_ok-write.ensures.lines.text_is.same.kind in
+    let sound_there = rw c.as_slice.ensures.value at c.write_rest.ensures.sound in
+    OnOk-map c.write_rest.result sound_there
+    (λ sound none unwritten. whole_valid meaning old new d c.in_ok-write.ensures.writable (writes_whole meaning old new d c.write.new.self none unwritten any) (subst (λ b. NoCause (extra_fails b d)) kind sound))
 
 pub returns-clause-refused : goal.returns-clause-refused
 returns-clause-refused g c =
-    let d = c.args.self.now in
+    let meaning = g.W.Writer.meaning in
+    let old = c.args.sections.now in
+    let mid = c.write.new.sections in
+    let new = c.write_rest.new.sections in
+    let d = dwarf_in c.args.self.now in
     let others = c.in_ok-write.ensures.others in
-    IfErr-map c.write_strings.result c.write_strings.ensures.err
-    (λ err h. refuses_any g.W.Writer.meaning c.args.sections.now c.write.new.sections c.write_strings.new.sections d.units c.write.new.self (string_tables d) err (ap (λ s. s.debug_line_str) others) (ap (λ s. s.debug_str) others) h)
+    let line = c.in_ok-write.ensures.lines.text_is.same in
+    let refused = rw c.as_slice.ensures.value at c.write_rest.ensures.err in
+    IfErr-map c.write_rest.result refused
+    (λ err h.
+    subst (λ b. RefusesAny meaning old new d.units c.write.new.self (found_in meaning old d) err ⊎ IsTrue (extra_fails b d err)) line.kind
+    (refuses_any meaning old mid new (ap (λ s. s.debug_line_str) others) (ap (λ s. s.debug_str) others) line.faults d.units c.write.new.self (found_in meaning old d) (extra_fails (meaning mid.debug_line.0).is_plain d) err h))
 
 pub returns-clause-err : goal.returns-clause-err
 returns-clause-err g c =
     let meaning = g.W.Writer.meaning in
     let old = c.args.sections.now in
-    let new = c.write_strings.new.sections in
-    let d = c.args.self.now in
+    let mid = c.write.new.sections in
+    let new = c.write_rest.new.sections in
+    let d = dwarf_in c.args.self.now in
     let others = c.in_ok-write.ensures.others in
-    IfErr-map c.write_strings.result c.write_strings.ensures.err
+    let line = c.in_ok-write.ensures.lines.text_is.same in
+    let refused = rw c.as_slice.ensures.value at c.write_rest.ensures.err in
+    IfErr-map c.write_rest.result refused
     (λ err h none unwritten.
-    whole_refused meaning old new d c.write.new.self err none unwritten
-    (refuses_any meaning old c.write.new.sections new d.units c.write.new.self (string_tables d) err (ap (λ s. s.debug_line_str) others) (ap (λ s. s.debug_str) others) h))
+    rest_because meaning old mid new (ap (λ s. s.debug_line_str) others) (ap (λ s. s.debug_str) others) line.faults (extra_fails (meaning mid.debug_line.0).is_plain d)
+    (DwarfFails (meaning old.debug_info.0).is_plain (starts_of meaning old) (end_of (meaning old.debug_line.0)) d) err (λ e k. inr (inr (subst (λ b. IsTrue (extra_fails b d e)) line.kind k))) h)
 
 pub returns-clause-stopped : goal.returns-clause-stopped
 returns-clause-stopped g c =
     let meaning = g.W.Writer.meaning in
-    OnErr-always c.write_strings.result
-    (stopped_after (starts_of meaning c.args.sections.now) (starts_of meaning c.write.new.sections) (string_tables c.args.self.now) c.args.self.now.units c.write.new.self c.in_ok-write.ensures.marked)
+    let d = dwarf_in c.args.self.now in
+    OnErr-always c.write_rest.result
+    (stopped_after (starts_of meaning c.args.sections.now) (starts_of meaning c.write.new.sections) (found_in meaning c.args.sections.now d) d.units c.write.new.self c.in_ok-write.ensures.marked)
 
 pub returns-clause-complete : goal.returns-clause-complete
 returns-clause-complete g c = λ empty unwritten valid calm.
+    let meaning = g.W.Writer.meaning in
+    let old = c.args.sections.now in
+    let mid = c.write.new.sections in
+    let d = dwarf_in c.args.self.now in
     let others = c.in_ok-write.ensures.others in
-    IfErr-map c.write_strings.result c.write_strings.ensures.err
-    (λ err h. strings_memory g.W.Writer.meaning c.args.sections.now c.write.new.sections c.write_strings.new.sections err (ap (λ s. s.debug_line_str) others) (ap (λ s. s.debug_str) others) calm h)
+    let line = c.in_ok-write.ensures.lines.text_is.same in
+    let refused = rw c.as_slice.ensures.value at c.write_rest.ensures.err in
+    IfErr-map c.write_rest.result refused
+    (λ err h. rest_memory meaning old mid c.write_rest.new.sections (ap (λ s. s.debug_line_str) others) (ap (λ s. s.debug_str) others) line.faults (extra_fails (meaning mid.debug_line.0).is_plain d) err
+    (subst (λ b. NoCause (extra_fails b d)) (sym (line.kind ∙ empty.kind)) valid.extra) calm h)
 
 pub returns-clause-follows : goal.returns-clause-follows
-returns-clause-follows g c = λ can calm.
+returns-clause-follows g c = λ can sound calm.
+    let meaning = g.W.Writer.meaning in
+    let old = c.args.sections.now in
+    let mid = c.write.new.sections in
+    let d = dwarf_in c.args.self.now in
     let others = c.in_ok-write.ensures.others in
-    IfErr-map c.write_strings.result c.write_strings.ensures.err
-    (λ err h. strings_memory g.W.Writer.meaning c.args.sections.now c.write.new.sections c.write_strings.new.sections err (ap (λ s. s.debug_line_str) others) (ap (λ s. s.debug_str) others) calm h)
+    let line = c.in_ok-write.ensures.lines.text_is.same in
+    let refused = rw c.as_slice.ensures.value at c.write_rest.ensures.err in
+    IfErr-map c.write_rest.result refused
+    (λ err h. rest_memory meaning old mid c.write_rest.new.sections (ap (λ s. s.debug_line_str) others) (ap (λ s. s.debug_str) others) line.faults (extra_fails (meaning mid.debug_line.0).is_plain d) err
+    (subst (λ b. NoCause (extra_fails b d)) (sym line.kind) sound) calm h)
 
 pub returns-clause-others : goal.returns-clause-others
 returns-clause-others g c =
-    others_after g.W.Writer.meaning c.args.sections.now c.write.new.sections c.write_strings.new.sections c.in_ok-write.ensures.others c.write_strings.ensures.others
+    others_after g.W.Writer.meaning c.args.sections.now c.write.new.sections c.write_rest.new.sections c.in_ok-write.ensures.others c.write_rest.ensures.others

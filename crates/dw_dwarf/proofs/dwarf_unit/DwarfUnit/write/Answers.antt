@@ -1,13 +1,16 @@
-use Rattle.std.proofs.Common.{ap, inl, inr}
+use Rattle.std.proofs.Common.{[], ◌∙◌, sym, ap, refl, inl, inr, subst}
+use Rattle.std.proofs.lemmas.List.Elements.{All-cons, All-nil}
 use Rattle.std.proofs.lemmas.Result.{err_from_is_err_and}
 use Rattle.dw_writer.proofs.Outcomes.{OnOk-map, IfErr-map, OnErr-always}
 use Rattle.dw_unit.specs.Alone.{AloneFails}
-use Rattle.dw_unit.specs.Strings.{tables_in}
+use Rattle.dw_unit.specs.Elsewhere.{elsewhere, unit_tables, AppendsLine}
 use Rattle.dw_unit.specs.Whole.{settled}
-use Rattle.dw_dwarf.specs.Valid.{dwarf_of}
+use Rattle.dw_unit.proofs.Faults.{OnOk-both}
+use Rattle.dw_dwarf.specs.DwarfValue.{dwarf_of}
+use Rattle.dw_dwarf.specs.Valid.{IsUnwritten, programs_fail}
 use Rattle.dw_dwarf.proofs.Held.{dwarf_held, dwarf_resolved}
-use Rattle.dw_dwarf.proofs.OneUnit.{alone_whole, others_kept, no_fixups, alone_complete}
-use Rattle.dw_dwarf.proofs.StringSections.{appends_after, strings_after, strings_because, strings_memory, fixups_after}
+use Rattle.dw_dwarf.proofs.OneUnit.{alone_whole, line_alone, line_behind, no_program, others_kept, no_fixups, alone_complete}
+use Rattle.dw_dwarf.proofs.RestSections.{appends_after, strings_after, rest_because, rest_memory, fixups_after}
 use Rattle.dw_dwarf.proofs.dwarf_unit.DwarfUnit.write.Goals as goal
 
 -- where the unit is refused
@@ -17,7 +20,7 @@ returns-in_err-write_alone-clause-complete g c = λ writable alone calm.
     let d = c.args.self.now in
     let p = err_from_is_err_and c.from_residual.result c.from_residual.ensures.1 in
     rw (p.1, p.2)
-    (alone_complete g.W.Writer.meaning c.args.sections.now c.write_alone.new.sections (tables_in d.line_strings d.strings) d.unit writable alone calm c.in_err-write_alone.field-0.0 c.in_err-write_alone.ensures.err)
+    (alone_complete g.W.Writer.meaning c.args.sections.now c.write_alone.new.sections (elsewhere g.W.Writer.meaning c.args.sections.now d.line_strings d.strings) d.unit writable alone calm c.in_err-write_alone.field-0.0 c.in_err-write_alone.ensures.err)
 
 -- behind the unit
 
@@ -26,63 +29,81 @@ returns-clause-built g c =
     let meaning = g.W.Writer.meaning in
     let old = c.args.sections.now in
     let mid = c.write_alone.new.sections in
-    let new = c.write_strings.new.sections in
+    let new = c.write_rest.new.sections in
     let d = c.args.self.now in
     let u = d.unit in
     let others = c.in_ok-write_alone.ensures.others in
-    let same = c.write_strings.ensures.others in
-    let p = appends_after meaning old mid new (settled u) (tables_in d.line_strings d.strings) c.write_alone.new.self.offsets same c.in_ok-write_alone.ensures.appends in
-    OnOk-map c.write_strings.result c.write_strings.ensures.ok
-    (λ strings empty.
-    dwarf_held meaning old new (dwarf_of d.line_strings d.strings u) (alone_whole meaning old new d.line_strings d.strings u c.write_alone.new.self.offsets p) g.met.W.Writer.plain_records_nothing empty
+    let same = c.write_rest.ensures.others in
+    let p = appends_after meaning old mid new (settled u) (unit_tables (elsewhere meaning old d.line_strings d.strings) u) c.write_alone.new.self.offsets same c.in_ok-write_alone.ensures.appends in
+    OnOk-both c.write_rest.result c.write_rest.ensures.lines c.write_rest.ensures.strings
+    (λ lines strings empty.
+    dwarf_held meaning old new (dwarf_of d.line_strings d.strings u) (alone_whole meaning old new d.line_strings d.strings u c.write_alone.new.self.offsets p) g.met.W.Writer.plain_records_nothing empty (All-cons IsUnwritten u [] c.requires.unwritten (All-nil IsUnwritten))
+    (line_alone meaning old mid new d.line_strings d.strings u c.requires.unwritten c.in_ok-write_alone.ensures.lines lines)
     (strings_after meaning old mid new d.line_strings d.strings (ap (λ s. s.debug_line_str) others) (ap (λ s. s.debug_str) others) strings) (others_kept old mid new others same))
 
 pub returns-clause-resolves : goal.returns-clause-resolves
 returns-clause-resolves g c =
     let meaning = g.W.Writer.meaning in
     let old = c.args.sections.now in
-    let new = c.write_strings.new.sections in
+    let mid = c.write_alone.new.sections in
+    let new = c.write_rest.new.sections in
     let d = c.args.self.now in
-    let p = appends_after meaning old c.write_alone.new.sections new (settled d.unit) (tables_in d.line_strings d.strings) c.write_alone.new.self.offsets c.write_strings.ensures.others c.in_ok-write_alone.ensures.appends in
-    OnOk-map c.write_strings.result c.write_strings.ensures.ok
-    (λ strings empty. dwarf_resolved meaning old new (dwarf_of d.line_strings d.strings d.unit) (alone_whole meaning old new d.line_strings d.strings d.unit c.write_alone.new.self.offsets p) empty)
+    let u = d.unit in
+    let p = appends_after meaning old mid new (settled u) (unit_tables (elsewhere meaning old d.line_strings d.strings) u) c.write_alone.new.self.offsets c.write_rest.ensures.others c.in_ok-write_alone.ensures.appends in
+    OnOk-map c.write_rest.result c.write_rest.ensures.lines
+    (λ lines empty. dwarf_resolved meaning old new (dwarf_of d.line_strings d.strings u) (alone_whole meaning old new d.line_strings d.strings u c.write_alone.new.self.offsets p) empty (All-cons IsUnwritten u [] c.requires.unwritten (All-nil IsUnwritten))
+    (line_alone meaning old mid new d.line_strings d.strings u c.requires.unwritten c.in_ok-write_alone.ensures.lines lines))
 
 pub returns-clause-appends : goal.returns-clause-appends
 returns-clause-appends g c =
+    let meaning = g.W.Writer.meaning in
+    let old = c.args.sections.now in
     let d = c.args.self.now in
-    let p = appends_after g.W.Writer.meaning c.args.sections.now c.write_alone.new.sections c.write_strings.new.sections (settled d.unit) (tables_in d.line_strings d.strings) c.write_alone.new.self.offsets c.write_strings.ensures.others c.in_ok-write_alone.ensures.appends in
-    OnOk-map c.write_strings.result c.write_strings.ensures.ok (λ strings. p)
+    let p = appends_after meaning old c.write_alone.new.sections c.write_rest.new.sections (settled d.unit) (unit_tables (elsewhere meaning old d.line_strings d.strings) d.unit) c.write_alone.new.self.offsets c.write_rest.ensures.others c.in_ok-write_alone.ensures.appends in
+    OnOk-map c.write_rest.result c.write_rest.ensures.lines (λ lines. p)
+
+pub returns-clause-lines : goal.returns-clause-lines
+returns-clause-lines g c =
+    let d = c.args.self.now in
+    OnOk-map c.write_rest.result c.write_rest.ensures.lines
+    (line_behind g.W.Writer.meaning c.args.sections.now c.write_alone.new.sections c.write_rest.new.sections d.line_strings d.strings d.unit c.in_ok-write_alone.ensures.lines)
 
 pub returns-clause-strings : goal.returns-clause-strings
 returns-clause-strings g c =
     let others = c.in_ok-write_alone.ensures.others in
-    OnOk-map c.write_strings.result c.write_strings.ensures.ok
-    (strings_after g.W.Writer.meaning c.args.sections.now c.write_alone.new.sections c.write_strings.new.sections c.args.self.now.line_strings c.args.self.now.strings (ap (λ s. s.debug_line_str) others) (ap (λ s. s.debug_str) others))
+    OnOk-map c.write_rest.result c.write_rest.ensures.strings
+    (strings_after g.W.Writer.meaning c.args.sections.now c.write_alone.new.sections c.write_rest.new.sections c.args.self.now.line_strings c.args.self.now.strings (ap (λ s. s.debug_line_str) others) (ap (λ s. s.debug_str) others))
 
 pub returns-clause-emptied : goal.returns-clause-emptied
 returns-clause-emptied g c =
     let mid = c.write_alone.new.sections in
     let none = no_fixups c.args.sections.now mid c.in_ok-write_alone.ensures.others c.requires.fixups c.in_ok-write_alone.ensures.closed in
-    OnOk-map c.write_strings.result c.write_strings.ensures.ok
-    (λ strings. fixups_after g.W.Writer.meaning mid c.write_strings.new.sections c.write_strings.ensures.others none)
+    OnOk-map c.write_rest.result c.write_rest.ensures.lines
+    (λ lines. fixups_after g.W.Writer.meaning mid c.write_rest.new.sections c.write_rest.ensures.others none)
 
 pub returns-clause-err : goal.returns-clause-err
 returns-clause-err g c =
     let meaning = g.W.Writer.meaning in
     let old = c.args.sections.now in
+    let mid = c.write_alone.new.sections in
     let d = c.args.self.now in
     let others = c.in_ok-write_alone.ensures.others in
-    IfErr-map c.write_strings.result c.write_strings.ensures.err
+    IfErr-map c.write_rest.result c.write_rest.ensures.err
     (λ err h.
-    strings_because meaning old c.write_alone.new.sections c.write_strings.new.sections
-    (AloneFails d.unit (tables_in d.line_strings d.strings) (meaning old.debug_abbrev.0).size (meaning old.debug_info.0).is_plain) err (ap (λ s. s.debug_line_str) others) (ap (λ s. s.debug_str) others) h)
+    rest_because meaning old mid c.write_rest.new.sections (ap (λ s. s.debug_line_str) others) (ap (λ s. s.debug_str) others) c.in_ok-write_alone.ensures.lines.text_is.same.faults
+    (programs_fail d.line_strings d.strings (meaning mid.debug_line.0).is_plain [])
+    (AloneFails d.unit (elsewhere meaning old d.line_strings d.strings) (meaning old.debug_abbrev.0).size (meaning old.debug_info.0).is_plain) err (λ e k. absurd (no_program d.line_strings d.strings (meaning mid.debug_line.0).is_plain e k)) h)
 
 pub returns-clause-complete : goal.returns-clause-complete
 returns-clause-complete g c = λ writable alone calm.
+    let meaning = g.W.Writer.meaning in
+    let mid = c.write_alone.new.sections in
+    let d = c.args.self.now in
     let others = c.in_ok-write_alone.ensures.others in
-    IfErr-map c.write_strings.result c.write_strings.ensures.err
-    (λ err h. strings_memory g.W.Writer.meaning c.args.sections.now c.write_alone.new.sections c.write_strings.new.sections err (ap (λ s. s.debug_line_str) others) (ap (λ s. s.debug_str) others) calm h)
+    IfErr-map c.write_rest.result c.write_rest.ensures.err
+    (λ err h. rest_memory meaning c.args.sections.now mid c.write_rest.new.sections (ap (λ s. s.debug_line_str) others) (ap (λ s. s.debug_str) others) c.in_ok-write_alone.ensures.lines.text_is.same.faults
+    (programs_fail d.line_strings d.strings (meaning mid.debug_line.0).is_plain []) err (λ e. refl) calm h)
 
 pub returns-clause-others : goal.returns-clause-others
 returns-clause-others g c =
-    others_kept c.args.sections.now c.write_alone.new.sections c.write_strings.new.sections c.in_ok-write_alone.ensures.others c.write_strings.ensures.others
+    others_kept c.args.sections.now c.write_alone.new.sections c.write_rest.new.sections c.in_ok-write_alone.ensures.others c.write_rest.ensures.others
