@@ -7,4 +7,5 @@ pub mod SectionSteps
 pub mod SetSteps
 pub mod LinkSteps
 pub mod JoinLaws
+pub mod Linked
 mod Worked

@@ -4,3 +4,4 @@ pub mod Bits
 pub mod Sets
 pub mod Outcome
 pub mod Steps
+pub mod Linked

@@ -1,10 +1,12 @@
 //! The join.
 
-ghost use Rattle.std.specs.Prelude.{◌≡◌, ◌⊎◌, ℕ, [], true, Some, None, Err, OnOk, IfOk, IfErr, IsErrAnd, position};
+ghost use Rattle.std.specs.Prelude.{◌≡◌, ◌⊎◌, ℕ, List, [], true, Some, None, Err, OnOk, IfOk, IfErr, IsErrAnd, position};
 ghost use Rattle.dw_writer.specs.Meaning.{Adds};
 ghost use Rattle.dw_writer.specs.Sections.{AllMean, NoFixups};
 ghost use Rattle.dw_link.specs.declared.error.LinkError.{LinkError};
 ghost use Rattle.dw_link.specs.declared.error.LinkError.TheVariants.{NoMemory, MixedByteOrder};
+ghost use Rattle.dw_dwarf.specs.DwarfValue.{DwarfValue};
+ghost use Rattle.dw_link.specs.Linked.{AreLeft, LinksDwarfs};
 ghost use Rattle.dw_link.specs.Sets.{parts_of, sets_of};
 ghost use Rattle.dw_link.specs.Outcome.{differs, is_mixed, first_mixed, IsFaultless, IsFirstFault, LinkRefused, Joins, JoinsParts, AllInOrder};
 ghost use Rattle.dw_link.specs.Steps.{layout_at, lengths_of, layout_behind, is_section, is_below, HaveSameOrders, AllHaveOrders, AreEmpty, AddsSets, SetsRefused, AddsPart, AddsThese, PartRefused, SetRefused};
@@ -50,6 +52,12 @@ pub fn link<E: Endianity>(
         (sets_of ⟦<RelocVec<E> as Writer>⟧.meaning sets.now.items) symbols.now.items) }
     ensures parts { IfOk result (JoinsParts ⟦<EndianVec<E> as Writer>⟧.meaning
         (sets_of ⟦<RelocVec<E> as Writer>⟧.meaning sets.now.items) symbols.now.items) }
+    // Where each set is as `Dwarf::write` left it over new sections of this byte order, the joined
+    // sections are those of all.
+    ensures dwarfs { IfOk result (λ joined. (ds : List DwarfValue) →
+        AreLeft ⟦<RelocVec<E> as Writer>⟧.meaning (E.is_big endian) sets.now.items ds →
+        LinksDwarfs ⟦<RelocVec<E> as Writer>⟧.meaning ⟦<EndianVec<E> as Writer>⟧.meaning
+        (E.is_big endian) sets.now.items symbols.now.items ds joined) }
     ensures order { IfOk result
         (AllInOrder ⟦<EndianVec<E> as Writer>⟧.meaning (E.is_big endian)) }
     ensures fixups { IfOk result NoFixups }

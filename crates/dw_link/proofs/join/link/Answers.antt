@@ -4,6 +4,7 @@ use Rattle.std.proofs.lemmas.Result.{err_from_is_err_and}
 use Rattle.dw_link.specs.Sets.{parts_of, sets_of}
 use Rattle.dw_link.specs.Steps.{AddsSets}
 use Rattle.dw_link.proofs.Held.{held, held_beside}
+use Rattle.dw_link.proofs.Linked.{dwarfs_linked}
 use Rattle.dw_link.proofs.JoinLaws.{join-is}
 use Rattle.dw_link.proofs.LinkSteps.{first_mixed-by, none_is, AllHaveOrders-unmixed, order_at-new, JoinsParts-new, LinkRefused-by, complete_by, AddsSets-as, SetsRefused-as, IsReady-all, section-below, first_by, not_taken}
 use Rattle.dw_link.proofs.join.link.Goals as goal
@@ -72,6 +73,10 @@ returns-clause-parts g c =
     AddsSets-as (held_beside g.E.Endianity.is_big) _ _ c.as_slice-sets.result.now c.args.sets.now.items c.as_slice.result.now c.args.symbols.now.items
     c.as_slice-sets.ensures.value c.as_slice.ensures.value c.in_ok-add_sets.ensures.ok in
     JoinsParts-new (held g.E.Endianity.is_big) _ c.in_ok-joined.joined c.add_sets.new.joined (sets_of (held_beside g.E.Endianity.is_big) c.args.sets.now.items) c.args.symbols.now.items c.in_ok-joined.ensures.writers refl added
+
+pub returns-clause-dwarfs : goal.returns-clause-dwarfs
+returns-clause-dwarfs g c ds left =
+    dwarfs_linked (held_beside g.E.Endianity.is_big) (held g.E.Endianity.is_big) (g.E.Endianity.is_big c.args.endian) c.args.sets.now.items c.args.symbols.now.items ds c.add_sets.new.joined (returns-clause-parts g c) left
 
 pub returns-clause-in_order : goal.returns-clause-in_order
 returns-clause-in_order g c =

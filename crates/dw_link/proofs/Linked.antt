@@ -1,0 +1,161 @@
+-- Sets that writing Dwarfs left are joined to the sections of all of them.
+use Rattle.std.specs.Prelude.{◌≡◌, ℕ, ◌+◌, Bool, true, false, not, ◌&&◌, List, [], ◌∷◌, ◌++◌, length, take, map, Some, None, refl, if◌then◌else◌}
+use Rattle.std.specs.List.{flat_map}
+use Rattle.std.proofs.Common.{sym, ◌∙◌, ap, subst, arith, length-append, append_assoc, append-nil}
+use Rattle.std.proofs.Math.Seq.{take-append_seam}
+use Rattle.std.proofs.lemmas.Option.{none-some, same_Some}
+use Rattle.dw_base.specs.declared.section_id.SectionId.{SectionId}
+use Rattle.dw_base.specs.declared.section_id.SectionId.TheVariants.{DebugAbbrev, DebugStr, DebugLineStr, DebugLine, DebugInfo}
+use Rattle.dw_writer.specs.Texts.{Text, followed}
+use Rattle.dw_writer.specs.Layout.{Layout, is_at_zero}
+use Rattle.dw_writer.specs.Meaning.{Meaning, IsTidy, spelled_text}
+use Rattle.dw_writer.specs.Resolved.{put_record, put_records, resolved}
+use Rattle.dw_writer.specs.declared.relocate.Relocation.{Relocation}
+use Rattle.dw_writer.specs.declared.sections.Sections.{Sections}
+use Rattle.dw_writer.proofs.Laws.{resolved-wide}
+use Rattle.dw_strings.specs.Strings.{string_bytes}
+use Rattle.dw_unit.specs.Built.{Starts, Built}
+use Rattle.dw_unit.specs.Pending.{tables_of}
+use Rattle.dw_unit.proofs.Files.{WrittenFile, AreWritten, joined, joined_tables, file_of, past_file, files_built}
+use Rattle.dw_unit.proofs.ReadUnits.{parted}
+use Rattle.dw_dwarf.specs.DwarfValue.{DwarfValue}
+use Rattle.dw_dwarf.specs.Left.{units_of, IsLeft}
+use Rattle.dw_dwarf.specs.Written.{dwarf_lines}
+use Rattle.dw_link.specs.Linked.{AreLeft, files_from, lines_from, LinksDwarfs}
+use Rattle.dw_link.specs.Outcome.{JoinsParts}
+use Rattle.dw_link.specs.Sets.{Parts, parts_of, sets_of, bytes_of, concatenated, start_in, layout_in, linked_from, linked_parts}
+
+-- How long parts are
+
+put_records-none : (big : Bool) (l : Layout) (rs : List Relocation) → put_records big l rs None ≡ None
+unfolding put_record
+put_records-none big l [] = refl
+put_records-none big l (r ∷ rs) = put_records-none big l rs
+
+nowhere : (b : Bool) (t : Text) → t ≡ None → (if b then None else t) ≡ None
+nowhere true t h = refl
+nowhere false t h = h
+
+-- what a part resolves to is as long as its bytes
+part_length : (l : Layout) (m : Meaning) (xs : List ℕ) → IsTidy m → resolved l m ≡ Some xs → length (spelled_text m.bytes) ≡ length xs
+unfolding resolved
+part_length l m xs tidy h = by_text m.bytes refl
+  where
+    by_text : (t : Text) → m.bytes ≡ t → length (spelled_text m.bytes) ≡ length xs
+    by_text None is =
+        let none = ap (put_records m.is_big l m.records) is ∙ put_records-none m.is_big l m.records in
+        absurd (none-some xs (sym (nowhere (m.is_plain && not (is_at_zero l)) (put_records m.is_big l m.records m.bytes) none) ∙ h))
+    by_text (Some b) is = ap (λ t. length (spelled_text t)) is ∙ tidy.sized b is ∙ sym (resolved-wide l m tidy xs h)
+
+concatenated-more : (s : SectionId) (before : List Parts) (set : Parts) → length (concatenated s (before ++ set ∷ [])) ≡ length (concatenated s before) + length (bytes_of (set s))
+concatenated-more s [] set = omega (arith, ap length (append-nil (bytes_of (set s))))
+concatenated-more s (p ∷ before) set =
+    omega (arith, length-append (bytes_of (p s)) (concatenated s (before ++ set ∷ [])), length-append (bytes_of (p s)) (concatenated s before), concatenated-more s before set)
+
+-- where the parts of the set behind these start
+behind : (sets before after : List Parts) (n : ℕ) (s : SectionId) → sets ≡ before ++ after → n ≡ length before → start_in sets n s ≡ length (concatenated s before)
+behind sets before after n s is at =
+    ap (λ xs. length (concatenated s xs)) (ap (take n) is ∙ ap (λ k. take k (before ++ after)) at ∙ take-append_seam before after)
+
+-- Units
+
+-- files that were written one behind another, of these Dwarfs
+record AreFiles (big : Bool) (sets : List Parts) (symbols : List ℕ) (n : ℕ) (at : Starts) (ds : List DwarfValue) (info abbrevs : List ℕ) : Type 0 where
+  files : List WrittenFile
+  texts : List (List ℕ)
+  written : AreWritten big at files texts
+  info_is : joined texts ≡ info
+  abbrevs_is : joined_tables files ≡ abbrevs
+  files_are : map file_of files ≡ files_from sets symbols n ds
+
+abbrev starts_at : List Parts → Starts
+starts_at before = record { info = length (concatenated DebugInfo before); abbrevs = length (concatenated DebugAbbrev before) }
+
+starts_are : (a b : Starts) → a.info ≡ b.info → a.abbrevs ≡ b.abbrevs → a ≡ b
+starts_are a b p q =
+    ap (λ n. let s : Starts = record { info = n; abbrevs = a.abbrevs } in s) p ∙ ap (λ n. let s : Starts = record { info = b.info; abbrevs = n } in s) q
+
+module _ {W : Type 0} (from : W → Meaning) (big : Bool) (all : List Parts) (symbols : List ℕ) where
+  files_left : (before : List Parts) (n : ℕ) (sets : List (Sections W)) (ds : List DwarfValue) (info abbrevs : List ℕ) → all ≡ before ++ sets_of from sets → n ≡ length before → AreLeft from big sets ds →
+      linked_from all symbols DebugInfo n (sets_of from sets) ≡ Some info → linked_from all symbols DebugAbbrev n (sets_of from sets) ≡ Some abbrevs → AreFiles big all symbols n (starts_at before) ds info abbrevs
+  files_left before n [] [] info abbrevs is at left told tables =
+      record { files = []; texts = []; written = tt; info_is = same_Some [] info told; abbrevs_is = same_Some [] abbrevs tables; files_are = refl }
+  files_left before n [] (d ∷ ds) info abbrevs is at left told tables = absurd left
+  files_left before n (s ∷ sets) [] info abbrevs is at left told tables = absurd left
+  files_left before n (s ∷ sets) (d ∷ ds) info abbrevs is at left told tables =
+      let here = left.0 in
+      let part = parts_of from s in
+      let rest = sets_of from sets in
+      let l = layout_in all symbols n DebugInfo in
+      let a = parted (resolved l (from s.debug_info.0)) (linked_from all symbols DebugInfo (n + 1) rest) info told in
+      let b = parted (resolved (layout_in all symbols n DebugAbbrev) (from s.debug_abbrev.0)) (linked_from all symbols DebugAbbrev (n + 1) rest) abbrevs tables in
+      let own_tables : tables_of (units_of d) ≡ b.first = here.abbrevs (layout_in all symbols n DebugAbbrev) b.first b.first_is in
+      let next : all ≡ (before ++ part ∷ []) ++ rest = is ∙ sym (append_assoc before (part ∷ []) rest) in
+      let at_next : n + 1 ≡ length (before ++ part ∷ []) = omega (arith, at, length-append before (part ∷ [])) in
+      let more = files_left (before ++ part ∷ []) (n + 1) sets ds a.rest b.rest next at_next left.1 a.rest_is b.rest_is in
+      let f : WrittenFile = record { units = units_of d; kept = here.kept; layout = l } in
+      let long_info = part_length l (from s.debug_info.0) a.first here.info_tidy a.first_is in
+      let long_tables = part_length (layout_in all symbols n DebugAbbrev) (from s.debug_abbrev.0) b.first here.abbrevs_tidy b.first_is in
+      let past : starts_at (before ++ part ∷ []) ≡ past_file (starts_at before) f a.first = starts_are (starts_at (before ++ part ∷ [])) (past_file (starts_at before) f a.first)
+      (omega (arith, concatenated-more DebugInfo before part, long_info))
+      (omega (arith, concatenated-more DebugAbbrev before part, long_tables, ap length own_tables))
+      in
+      record {
+        files = f ∷ more.files;
+        texts = a.first ∷ more.texts;
+        written = (
+          record { in_row = here.in_row; text = here.info l a.first a.first_is },
+          behind all before (part ∷ rest) n DebugInfo is at,
+          behind all before (part ∷ rest) n DebugAbbrev is at,
+          subst (λ x. AreWritten big x more.files more.texts) past more.written,
+        );
+        info_is = ap (λ xs. a.first ++ xs) more.info_is ∙ a.all;
+        abbrevs_is = ap (λ xs. xs ++ joined_tables more.files) own_tables ∙ ap (λ xs. b.first ++ xs) more.abbrevs_is ∙ b.all;
+        files_are = ap (λ fs. file_of f ∷ fs) more.files_are;
+      }
+
+  -- Other sections
+
+  lines_left : (n : ℕ) (sets : List (Sections W)) (ds : List DwarfValue) (bytes : List ℕ) → AreLeft from big sets ds → linked_from all symbols DebugLine n (sets_of from sets) ≡ Some bytes → lines_from all symbols big n ds ≡ Some bytes
+  lines_left n [] [] bytes left told = told
+  lines_left n [] (d ∷ ds) bytes left told = absurd left
+  lines_left n (s ∷ sets) [] bytes left told = absurd left
+  lines_left n (s ∷ sets) (d ∷ ds) bytes left told =
+      let l = layout_in all symbols n DebugLine in
+      let p = parted (resolved l (from s.debug_line.0)) (linked_from all symbols DebugLine (n + 1) (sets_of from sets)) bytes told in
+      let more = lines_left (n + 1) sets ds p.rest left.1 p.rest_is in
+      ap (λ t. followed t (lines_from all symbols big (n + 1) ds)) (left.0.lines l p.first p.first_is ∙ sym p.first_is) ∙ ap (followed (resolved l (from s.debug_line.0))) (more ∙ sym p.rest_is) ∙ told
+
+  strings_left : (n : ℕ) (sets : List (Sections W)) (ds : List DwarfValue) (bytes : List ℕ) → AreLeft from big sets ds → linked_from all symbols DebugStr n (sets_of from sets) ≡ Some bytes → flat_map (λ d. string_bytes d.strings) ds ≡ bytes
+  strings_left n [] [] bytes left told = same_Some [] bytes told
+  strings_left n [] (d ∷ ds) bytes left told = absurd left
+  strings_left n (s ∷ sets) [] bytes left told = absurd left
+  strings_left n (s ∷ sets) (d ∷ ds) bytes left told =
+      let l = layout_in all symbols n DebugStr in
+      let p = parted (resolved l (from s.debug_str.0)) (linked_from all symbols DebugStr (n + 1) (sets_of from sets)) bytes told in
+      ap (λ xs. xs ++ flat_map (λ d. string_bytes d.strings) ds) (left.0.strings l p.first p.first_is) ∙ ap (λ xs. p.first ++ xs) (strings_left (n + 1) sets ds p.rest left.1 p.rest_is) ∙ p.all
+
+  line_strings_left : (n : ℕ) (sets : List (Sections W)) (ds : List DwarfValue) (bytes : List ℕ) → AreLeft from big sets ds → linked_from all symbols DebugLineStr n (sets_of from sets) ≡ Some bytes → flat_map (λ d. string_bytes d.line_strings) ds ≡ bytes
+  line_strings_left n [] [] bytes left told = same_Some [] bytes told
+  line_strings_left n [] (d ∷ ds) bytes left told = absurd left
+  line_strings_left n (s ∷ sets) [] bytes left told = absurd left
+  line_strings_left n (s ∷ sets) (d ∷ ds) bytes left told =
+      let l = layout_in all symbols n DebugLineStr in
+      let p = parted (resolved l (from s.debug_line_str.0)) (linked_from all symbols DebugLineStr (n + 1) (sets_of from sets)) bytes told in
+      ap (λ xs. xs ++ flat_map (λ d. string_bytes d.line_strings) ds) (left.0.line_strings l p.first p.first_is) ∙ ap (λ xs. p.first ++ xs) (line_strings_left (n + 1) sets ds p.rest left.1 p.rest_is) ∙ p.all
+
+-- All of them
+pub dwarfs_linked : {W X : Type 0} (from : W → Meaning) (to : X → Meaning) (big : Bool) (sets : List (Sections W)) (symbols : List ℕ) (ds : List DwarfValue) (out : Sections X) →
+    JoinsParts to (sets_of from sets) symbols out → AreLeft from big sets ds → LinksDwarfs from to big sets symbols ds out
+unfolding linked_parts
+dwarfs_linked from to big sets symbols ds out parts left =
+    let all = sets_of from sets in
+    record {
+      built = λ info abbrevs told tables.
+          let f = files_left from big all symbols [] 0 sets ds info abbrevs refl refl left (sym (parts DebugInfo out.debug_info.0 refl) ∙ told) (sym (parts DebugAbbrev out.debug_abbrev.0 refl) ∙ tables) in
+          let built = files_built big f.files f.texts f.written in
+          subst (λ fs. Built fs big info abbrevs) f.files_are (subst (λ xs. Built (map file_of f.files) big info xs) f.abbrevs_is (subst (λ xs. Built (map file_of f.files) big xs (joined_tables f.files)) f.info_is built));
+      lines = λ bytes told. lines_left from big all symbols 0 sets ds bytes left (sym (parts DebugLine out.debug_line.0 refl) ∙ told);
+      strings = λ bytes told. strings_left from big all symbols 0 sets ds bytes left (sym (parts DebugStr out.debug_str.0 refl) ∙ told);
+      line_strings = λ bytes told. line_strings_left from big all symbols 0 sets ds bytes left (sym (parts DebugLineStr out.debug_line_str.0 refl) ∙ told);
+    }

@@ -1,0 +1,40 @@
+-- Sets that writing a Dwarf left, each of its own, once they are joined.
+use Rattle.std.specs.Prelude.{◌≡◌, ℕ, ◌+◌, Bool, List, [], ◌∷◌, Some}
+use Rattle.std.specs.List.{flat_map}
+use Rattle.dw_base.specs.declared.section_id.SectionId.TheVariants.{DebugInfo, DebugLine}
+use Rattle.dw_writer.specs.Texts.{Text, followed}
+use Rattle.dw_writer.specs.Meaning.{Meaning}
+use Rattle.dw_writer.specs.declared.sections.Sections.{Sections}
+use Rattle.dw_strings.specs.Strings.{string_bytes}
+use Rattle.dw_unit.specs.Built.{File, Built}
+use Rattle.dw_dwarf.specs.DwarfValue.{DwarfValue}
+use Rattle.dw_dwarf.specs.Left.{units_of, IsLeft}
+use Rattle.dw_dwarf.specs.Written.{dwarf_lines}
+use Rattle.dw_link.specs.Sets.{Parts, sets_of, layout_in}
+
+-- each set is as writing a Dwarf over new sections left it
+abbrev pub AreLeft : {W : Type 0} → (W → Meaning) → Bool → List (Sections W) → List DwarfValue → Type 0
+AreLeft meaning big [] [] = Unit {0}
+AreLeft meaning big [] (d ∷ ds) = ⊥
+AreLeft meaning big (s ∷ sets) [] = ⊥
+AreLeft meaning big (s ∷ sets) (d ∷ ds) = IsLeft meaning big s d × AreLeft meaning big sets ds
+
+module _ (sets : List Parts) (symbols : List ℕ) where
+  -- their units, each set's where its parts stand in the joined sections; the first of them is set n
+  abbrev pub files_from : ℕ → List DwarfValue → List File
+  files_from n [] = []
+  files_from n (d ∷ ds) = record { units = units_of d; layout = layout_in sets symbols n DebugInfo } ∷ files_from (n + 1) ds
+
+  -- their line programs
+  abbrev pub lines_from : Bool → ℕ → List DwarfValue → Text
+  lines_from big n [] = Some []
+  lines_from big n (d ∷ ds) = followed (dwarf_lines d big (layout_in sets symbols n DebugLine)) (lines_from big (n + 1) ds)
+
+-- The joined sections are those of all: .debug_info and .debug_abbrev are read, to their last byte, as exactly the units of
+-- all sets in order, each reference leading to an entry of its own set, and strings and line programs named in the set's own
+-- parts; and these parts hold what each set has.
+pub record LinksDwarfs {W X : Type 0} (from : W → Meaning) (to : X → Meaning) (big : Bool) (sets : List (Sections W)) (symbols : List ℕ) (ds : List DwarfValue) (joined : Sections X) : Type 0 where
+  pub built : (info abbrevs : List ℕ) → (to joined.debug_info.0).bytes ≡ Some info → (to joined.debug_abbrev.0).bytes ≡ Some abbrevs → Built (files_from (sets_of from sets) symbols 0 ds) big info abbrevs
+  pub lines : (bytes : List ℕ) → (to joined.debug_line.0).bytes ≡ Some bytes → lines_from (sets_of from sets) symbols big 0 ds ≡ Some bytes
+  pub strings : (bytes : List ℕ) → (to joined.debug_str.0).bytes ≡ Some bytes → flat_map (λ d. string_bytes d.strings) ds ≡ bytes
+  pub line_strings : (bytes : List ℕ) → (to joined.debug_line_str.0).bytes ≡ Some bytes → flat_map (λ d. string_bytes d.line_strings) ds ≡ bytes
