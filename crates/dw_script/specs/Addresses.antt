@@ -1,6 +1,6 @@
 -- Addresses, as they are spelled: a number, or `sym:N:A`, the symbol N plus the addend A. References to entries of any unit:
 -- `U:E`, the entry E of the unit U, or `sym:N`.
-use Rattle.std.specs.Prelude.{ℕ, ◌^◌, List, [], ◌∷◌, drop, Option, None, option_map, option_and_then, nat_eq, if◌then◌else◌, codes}
+use Rattle.std.specs.Prelude.{ℕ, ◌^◌, List, [], ◌∷◌, drop, Option, Some, None, option_map, option_and_then, nat_eq, bytes_eq, if◌then◌else◌, codes}
 use Rattle.std.specs.List.{starts_with}
 use Rattle.dw_base.specs.declared.address.Address.{Address}
 use Rattle.dw_base.specs.declared.address.Address.TheVariants as address
@@ -20,6 +20,11 @@ abbrev pub address_of : List ℕ → Option Address
 address_of field =
     if starts_with nat_eq field (codes "sym:") then symbol_address (pieces colon (drop 4 field))
     else option_map address.Constant (number_below (2 ^ 64) field)
+
+-- the address that a field spells, or `none`
+abbrev pub address_or_none : List ℕ → Option (Option Address)
+address_or_none field =
+    if bytes_eq field (codes "none") then Some None else option_map Some (address_of field)
 
 -- the entry of a unit, each a part of its own
 abbrev pub entry_reference : List (List ℕ) → Option InfoRef

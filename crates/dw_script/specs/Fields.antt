@@ -1,5 +1,5 @@
 -- The typed fields of a line, each read from the front of those that are left.
-use Rattle.std.specs.Prelude.{ℕ, ℤ, ◌^◌, Bool, true, false, List, [], ◌∷◌, Result, Ok, Err, ok_or, ◌==◌, if◌then◌else◌, bytes_eq, codes}
+use Rattle.std.specs.Prelude.{ℕ, ℤ, ◌^◌, Bool, true, false, List, [], ◌∷◌, Option, Result, Ok, Err, ok_or, ◌==◌, if◌then◌else◌, bytes_eq, codes}
 use Rattle.dw_base.specs.declared.address.Address.{Address}
 use Rattle.dw_base.specs.declared.address.DebugInfoRef.{DebugInfoRef as InfoRef}
 use Rattle.dw_base.specs.declared.common.Format.{Format}
@@ -7,10 +7,11 @@ use Rattle.dw_base.specs.declared.common.Format.TheVariants.{Dwarf32, Dwarf64}
 use Rattle.dw_base.specs.declared.endianity.RunTimeEndian.{RunTimeEndian}
 use Rattle.dw_base.specs.declared.endianity.RunTimeEndian.TheVariants.{Little, Big}
 use Rattle.dw_script.specs.declared.reason.Reason.{Reason}
-use Rattle.dw_script.specs.declared.reason.Reason.TheVariants.{UnknownWord, BadNumber, WrongFields}
+use Rattle.dw_script.specs.declared.reason.Reason.TheVariants.{UnknownWord, BadNumber, BadHex, WrongFields}
 use Rattle.dw_script.specs.declared.word.Word.{Word}
-use Rattle.dw_script.specs.Addresses.{address_of, reference_of}
-use Rattle.dw_script.specs.Numbers.{number_below, signed_number}
+use Rattle.dw_script.specs.Addresses.{address_of, address_or_none, reference_of}
+use Rattle.dw_script.specs.Bytes.{hex_bytes}
+use Rattle.dw_script.specs.Numbers.{index_or_none, number_below, signed_number, target_or_none}
 use Rattle.dw_script.specs.Words.{word_of}
 
 -- the fields of a line from some place on
@@ -31,6 +32,12 @@ Err reason >>= next = Err reason
 abbrev pub with_rest : {T : Type 0} → Outcome T → Fields → Outcome (T × Fields)
 with_rest (Ok x) rest = Ok (x, rest)
 with_rest (Err reason) rest = Err reason
+
+-- what is made of a field's value, and the fields after it
+abbrev pub made : {A B : Type 0} → (A → B) → Outcome (A × Fields) → Outcome (B × Fields)
+made make outcome = do
+  (x, fields) ← outcome
+  Ok (make x, fields)
 
 -- the first field, and the fields after it
 abbrev pub next_field : Fields → Outcome (List ℕ × Fields)
@@ -56,6 +63,20 @@ number_field limit fields = do
   n ← ok_or (number_below limit field) BadNumber
   Ok (n, fields)
 
+-- an index or `none`, and the fields after it
+abbrev pub index_or_none_field : Fields → Outcome (Option ℕ × Fields)
+index_or_none_field fields = do
+  (field, fields) ← next_field fields
+  index ← ok_or (index_or_none field) BadNumber
+  Ok (index, fields)
+
+-- the index that a branch leads to, or `-`, and the fields after it
+abbrev pub target_field : Fields → Outcome (Option ℕ × Fields)
+target_field fields = do
+  (field, fields) ← next_field fields
+  target ← ok_or (target_or_none field) BadNumber
+  Ok (target, fields)
+
 -- a number from -2^63 to 2^63 - 1, and the fields after it
 abbrev pub signed_field : Fields → Outcome (ℤ × Fields)
 signed_field fields = do
@@ -68,6 +89,13 @@ abbrev pub address_field : Fields → Outcome (Address × Fields)
 address_field fields = do
   (field, fields) ← next_field fields
   address ← ok_or (address_of field) BadNumber
+  Ok (address, fields)
+
+-- an address or `none`, and the fields after it
+abbrev pub address_or_none_field : Fields → Outcome (Option Address × Fields)
+address_or_none_field fields = do
+  (field, fields) ← next_field fields
+  address ← ok_or (address_or_none field) BadNumber
   Ok (address, fields)
 
 -- a reference to an entry of any unit, and the fields after it
@@ -97,3 +125,10 @@ byte_order_field fields = do
   (field, fields) ← next_field fields
   order ← (if bytes_eq field (codes "little") then Ok Little else (if bytes_eq field (codes "big") then Ok Big else Err UnknownWord))
   Ok (order, fields)
+
+-- bytes in base 16, and the fields after them
+abbrev pub hex_field : Fields → Outcome (List ℕ × Fields)
+hex_field fields = do
+  (field, fields) ← next_field fields
+  bytes ← ok_or (hex_bytes field) BadHex
+  Ok (bytes, fields)

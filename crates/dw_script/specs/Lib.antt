@@ -9,5 +9,12 @@ pub mod Spelled
 pub mod Reasons
 pub mod Fields
 pub mod Codes
+pub mod OperationWords
+pub mod Operations
+pub mod Steps
+pub mod Targets
+pub mod Branches
+pub mod Expressions
 pub mod Values
+pub mod LinePrograms
 pub mod Lines

@@ -8,8 +8,9 @@ use Rattle.dw_script.specs.declared.reason.Reason.TheVariants.{BadByte, NotBuilt
 use Rattle.dw_script.specs.declared.word.Word.{Word}
 use Rattle.dw_script.specs.declared.word.Word.TheVariants as word
 use Rattle.dw_script.specs.Pieces.{pieces, space}
-use Rattle.dw_script.specs.Fields.{Fields, Outcome, ◌>>=◌, word_field, end_of_fields, number_field, format_field, flag_field, byte_order_field}
-use Rattle.dw_script.specs.Values.{tag_field, attribute_field, hex_field, value_field}
+use Rattle.dw_script.specs.Fields.{Fields, Outcome, ◌>>=◌, word_field, end_of_fields, number_field, format_field, flag_field, byte_order_field, hex_field}
+use Rattle.dw_script.specs.LinePrograms.{line_program_line, directory_line, file_line, sequence_line, row_line, end_line}
+use Rattle.dw_script.specs.Values.{tag_field, attribute_field, value_field}
 
 -- an empty line, and one that begins with `#`, which is 35, asks for nothing
 abbrev pub passed_over : List ℕ → Bool
@@ -126,7 +127,14 @@ line_of word.Delete fields = delete_line fields
 line_of word.DeleteChild fields = delete_child_line fields
 line_of word.Str fields = string_line fields
 line_of word.LineStr fields = line_string_line fields
-line_of _ fields = Err NotBuilt
+line_of word.Line fields = line_program_line fields
+line_of word.Dir fields = directory_line fields
+line_of word.File fields = file_line fields
+line_of word.Sequence fields = sequence_line fields
+line_of word.Row fields = row_line fields
+line_of word.End fields = end_line fields
+line_of word.Range fields = Err NotBuilt
+line_of word.Loc fields = Err NotBuilt
 
 -- what the fields of a line ask for, from its word on
 abbrev pub command_of : Fields → Outcome Command

@@ -1,4 +1,5 @@
--- The names of tags and attributes, each with its number (DWARF 5, 7.5.3 and 7.5.4); the last ten are GNU's.
+-- The names of tags, attributes and operations without operands, each with its number (DWARF 5, 7.5.3, 7.5.4 and 7.7.1);
+-- the last ten attributes and the last operation are GNU's.
 use Rattle.std.specs.Prelude.{ℕ, List, [], ◌∷◌, codes}
 
 -- the tags of entries
@@ -132,4 +133,42 @@ attribute_names =
     ∷ (codes "DW_AT_GNU_ranges_base", 0x2132)
     ∷ (codes "DW_AT_GNU_addr_base", 0x2133)
     ∷ (codes "DW_AT_GNU_locviews", 0x2137)
+    ∷ []
+
+-- the operations without operands
+abbrev pub opcode_names : List (List ℕ × ℕ)
+opcode_names =
+    (codes "DW_OP_deref", 0x06)
+    ∷ (codes "DW_OP_dup", 0x12)
+    ∷ (codes "DW_OP_drop", 0x13)
+    ∷ (codes "DW_OP_over", 0x14)
+    ∷ (codes "DW_OP_swap", 0x16)
+    ∷ (codes "DW_OP_rot", 0x17)
+    ∷ (codes "DW_OP_xderef", 0x18)
+    ∷ (codes "DW_OP_abs", 0x19)
+    ∷ (codes "DW_OP_and", 0x1a)
+    ∷ (codes "DW_OP_div", 0x1b)
+    ∷ (codes "DW_OP_minus", 0x1c)
+    ∷ (codes "DW_OP_mod", 0x1d)
+    ∷ (codes "DW_OP_mul", 0x1e)
+    ∷ (codes "DW_OP_neg", 0x1f)
+    ∷ (codes "DW_OP_not", 0x20)
+    ∷ (codes "DW_OP_or", 0x21)
+    ∷ (codes "DW_OP_plus", 0x22)
+    ∷ (codes "DW_OP_shl", 0x24)
+    ∷ (codes "DW_OP_shr", 0x25)
+    ∷ (codes "DW_OP_shra", 0x26)
+    ∷ (codes "DW_OP_xor", 0x27)
+    ∷ (codes "DW_OP_eq", 0x29)
+    ∷ (codes "DW_OP_ge", 0x2a)
+    ∷ (codes "DW_OP_gt", 0x2b)
+    ∷ (codes "DW_OP_le", 0x2c)
+    ∷ (codes "DW_OP_lt", 0x2d)
+    ∷ (codes "DW_OP_ne", 0x2e)
+    ∷ (codes "DW_OP_nop", 0x96)
+    ∷ (codes "DW_OP_push_object_address", 0x97)
+    ∷ (codes "DW_OP_form_tls_address", 0x9b)
+    ∷ (codes "DW_OP_call_frame_cfa", 0x9c)
+    ∷ (codes "DW_OP_stack_value", 0x9f)
+    ∷ (codes "DW_OP_GNU_uninit", 0xf0)
     ∷ []

@@ -1,5 +1,5 @@
 -- Numbers as they are spelled: decimal digits, or `0x` and digits of base 16; `-` before them where they may be below 0.
-use Rattle.std.specs.Prelude.{ℕ, ◌+◌, ◌-◌, ◌*◌, ◌^◌, List, [], ◌∷◌, length, drop, Option, Some, None, option_map, option_and_then, nat_lt, nat_le, nat_eq, ◌&&◌, if◌then◌else◌, codes, ℤ, pos, neg_ℤ}
+use Rattle.std.specs.Prelude.{ℕ, ◌+◌, ◌-◌, ◌*◌, ◌^◌, List, [], ◌∷◌, length, drop, Option, Some, None, option_map, option_and_then, nat_lt, nat_le, nat_eq, bytes_eq, ◌&&◌, if◌then◌else◌, codes, ℤ, pos, neg_ℤ}
 use Rattle.std.specs.List.{starts_with}
 use Rattle.dw_base.specs.Leb128.{fits_i64}
 
@@ -40,6 +40,16 @@ number_of field = if starts_with nat_eq field (codes "0x") then number_in 16 (dr
 -- the number that a field spells, if it is below the limit
 abbrev pub number_below : ℕ → List ℕ → Option ℕ
 number_below limit field = option_and_then (below limit) (number_of field)
+
+-- the index that a field spells, a number below 2^64, or `none`
+abbrev pub index_or_none : List ℕ → Option (Option ℕ)
+index_or_none field =
+    if bytes_eq field (codes "none") then Some None else option_map Some (number_below (2 ^ 64) field)
+
+-- the index that a branch leads to, a number below 2^64, or `-` where it has no target
+abbrev pub target_or_none : List ℕ → Option (Option ℕ)
+target_or_none field =
+    if bytes_eq field (codes "-") then Some None else option_map Some (number_below (2 ^ 64) field)
 
 -- the number that a field spells, `-` before it where it is below 0
 abbrev pub signed_of : List ℕ → Option ℤ

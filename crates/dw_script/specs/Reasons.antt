@@ -1,7 +1,7 @@
 -- The reasons for which a line is refused, as they are printed.
 use Rattle.std.specs.Prelude.{ℕ, List, codes}
 use Rattle.dw_script.specs.declared.reason.Reason.{Reason}
-use Rattle.dw_script.specs.declared.reason.Reason.TheVariants.{BadByte, UnknownWord, BadNumber, WrongFields, NotBuilt, OrderNotFirst, BadHex, NoSuchUnit, NoSuchEntry, NotReserved, BadTag, BadName, ZeroByte}
+use Rattle.dw_script.specs.declared.reason.Reason.TheVariants.{BadByte, UnknownWord, BadNumber, WrongFields, NotBuilt, OrderNotFirst, BadHex, NoSuchUnit, NoSuchEntry, NotReserved, BadTag, BadName, ZeroByte, NoLineProgram, EmptyName, NoSuchDirectory, InSequence, NotInSequence, NoSuchFile, AddressBack, TooDeep, BadTarget}
 
 -- a reason's text
 abbrev pub reason_text : Reason → List ℕ
@@ -18,3 +18,12 @@ reason_text NotReserved = codes "not reserved"
 reason_text BadTag = codes "bad tag"
 reason_text BadName = codes "bad name"
 reason_text ZeroByte = codes "zero byte"
+reason_text NoLineProgram = codes "no line program"
+reason_text EmptyName = codes "empty name"
+reason_text NoSuchDirectory = codes "no such directory"
+reason_text InSequence = codes "in sequence"
+reason_text NotInSequence = codes "not in sequence"
+reason_text NoSuchFile = codes "no such file"
+reason_text AddressBack = codes "address back"
+reason_text TooDeep = codes "too deep"
+reason_text BadTarget = codes "bad target"

@@ -1,17 +1,17 @@
 -- The fields of an attribute's value, each read from the front of those that are left.
-use Rattle.std.specs.Prelude.{ℕ, ◌^◌, List, Ok, Err, ok_or}
+use Rattle.std.specs.Prelude.{◌^◌, Ok, Err, ok_or}
 use Rattle.dw_base.specs.declared.constants.DwTag.{DwTag}
 use Rattle.dw_base.specs.declared.constants.DwAt.{DwAt}
 use Rattle.dw_script.specs.declared.kind.ConstantKind.{ConstantKind}
 use Rattle.dw_script.specs.declared.kind.ConstantKind.TheVariants as constant
 use Rattle.dw_script.specs.declared.kind.Kind.{Kind}
 use Rattle.dw_script.specs.declared.kind.Kind.TheVariants as kind
-use Rattle.dw_script.specs.declared.reason.Reason.TheVariants.{UnknownWord, BadHex, NotBuilt}
+use Rattle.dw_script.specs.declared.reason.Reason.TheVariants.{UnknownWord, NotBuilt}
 use Rattle.dw_script.specs.declared.value.Value.{Value}
 use Rattle.dw_script.specs.declared.value.Value.TheVariants as value
-use Rattle.dw_script.specs.Bytes.{hex_bytes}
 use Rattle.dw_script.specs.Codes.{tag_of, attribute_of}
-use Rattle.dw_script.specs.Fields.{Fields, Outcome, ◌>>=◌, next_field, number_field, signed_field, flag_field, address_field, reference_field}
+use Rattle.dw_script.specs.Expressions.{expression_field}
+use Rattle.dw_script.specs.Fields.{Fields, Outcome, ◌>>=◌, next_field, number_field, signed_field, flag_field, address_field, reference_field, index_or_none_field, hex_field, made}
 use Rattle.dw_script.specs.Kinds.{kind_of}
 
 -- a tag, and the fields after it
@@ -28,25 +28,12 @@ attribute_field fields = do
   name ← attribute_of field
   Ok (record { 0 = name }, fields)
 
--- bytes in base 16, and the fields after them
-abbrev pub hex_field : Fields → Outcome (List ℕ × Fields)
-hex_field fields = do
-  (field, fields) ← next_field fields
-  bytes ← ok_or (hex_bytes field) BadHex
-  Ok (bytes, fields)
-
 -- the kind of a value, and the fields after it
 abbrev pub kind_field : Fields → Outcome (Kind × Fields)
 kind_field fields = do
   (field, fields) ← next_field fields
   kind ← ok_or (kind_of field) UnknownWord
   Ok (kind, fields)
-
--- the value that is made of a field, and the fields after it
-abbrev pub made : {T : Type 0} → (T → Value) → Outcome (T × Fields) → Outcome (Value × Fields)
-made make outcome = do
-  (x, fields) ← outcome
-  Ok (make x, fields)
 
 -- a number that the standard gives meanings, and the fields after it
 abbrev pub constant_of_kind : ConstantKind → Fields → Outcome (Value × Fields)
@@ -75,6 +62,7 @@ value_of_kind kind.Data16 fields = made value.Data16 (number_field (2 ^ 128) fie
 value_of_kind kind.Sdata fields = made value.Sdata (signed_field fields)
 value_of_kind kind.Udata fields = made value.Udata (number_field (2 ^ 64) fields)
 value_of_kind kind.ImplicitConst fields = made value.ImplicitConst (signed_field fields)
+value_of_kind kind.Exprloc fields = made value.Exprloc (expression_field fields)
 value_of_kind kind.Flag fields = made value.Flag (flag_field fields)
 value_of_kind kind.FlagPresent fields = Ok (value.FlagPresent, fields)
 value_of_kind kind.UnitRef fields = made value.UnitRef (number_field (2 ^ 64) fields)
@@ -87,6 +75,8 @@ value_of_kind kind.DebugStrRefSup fields = made (λ n. value.DebugStrRefSup (rec
 value_of_kind kind.String fields = made value.String (hex_field fields)
 value_of_kind kind.StringRef fields = made value.StringRef (number_field (2 ^ 64) fields)
 value_of_kind kind.LineStringRef fields = made value.LineStringRef (number_field (2 ^ 64) fields)
+value_of_kind kind.LineProgramRef fields = Ok (value.LineProgramRef, fields)
+value_of_kind kind.FileIndex fields = made value.FileIndex (index_or_none_field fields)
 value_of_kind (kind.Constant kind) fields = constant_of_kind kind fields
 value_of_kind kind.Unbuilt fields = Err NotBuilt
 

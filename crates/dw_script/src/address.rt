@@ -1,7 +1,7 @@
 //! Addresses: numbers, or symbols with an addend. References: entries of any unit, or symbols.
 
 ghost use Rattle.std.specs.Prelude.{◌≡◌};
-ghost use Rattle.dw_script.specs.Addresses.{address_of, symbol_address, reference_of, entry_reference};
+ghost use Rattle.dw_script.specs.Addresses.{address_of, address_or_none, symbol_address, reference_of, entry_reference};
 ghost use Rattle.dw_script.specs.Pieces.{pieces_left};
 
 use crate::number::{parse_i64, parse_u64, parse_usize};
@@ -15,6 +15,16 @@ pub(crate) fn parse_address(field: &[u8]) -> Option<Address>
     match field {
         [b's', b'y', b'm', b':', parts @ ..] => parse_symbol(Pieces::new(parts, b':')),
         _ => Some(Address::Constant(parse_u64(field)?)),
+    }
+}
+
+/// The address that a field spells, or none.
+pub(crate) fn parse_address_or_none(field: &[u8]) -> Option<Option<Address>>
+    ensures { result ≡ address_or_none field.now }
+{
+    match field {
+        b"none" => Some(None),
+        _ => Some(Some(parse_address(field)?)),
     }
 }
 

@@ -2,6 +2,7 @@
 
 use crate::change::Change;
 use crate::hex_bytes::HexBytes;
+use crate::line_change::LineChange;
 use dw_base::{Encoding, RunTimeEndian};
 
 /// One line's request.
@@ -17,4 +18,6 @@ pub enum Command<'a> {
     LineString(HexBytes<'a>),
     /// A change of the unit at an index.
     Change { unit: u64, change: Change<'a> },
+    /// A change of the line program of the unit at an index.
+    Line { unit: u64, change: LineChange<'a> },
 }

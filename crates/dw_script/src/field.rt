@@ -1,22 +1,29 @@
 //! The typed fields of a line, each taken from the front of those that are left. After an error
 //! the fields are not read on.
 
-ghost use Rattle.std.specs.Prelude.{◌≡◌, ◌^◌, Ok, Err, MatchResult};
+ghost use Rattle.std.specs.Prelude.{◌≡◌, ◌<◌, ◌^◌, IfOk, Ok, Err, MatchResult};
 ghost use Rattle.dw_script.specs.Pieces.{pieces_left};
-ghost use Rattle.dw_script.specs.Fields.{address_field, reference_field, byte_order_field, end_of_fields, flag_field, format_field, next_field, number_field, signed_field, with_rest, word_field};
-ghost use Rattle.dw_script.specs.Values.{attribute_field, hex_field, kind_field, tag_field};
+ghost use Rattle.dw_script.specs.Fields.{address_field, address_or_none_field, index_or_none_field, reference_field, byte_order_field, end_of_fields, flag_field, format_field, hex_field, next_field, number_field, signed_field, target_field, with_rest, word_field};
+ghost use Rattle.dw_script.specs.Operations.{opcode_field};
+ghost use Rattle.dw_script.specs.Steps.{open_field, step_word_field};
+ghost use Rattle.dw_script.specs.Values.{attribute_field, kind_field, tag_field};
 
-use crate::address::{parse_address, parse_reference};
-use crate::code::{parse_attribute, parse_tag};
+use crate::address::{parse_address, parse_address_or_none, parse_reference};
+use crate::code::{parse_attribute, parse_opcode, parse_tag};
 use crate::hex_bytes::HexBytes;
 use crate::kind::Kind;
 use crate::number::{
-    parse_i64, parse_u8, parse_u16, parse_u32, parse_u64, parse_u128, parse_usize,
+    parse_i64, parse_index_or_none, parse_target, parse_u8, parse_u16, parse_u32, parse_u64,
+    parse_u128, parse_usize,
 };
+use crate::operation_word::StepWord;
 use crate::pieces::Pieces;
 use crate::reason::Reason;
 use crate::word::Word;
-use dw_base::{Address, DebugInfoRef, DwAt, DwTag, Format, RunTimeEndian};
+use dw_base::{Address, DebugInfoRef, DwAt, DwOp, DwTag, Format, RunTimeEndian};
+
+/// How many expressions may be open at once, one within the other.
+pub(crate) const MOST_OPEN: usize = 64;
 
 /// Any field, as it stands.
 pub(crate) fn next_field<'a>(fields: &mut Pieces<'a>) -> Result<&'a [u8], Reason>
@@ -59,6 +66,22 @@ pub(crate) fn next_usize(fields: &mut Pieces<'_>) -> Result<usize, Reason>
     parse_usize(next_field(fields)?).ok_or(Reason::BadNumber)
 }
 
+/// An index, or `none`.
+pub(crate) fn next_index_or_none(fields: &mut Pieces<'_>) -> Result<Option<usize>, Reason>
+    ensures { with_rest result (pieces_left fields.new) ≡
+        index_or_none_field (pieces_left fields.old) }
+{
+    parse_index_or_none(next_field(fields)?).ok_or(Reason::BadNumber)
+}
+
+/// The index that a branch leads to, or none.
+pub(crate) fn next_target(fields: &mut Pieces<'_>) -> Result<Option<usize>, Reason>
+    ensures { with_rest result (pieces_left fields.new) ≡
+        target_field (pieces_left fields.old) }
+{
+    parse_target(next_field(fields)?).ok_or(Reason::BadNumber)
+}
+
 /// A number below 2^32.
 pub(crate) fn next_u32(fields: &mut Pieces<'_>) -> Result<u32, Reason>
     ensures { with_rest result (pieces_left fields.new) ≡
@@ -97,6 +120,14 @@ pub(crate) fn next_address(fields: &mut Pieces<'_>) -> Result<Address, Reason>
         address_field (pieces_left fields.old) }
 {
     parse_address(next_field(fields)?).ok_or(Reason::BadNumber)
+}
+
+/// An address, or `none`.
+pub(crate) fn next_address_or_none(fields: &mut Pieces<'_>) -> Result<Option<Address>, Reason>
+    ensures { with_rest result (pieces_left fields.new) ≡
+        address_or_none_field (pieces_left fields.old) }
+{
+    parse_address_or_none(next_field(fields)?).ok_or(Reason::BadNumber)
 }
 
 /// A reference to an entry of any unit, by the numbers of both, or by a symbol.
@@ -157,6 +188,35 @@ pub(crate) fn next_attribute(fields: &mut Pieces<'_>) -> Result<DwAt, Reason>
         attribute_field (pieces_left fields.old) }
 {
     Ok(DwAt(parse_attribute(next_field(fields)?)?))
+}
+
+/// The code of an operation without operands, by its number or its name.
+pub(crate) fn next_opcode(fields: &mut Pieces<'_>) -> Result<DwOp, Reason>
+    ensures { with_rest result (pieces_left fields.new) ≡
+        opcode_field (pieces_left fields.old) }
+{
+    Ok(DwOp(parse_opcode(next_field(fields)?)?))
+}
+
+/// The word of a step of an expression.
+pub(crate) fn next_step_word(fields: &mut Pieces<'_>) -> Result<StepWord, Reason>
+    ensures { with_rest result (pieces_left fields.new) ≡
+        step_word_field (pieces_left fields.old) }
+{
+    StepWord::read(next_field(fields)?).ok_or(Reason::UnknownWord)
+}
+
+/// The bracket that opens an expression, within so many that are open.
+pub(crate) fn expect_open(fields: &mut Pieces<'_>, depth: usize) -> Result<(), Reason>
+    ensures field { with_rest result (pieces_left fields.new) ≡
+        open_field depth (pieces_left fields.old) }
+    ensures room { IfOk result (λ _. depth < 64) }
+{
+    match next_field(fields)? {
+        b"[" if depth < MOST_OPEN => Ok(()),
+        b"[" => Err(Reason::TooDeep),
+        _ => Err(Reason::UnknownWord),
+    }
 }
 
 /// The kind of a value.

@@ -3,15 +3,22 @@
 #![tactic(auto)]
 
 mod address;
+mod branches;
 mod change;
 mod code;
 mod command;
+mod expression;
+mod expression_step;
 mod field;
 mod hex_bytes;
 mod kind;
 mod line;
+mod line_change;
+mod line_program;
 mod names;
 mod number;
+mod operation;
+mod operation_word;
 mod pieces;
 mod reason;
 mod script;
@@ -21,12 +28,20 @@ mod word;
 
 pub use change::Change;
 pub use command::Command;
+pub use expression::{ExpressionFields, ExpressionSteps};
+pub use expression_step::ExpressionStep;
 pub use hex_bytes::HexBytes;
 pub use line::parse_line;
+pub use line_change::{LineChange, LineText};
 pub use number::{parse_u8, parse_u16, parse_u64};
+pub use operation::ScriptOperation;
 pub use reason::Reason;
 pub use script::{ScriptLines, lines};
 pub use value::Value;
 
+#[cfg(test)]
+mod expression_tests;
+#[cfg(test)]
+mod line_program_tests;
 #[cfg(test)]
 mod tests;

@@ -10,6 +10,9 @@ use crate::field::{
     expect_end, next_attribute, next_byte_order, next_flag, next_format, next_hex_bytes, next_tag,
     next_u8, next_u16, next_u64, next_word,
 };
+use crate::line_program::{
+    parse_directory, parse_end, parse_file, parse_line_program, parse_row, parse_sequence,
+};
 use crate::pieces::Pieces;
 use crate::reason::Reason;
 use crate::value::next_value;
@@ -63,7 +66,13 @@ fn parse_fields<'a>(fields: &mut Pieces<'a>) -> Result<Command<'a>, Reason>
         Word::DeleteChild => parse_delete_child(fields),
         Word::Str => parse_string(fields),
         Word::LineStr => parse_line_string(fields),
-        _ => Err(Reason::NotBuilt),
+        Word::Line => parse_line_program(fields),
+        Word::Dir => parse_directory(fields),
+        Word::File => parse_file(fields),
+        Word::Sequence => parse_sequence(fields),
+        Word::Row => parse_row(fields),
+        Word::End => parse_end(fields),
+        Word::Range | Word::Loc => Err(Reason::NotBuilt),
     }
 }
 

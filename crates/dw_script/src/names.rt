@@ -1,5 +1,5 @@
-//! The names of tags and attributes, each with its number (DWARF 5, 7.5.3 and 7.5.4); the last ten
-//! are GNU's.
+//! The names of tags, attributes and operations without operands, each with its number (DWARF 5,
+//! 7.5.3, 7.5.4 and 7.7.1); the last ten attributes and the last operation are GNU's.
 
 use dw_base::constants::*;
 
@@ -147,4 +147,41 @@ pub(crate) const ATTRIBUTE_NAMES: [(&[u8], u16); 78] = [
     (b"DW_AT_GNU_ranges_base", DW_AT_GNU_ranges_base.0),
     (b"DW_AT_GNU_addr_base", DW_AT_GNU_addr_base.0),
     (b"DW_AT_GNU_locviews", DW_AT_GNU_locviews.0),
+];
+
+/// The names of operations without operands, with their codes.
+pub(crate) const OPCODE_NAMES: [(&[u8], u8); 33] = [
+    (b"DW_OP_deref", DW_OP_deref.0),
+    (b"DW_OP_dup", DW_OP_dup.0),
+    (b"DW_OP_drop", DW_OP_drop.0),
+    (b"DW_OP_over", DW_OP_over.0),
+    (b"DW_OP_swap", DW_OP_swap.0),
+    (b"DW_OP_rot", DW_OP_rot.0),
+    (b"DW_OP_xderef", DW_OP_xderef.0),
+    (b"DW_OP_abs", DW_OP_abs.0),
+    (b"DW_OP_and", DW_OP_and.0),
+    (b"DW_OP_div", DW_OP_div.0),
+    (b"DW_OP_minus", DW_OP_minus.0),
+    (b"DW_OP_mod", DW_OP_mod.0),
+    (b"DW_OP_mul", DW_OP_mul.0),
+    (b"DW_OP_neg", DW_OP_neg.0),
+    (b"DW_OP_not", DW_OP_not.0),
+    (b"DW_OP_or", DW_OP_or.0),
+    (b"DW_OP_plus", DW_OP_plus.0),
+    (b"DW_OP_shl", DW_OP_shl.0),
+    (b"DW_OP_shr", DW_OP_shr.0),
+    (b"DW_OP_shra", DW_OP_shra.0),
+    (b"DW_OP_xor", DW_OP_xor.0),
+    (b"DW_OP_eq", DW_OP_eq.0),
+    (b"DW_OP_ge", DW_OP_ge.0),
+    (b"DW_OP_gt", DW_OP_gt.0),
+    (b"DW_OP_le", DW_OP_le.0),
+    (b"DW_OP_lt", DW_OP_lt.0),
+    (b"DW_OP_ne", DW_OP_ne.0),
+    (b"DW_OP_nop", DW_OP_nop.0),
+    (b"DW_OP_push_object_address", DW_OP_push_object_address.0),
+    (b"DW_OP_form_tls_address", DW_OP_form_tls_address.0),
+    (b"DW_OP_call_frame_cfa", DW_OP_call_frame_cfa.0),
+    (b"DW_OP_stack_value", DW_OP_stack_value.0),
+    (b"DW_OP_GNU_uninit", DW_OP_GNU_uninit.0),
 ];

@@ -1,7 +1,7 @@
 //! Numbers, decimal or in base 16.
 
 ghost use Rattle.std.specs.Prelude.{◌≡◌, ◌^◌, ◌<◌, ◌≤◌, pos, neg_ℤ, option_map, option_and_then};
-ghost use Rattle.dw_script.specs.Numbers.{below, digit_in, number_below, number_in, number_of, signed_number, within_i64};
+ghost use Rattle.dw_script.specs.Numbers.{below, digit_in, index_or_none, number_below, number_in, number_of, signed_number, target_or_none, within_i64};
 
 /// The number below 2^64 that a field spells.
 pub fn parse_u64(field: &[u8]) -> Option<u64>
@@ -28,6 +28,26 @@ pub(crate) fn parse_usize(field: &[u8]) -> Option<usize>
     ensures { result ≡ number_below (2 ^ 64) field.now }
 {
     usize::try_from(parse_u64(field)?).ok()
+}
+
+/// The index that a field spells, or none.
+pub(crate) fn parse_index_or_none(field: &[u8]) -> Option<Option<usize>>
+    ensures { result ≡ index_or_none field.now }
+{
+    match field {
+        b"none" => Some(None),
+        _ => Some(Some(parse_usize(field)?)),
+    }
+}
+
+/// The index that a branch leads to, or none, spelled `-`.
+pub(crate) fn parse_target(field: &[u8]) -> Option<Option<usize>>
+    ensures { result ≡ target_or_none field.now }
+{
+    match field {
+        b"-" => Some(None),
+        _ => Some(Some(parse_usize(field)?)),
+    }
 }
 
 /// The number below 2^32 that a field spells.

@@ -1,11 +1,11 @@
 //! Bytes, cut at each separator: a line into fields, and a field into parts.
 
-ghost use Rattle.std.specs.Prelude.{◌≡◌, ◌∷◌, ◌<◌, ◌==◌, IfSome, length, position};
+ghost use Rattle.std.specs.Prelude.{◌≡◌, ◌∷◌, ◌+◌, ◌<◌, ◌≤◌, ◌==◌, IfSome, length, position};
 ghost use Rattle.std.specs.Iterator.{YieldsFirstRef, item_count};
 ghost use Rattle.dw_script.specs.Pieces.{pieces, pieces_after, pieces_left};
 
 /// The pieces between separators, from the first on; n separators give n + 1 pieces.
-#[derive(Debug, Drop)]
+#[derive(Clone, Copy, Debug)]
 pub struct Pieces<'a> {
     separator: u8,
     rest: Option<&'a [u8]>,
@@ -20,6 +20,16 @@ impl<'a> Pieces<'a> {
         Pieces {
             separator,
             rest: Some(bytes),
+        }
+    }
+
+    /// A number that is not below that of the pieces that are left.
+    pub(crate) fn most_left(&self) -> usize
+        ensures { length (pieces_left self.now) ≤ result }
+    {
+        match self.rest {
+            None => 0,
+            Some(bytes) => most_pieces(bytes),
         }
     }
 }
@@ -37,6 +47,13 @@ impl<'a> Iterator for Pieces<'a> {
         self.rest = rest;
         Some(piece)
     }
+}
+
+// A number that is not below that of the pieces of some bytes.
+fn most_pieces(bytes: &[u8]) -> usize
+    ensures { result ≡ length bytes.now + 1 }
+{
+    bytes.len() + 1
 }
 
 // The bytes before the first separator, and those after it.

@@ -32,6 +32,24 @@ pub enum Reason {
     BadName,
     /// A string has a zero byte, which would close it.
     ZeroByte,
+    /// The unit has no line program.
+    NoLineProgram,
+    /// A name has no bytes, which up to version 4 would close its list.
+    EmptyName,
+    /// No directory of the line program has the index.
+    NoSuchDirectory,
+    /// The sequence before isn't ended.
+    InSequence,
+    /// No sequence is begun.
+    NotInSequence,
+    /// No file of the line program has the index.
+    NoSuchFile,
+    /// The offset is below the one before it in the sequence.
+    AddressBack,
+    /// An expression stands within more than 63 others.
+    TooDeep,
+    /// A branch leads to itself, or past the end of its expression.
+    BadTarget,
 }
 
 impl Reason {
@@ -53,6 +71,15 @@ impl Reason {
             Reason::BadTag => "bad tag",
             Reason::BadName => "bad name",
             Reason::ZeroByte => "zero byte",
+            Reason::NoLineProgram => "no line program",
+            Reason::EmptyName => "empty name",
+            Reason::NoSuchDirectory => "no such directory",
+            Reason::InSequence => "in sequence",
+            Reason::NotInSequence => "not in sequence",
+            Reason::NoSuchFile => "no such file",
+            Reason::AddressBack => "address back",
+            Reason::TooDeep => "too deep",
+            Reason::BadTarget => "bad target",
         }
     }
 }

@@ -18,6 +18,7 @@ enum Request {
     DeleteChild(u64, u64, u64),
     String,
     LineString,
+    Line(u64),
 }
 
 fn request_of(line: &[u8]) -> Result<Request, Reason> {
@@ -28,6 +29,7 @@ fn request_of(line: &[u8]) -> Result<Request, Reason> {
         Some(Command::String(_)) => Ok(Request::String),
         Some(Command::LineString(_)) => Ok(Request::LineString),
         Some(Command::Change { unit, change }) => Ok(changed(unit, change)),
+        Some(Command::Line { unit, .. }) => Ok(Request::Line(unit)),
     }
 }
 
@@ -125,7 +127,7 @@ fn reads_lines(rt: HostRuntime) {
         (b"str 6", Err(Reason::BadHex)),
         (b"line_str 61 62", Err(Reason::WrongFields)),
         (b"range x", Err(Reason::NotBuilt)),
-        (b"end", Err(Reason::NotBuilt)),
+        (b"loc", Err(Reason::NotBuilt)),
         (b"add \x7f", Err(Reason::BadByte)),
     ];
     for (line, want) in rows {
@@ -183,7 +185,7 @@ fn reads_entries(rt: HostRuntime) {
         (b"set 0 0 3 range_ref 1", Err(Reason::NotBuilt)),
         (b"set 0 0 3 info_ref 0:1", set(0, 0, 0x03)),
         (b"set 0 0 3 info_ref 0 1", Err(Reason::BadNumber)),
-        (b"set 0 0 3 file_index", Err(Reason::NotBuilt)),
+        (b"set 0 0 3 loc_ref", Err(Reason::NotBuilt)),
         (b"set 0 0 3 frob", Err(Reason::UnknownWord)),
         (b"set 0 0 3", Err(Reason::WrongFields)),
     ];
@@ -300,10 +302,7 @@ fn reads_deletions(rt: HostRuntime) {
 /// The fields after a word that isn't built aren't looked at.
 #[test]
 fn refuses_words_that_are_not_built(rt: HostRuntime) -> Result<(), Fail> {
-    let words = [
-        "range", "loc", "line", "dir", "file", "sequence", "row", "end",
-    ];
-    for word in words {
+    for word in ["range", "loc"] {
         let line = format!(in rt.alloc(); "{word} x")?;
         assert_eq!(rt;
             request_of(line.as_bytes()),
@@ -315,7 +314,7 @@ fn refuses_words_that_are_not_built(rt: HostRuntime) -> Result<(), Fail> {
 }
 
 /// The kinds of values that aren't built.
-const UNBUILT_KINDS: &str = "exprloc line_program_ref loc_ref range_ref file_index";
+const UNBUILT_KINDS: &str = "loc_ref range_ref";
 
 /// The fields after a kind that isn't built aren't looked at.
 #[test]
@@ -556,6 +555,31 @@ fn reads_flags_and_places(rt: HostRuntime) -> Result<(), Fail> {
 }
 
 #[test]
+fn reads_line_program_values(rt: HostRuntime) -> Result<(), Fail> {
+    let rows = [
+        ("line_program_ref", "LineProgramRef"),
+        ("line_program_ref 0", "wrong fields"),
+        ("file_index 0", "FileIndex(Some(0))"),
+        (
+            "file_index 0xffffffffffffffff",
+            "FileIndex(Some(18446744073709551615))",
+        ),
+        ("file_index none", "FileIndex(None)"),
+        ("file_index None", "bad number"),
+        ("file_index non", "bad number"),
+        ("file_index -", "bad number"),
+        ("file_index 18446744073709551616", "bad number"),
+        ("file_index none 0", "wrong fields"),
+        ("file_index 0 0", "wrong fields"),
+        ("file_index", "wrong fields"),
+    ];
+    for (line, want) in rows {
+        assert_eq!(rt; shown(rt.alloc(), line)?.as_str(), want, "at {line}");
+    }
+    Ok(())
+}
+
+#[test]
 fn reads_constants(rt: HostRuntime) -> Result<(), Fail> {
     let rows = [
         ("encoding 5", "Encoding(DwAte(5))"),
@@ -651,7 +675,21 @@ fn cuts_lines(rt: HostRuntime) {
 
 #[test]
 fn prints_reasons(rt: HostRuntime) {
-    assert_eq!(rt; Reason::OrderNotFirst.text(), "order not first");
-    assert_eq!(rt; Reason::NoSuchEntry.text(), "no such entry");
-    assert_eq!(rt; Reason::NotReserved.text(), "not reserved");
+    let rows = [
+        (Reason::OrderNotFirst, "order not first"),
+        (Reason::NoSuchEntry, "no such entry"),
+        (Reason::NotReserved, "not reserved"),
+        (Reason::NoLineProgram, "no line program"),
+        (Reason::EmptyName, "empty name"),
+        (Reason::NoSuchDirectory, "no such directory"),
+        (Reason::InSequence, "in sequence"),
+        (Reason::NotInSequence, "not in sequence"),
+        (Reason::NoSuchFile, "no such file"),
+        (Reason::AddressBack, "address back"),
+        (Reason::TooDeep, "too deep"),
+        (Reason::BadTarget, "bad target"),
+    ];
+    for (reason, want) in rows {
+        assert_eq!(rt; reason.text(), want);
+    }
 }

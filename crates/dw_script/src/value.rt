@@ -5,9 +5,10 @@ ghost use Rattle.dw_script.specs.Fields.{with_rest};
 ghost use Rattle.dw_script.specs.Pieces.{pieces_left};
 ghost use Rattle.dw_script.specs.Values.{constant_of_kind, value_field};
 
+use crate::expression::ExpressionFields;
 use crate::field::{
-    next_address, next_flag, next_hex_bytes, next_i64, next_kind, next_reference, next_u8,
-    next_u16, next_u32, next_u64, next_u128, next_usize,
+    next_address, next_flag, next_hex_bytes, next_i64, next_index_or_none, next_kind,
+    next_reference, next_u8, next_u16, next_u32, next_u64, next_u128, next_usize,
 };
 use crate::hex_bytes::HexBytes;
 use crate::kind::{ConstantKind, Kind};
@@ -44,14 +45,17 @@ pub enum Value<'a> {
     Udata(u64),
     /// A number of 64 bits with a sign, which from version 5 on stands in the abbreviation (7.5.3).
     ImplicitConst(i64),
+    /// An expression, the number of its bytes in LEB128 before it, from version 4 on in a form of
+    /// its own (7.5.5).
+    Exprloc(ExpressionFields<'a>),
     /// Whether something is so, in one byte (7.5.5).
     Flag(bool),
     /// That something is so, from version 4 on in no bytes (7.5.5).
     FlagPresent,
     /// An entry of the same unit, by its index; a word of the format (7.5.5).
     UnitRef(u64),
-    /// An entry of any unit, by the numbers of both, or a symbol; a word of the format, in version 2
-    /// as many bytes as an address has (7.5.5).
+    /// An entry of any unit, by the numbers of both, or a symbol; a word of the format, in version
+    /// 2 as many bytes as an address has (7.5.5).
     DebugInfoRef(DebugInfoRef),
     /// A place in the supplementary file's `.debug_info`; a word of the format (7.3.6).
     DebugInfoRefSup(DebugInfoOffset),
@@ -69,6 +73,10 @@ pub enum Value<'a> {
     StringRef(u64),
     /// A string of `.debug_line_str`, by its index; a word of the format (7.5.5).
     LineStringRef(u64),
+    /// The unit's line program, by its place in `.debug_line`; a word of the format (7.5.5).
+    LineProgramRef,
+    /// A file of the unit's line program, by its index, or none, in LEB128 (2.14).
+    FileIndex(Option<usize>),
     /// The encoding of a base type (7.8).
     Encoding(DwAte),
     /// The sign of a decimal type (7.8).
@@ -111,6 +119,7 @@ pub(crate) fn next_value<'a>(fields: &mut Pieces<'a>) -> Result<Value<'a>, Reaso
         Kind::Sdata => Value::Sdata(next_i64(fields)?),
         Kind::Udata => Value::Udata(next_u64(fields)?),
         Kind::ImplicitConst => Value::ImplicitConst(next_i64(fields)?),
+        Kind::Exprloc => Value::Exprloc(ExpressionFields::read(fields)?),
         Kind::Flag => Value::Flag(next_flag(fields)?),
         Kind::FlagPresent => Value::FlagPresent,
         Kind::UnitRef => Value::UnitRef(next_u64(fields)?),
@@ -123,6 +132,8 @@ pub(crate) fn next_value<'a>(fields: &mut Pieces<'a>) -> Result<Value<'a>, Reaso
         Kind::String => Value::String(next_hex_bytes(fields)?),
         Kind::StringRef => Value::StringRef(next_u64(fields)?),
         Kind::LineStringRef => Value::LineStringRef(next_u64(fields)?),
+        Kind::LineProgramRef => Value::LineProgramRef,
+        Kind::FileIndex => Value::FileIndex(next_index_or_none(fields)?),
         Kind::Constant(kind) => next_constant(kind, fields)?,
         Kind::Unbuilt => return Err(Reason::NotBuilt),
     };
