@@ -6,17 +6,17 @@ use Rattle.dw_base.specs.Faults.{HasRisen}
 use Rattle.dw_ends.specs.Ends.{Intake}
 use Rattle.dwarf_build.specs.Script.{script}
 use Rattle.dwarf_build.specs.Answers.{IsBuild, IsShort, HasFault, Says, Prints, code_of, made_of}
-use Rattle.dwarf_build.specs.declared.script.Script.{Script}
+use Rattle.dwarf_build.specs.ScriptValue.{ScriptValue}
 use Rattle.dwarf_build.specs.declared.script.Refusal.{Refusal}
 use Rattle.dwarf_build.specs.declared.status.Status.{Status}
 use Rattle.dwarf_build.specs.declared.status.Status.TheVariants.{Listed, Usage, ScriptRefused, WriteRefused, SourceFailed, SinkFailed, NoMemory, TooLong}
 use Rattle.dwarf_build.proofs.Faulty.{valid_faultless}
 
-same_script : (a b : Script) (r : Result Script Refusal) → r ≡ Ok a → r ≡ Ok b → a ≡ b
-same_script a b r p q = let e : ◌≡◌ {A = Result Script Refusal} (Ok a) (Ok b) = sym p ∙ q in cc
+same_script : (a b : ScriptValue) (r : Result ScriptValue Refusal) → r ≡ Ok a → r ≡ Ok b → a ≡ b
+same_script a b r p q = let e : ◌≡◌ {A = Result ScriptValue Refusal} (Ok a) (Ok b) = sym p ∙ q in cc
 
-not_refused : (a : Script) (x : Refusal) (r : Result Script Refusal) → r ≡ Ok a → r ≡ Err x → ⊥
-not_refused a x r p q = let e : ◌≡◌ {A = Result Script Refusal} (Ok a) (Err x) = sym p ∙ q in cc
+not_refused : (a : ScriptValue) (x : Refusal) (r : Result ScriptValue Refusal) → r ≡ Ok a → r ≡ Err x → ⊥
+not_refused a x r p q = let e : ◌≡◌ {A = Result ScriptValue Refusal} (Ok a) (Err x) = sym p ∙ q in cc
 
 -- what was asked for was printed, or memory lacked
 abbrev pub IsDone : ℕ → Type 0
@@ -31,7 +31,7 @@ printed_done status result text old new listed (inr h) calm = stopped h.1
     stopped (inl k) = absurd (calm k.1)
     stopped (inr k) = inr (ap code_of k)
 
-module _ (words : List (List ℕ)) (left : Option (List ℕ)) (bytes : List ℕ) (s : Script) (build : IsBuild words) (told : left ≡ Some bytes) (short : IsShort bytes) (accepted : script bytes ≡ Ok s) (valid : IsValid true s.dwarf) where
+module _ (words : List (List ℕ)) (left : Option (List ℕ)) (bytes : List ℕ) (s : ScriptValue) (build : IsBuild words) (told : left ≡ Some bytes) (short : IsShort bytes) (accepted : script bytes ≡ Ok s) (valid : IsValid true s.dwarf) where
   listed_only : (status : Status) (text : List ℕ) → Says words left status text → status ≡ Listed
   listed_only Listed text h = refl
   listed_only Usage text h = absurd (h.0 build)
@@ -43,7 +43,7 @@ module _ (words : List (List ℕ)) (left : Option (List ℕ)) (bytes : List ℕ)
       let value = h.1.says.1.value in
       let refusal = h.1.says.1.says in
       let is : value ≡ s = same_script value s (script bytes) (ap script (sym same) ∙ h.1.says.1.accepted) accepted in
-      let fails : Script → Type 0 = λ v. HasFault v.dwarf refusal.error in
+      let fails : ScriptValue → Type 0 = λ v. HasFault v.dwarf refusal.error in
       absurd (valid_faultless s.dwarf refusal.error valid (subst fails is refusal.cause))
   listed_only SourceFailed text h = absurd h
   listed_only SinkFailed text h = absurd h

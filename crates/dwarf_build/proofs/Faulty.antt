@@ -1,5 +1,5 @@
 -- New plain sections take every Dwarf that is valid.
-use Rattle.std.specs.Prelude.{◌≡◌, ◌⊎◌, true, List, []}
+use Rattle.std.specs.Prelude.{◌≡◌, true, List, []}
 use Rattle.std.proofs.Common.{ℕ, sym, subst, refl}
 use Rattle.dw_base.specs.declared.error.Error.{Error}
 use Rattle.dw_base.specs.declared.error.Error.TheVariants.{NoMemory}
@@ -7,34 +7,33 @@ use Rattle.dw_writer.specs.Contents.{Meaning}
 use Rattle.dw_writer.specs.Sections.{SomeHasRisen}
 use Rattle.dw_writer.specs.declared.sections.Sections.{Sections}
 use Rattle.dw_unit.specs.Built.{at_begin}
-use Rattle.dw_unit.specs.Causes.{UnitsFail}
-use Rattle.dw_dwarf.specs.Valid.{AreUnwritten, IsValid, SomeReferenceFails, DwarfRefused, settled_units, string_tables}
+use Rattle.dw_dwarf.specs.DwarfValue.{DwarfValue}
+use Rattle.dw_dwarf.specs.Valid.{AreUnwritten, IsValid, DwarfFails, DwarfRefused, no_lines}
 use Rattle.dw_dwarf.specs.Written.{AreNewPlain, AreNew}
-use Rattle.dw_dwarf.specs.declared.dwarf.Dwarf.{Dwarf}
 use Rattle.dw_dwarf.proofs.Complete.{AreNew-from_plain, dwarf_fails, valid_unfailing}
 use Rattle.dwarf_build.specs.Answers.{HasFault, SaysOf}
 use Rattle.dwarf_build.specs.Texts.{refused_text}
-use Rattle.dwarf_build.specs.declared.script.Script.{Script}
+use Rattle.dwarf_build.specs.ScriptValue.{ScriptValue}
 use Rattle.dwarf_build.specs.declared.status.Status.{Status}
 use Rattle.dwarf_build.specs.declared.status.Status.TheVariants.{WriteRefused}
 
 -- The clause of the writing call is named for the meaning and the sections that it mentions.
-pub dwarf_faulty : {W : Type 0} {meaning : W → Meaning} {old : Sections W} {Clause : Type 0} → (AreNew meaning old → Clause) → (new : Sections W) → AreNewPlain meaning old → (d : Dwarf) (e : Error) → AreUnwritten d → (e ≡ NoMemory → ⊥) →
+pub dwarf_faulty : {W : Type 0} {meaning : W → Meaning} {old : Sections W} {Clause : Type 0} → (AreNew meaning old → Clause) → (new : Sections W) → AreNewPlain meaning old → (d : DwarfValue) (e : Error) → AreUnwritten d → (e ≡ NoMemory → ⊥) →
     (old.debug_info_fixups ≡ [] → AreUnwritten d → DwarfRefused meaning old new d e) → (SomeHasRisen meaning old new → ⊥) → HasFault d e
 dwarf_faulty {W} {meaning} {old} clause new empty d e unwritten some refused calm =
     let fails = dwarf_fails meaning old new (AreNew-from_plain meaning old empty) calm d e some (refused empty.fixups.info unwritten) in
-    subst (λ b. UnitsFail b (string_tables d) 0 d.units e ⊎ SomeReferenceFails b at_begin (settled_units d) e) empty.writers.debug_info.plain fails
+    subst (λ b. DwarfFails b at_begin (no_lines b) d e) empty.writers.debug_info.plain fails
 
 -- what is said of a script that is refused
-pub says_refused : (s : Script) (status : Status) (text : List ℕ) (e : Error) → status ≡ WriteRefused → text ≡ refused_text e → HasFault s.dwarf e → SaysOf s status text
+pub says_refused : (s : ScriptValue) (status : Status) (text : List ℕ) (e : Error) → status ≡ WriteRefused → text ≡ refused_text e → HasFault s.dwarf e → SaysOf s status text
 says_refused s status text e is says cause =
     subst (λ x. SaysOf s x text) (sym is) (record { error = e; cause = cause; says = says })
 
 -- a valid Dwarf has no fault
-pub valid_faultless : (d : Dwarf) (e : Error) → IsValid true d → HasFault d e → ⊥
+pub valid_faultless : (d : DwarfValue) (e : Error) → IsValid true d → HasFault d e → ⊥
 valid_faultless d e valid r = valid_unfailing true d valid e r
 
 -- so that only memory lacks
-pub only_memory : (d : Dwarf) → IsValid true d → (e : Error) → ((e ≡ NoMemory → ⊥) → HasFault d e) → e ≡ NoMemory
+pub only_memory : (d : DwarfValue) → IsValid true d → (e : Error) → ((e ≡ NoMemory → ⊥) → HasFault d e) → e ≡ NoMemory
 only_memory d valid NoMemory fails = refl
 only_memory d valid e fails = absurd (valid_faultless d e valid (fails (λ same. cc)))

@@ -10,6 +10,7 @@ pub mod Completeness
 pub mod Runs
 pub mod Made
 mod Worked
+mod WorkedExpressions
 pub mod Drafts
 mod MadeTrees
 mod MadeSizes

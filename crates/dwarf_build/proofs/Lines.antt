@@ -2,21 +2,21 @@
 use Rattle.std.proofs.Common.{◌≡◌, ap, ℕ, ◌+◌, List, ◌∷◌}
 use Rattle.std.specs.Prelude.{Result, Ok, Err}
 use Rattle.dwarf_build.specs.Script.{after_line, after_lines}
-use Rattle.dwarf_build.specs.declared.script.Script.{Script}
+use Rattle.dwarf_build.specs.ScriptValue.{ScriptValue}
 use Rattle.dwarf_build.specs.declared.script.Refusal.{Refusal}
 use Rattle.dw_script.specs.declared.reason.Reason.{Reason}
 
 -- what is left to do after line n
-after_outcome : ℕ → List (List ℕ) → Result Script Reason → Result Script Refusal
-after_outcome n lines r = elim r as (λ _. Result Script Refusal) [ Ok t ↦ after_lines (n + 1) t lines | Err reason ↦ Err (record { line = n; reason = reason }) ]
+after_outcome : ℕ → List (List ℕ) → Result ScriptValue Reason → Result ScriptValue Refusal
+after_outcome n lines r = elim r as (λ _. Result ScriptValue Refusal) [ Ok t ↦ after_lines (n + 1) t lines | Err reason ↦ Err (record { line = n; reason = reason }) ]
 
 -- a line that is accepted, and one that is refused
-pub after_lines-ok : (n : ℕ) (s t : Script) (line : List ℕ) (lines : List (List ℕ)) → after_line s line ≡ Ok t →
+pub after_lines-ok : (n : ℕ) (s t : ScriptValue) (line : List ℕ) (lines : List (List ℕ)) → after_line s line ≡ Ok t →
     after_lines n s (line ∷ lines) ≡ after_lines (n + 1) t lines
 unfolding after_outcome
 after_lines-ok n s t line lines e = ap (after_outcome n lines) e
 
-pub after_lines-err : (n : ℕ) (s : Script) (reason : Reason) (line : List ℕ) (lines : List (List ℕ)) → after_line s line ≡ Err reason →
+pub after_lines-err : (n : ℕ) (s : ScriptValue) (reason : Reason) (line : List ℕ) (lines : List (List ℕ)) → after_line s line ≡ Err reason →
     after_lines n s (line ∷ lines) ≡ Err (record { line = n; reason = reason })
 unfolding after_outcome
 after_lines-err n s reason line lines e = ap (after_outcome n lines) e

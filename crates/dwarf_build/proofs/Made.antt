@@ -4,9 +4,9 @@ use Rattle.std.specs.Prelude.{Option, Some, Bool, false, All, min, sum_by}
 use Rattle.std.proofs.lemmas.List.Elements.{All-append}
 use Rattle.dw_writer.specs.Contents.{Meaning}
 use Rattle.dw_writer.specs.declared.sections.Sections.{Sections}
-use Rattle.dw_dwarf.specs.Valid.{IsUnwritten, AreUnwritten, settled_dwarf}
+use Rattle.dw_dwarf.specs.DwarfValue.{DwarfValue}
+use Rattle.dw_dwarf.specs.Valid.{IsUnwritten, AreUnwritten}
 use Rattle.dw_dwarf.specs.Written.{AreTextsOf, HoldsDwarf}
-use Rattle.dw_dwarf.specs.declared.dwarf.Dwarf.{Dwarf}
 use Rattle.dwarf_build.specs.Answers.{SaysMade}
 use Rattle.dwarf_build.specs.Generated.{generated, generated_unit, generated_units, unit_variables}
 use Rattle.dwarf_build.specs.Texts.{counts_text}
@@ -21,23 +21,24 @@ units_unwritten n (suc k) =
     All-append IsUnwritten (generated_units n k) (generated_unit (k * unit_variables) (min unit_variables (n - k * unit_variables)) ∷ []) (units_unwritten n k) (one_unwritten (k * unit_variables) (min unit_variables (n - k * unit_variables)))
 
 -- what is generated wasn't written before
-pub generated_unwritten : (n : ℕ) (d : Dwarf) → d ≡ generated n → AreUnwritten d
+pub generated_unwritten : (n : ℕ) (d : DwarfValue) → d ≡ generated n → AreUnwritten d
 generated_unwritten n d same = subst AreUnwritten (sym same) (units_unwritten n (n / unit_variables + 1))
 
 same_told : {a b : List ℕ} {o : Option (List ℕ)} → o ≡ Some a → o ≡ Some b → a ≡ b
 same_told {a} {b} p q = let e : Some a ≡ Some b = sym p ∙ q in cc
 
 -- The summary of sections that hold what was generated. Its bytes are those that the writers tell.
-pub made_told : {W : Type 0} (meaning : W → Meaning) (n : ℕ) (d : Dwarf) (s : Sections W) (text info abbrevs : List ℕ) → d ≡ generated n → HoldsDwarf meaning s (settled_dwarf d) → (meaning s.debug_info.0).is_big ≡ false →
+pub made_told : {W : Type 0} (meaning : W → Meaning) (n : ℕ) (d : DwarfValue) (s : Sections W) (text info abbrevs : List ℕ) → d ≡ generated n → HoldsDwarf meaning s d → (meaning s.debug_info.0).is_big ≡ false → (meaning s.debug_line.0).is_big ≡ false →
     Some info ≡ (meaning s.debug_info.0).bytes → Some abbrevs ≡ (meaning s.debug_abbrev.0).bytes → text ≡ counts_text (length d.units) (sum_by (λ u. length u.entries) d.units) info abbrevs → SaysMade n text
-made_told meaning n d s text info abbrevs same held order told_info told_abbrevs says =
-    let little = subst (λ (b : Bool). AreTextsOf b (settled_dwarf d) held.texts) order held.are in
+made_told meaning n d s text info abbrevs same held order lines_order told_info told_abbrevs says =
+    let ordered = subst (λ (b : Bool). AreTextsOf b (meaning s.debug_line.0).is_big d held.texts) order held.are in
+    let little = subst (λ (b : Bool). AreTextsOf false b d held.texts) lines_order ordered in
     record {
       texts = held.texts;
-      are = subst (λ e. AreTextsOf false (settled_dwarf e) held.texts) same little;
+      are = subst (λ e. AreTextsOf false false e held.texts) same little;
       says =
           says
           ∙ ap (λ i. counts_text (length d.units) (sum_by (λ u. length u.entries) d.units) i abbrevs) (same_told (sym told_info) held.told.debug_info)
           ∙ ap (λ a. counts_text (length d.units) (sum_by (λ u. length u.entries) d.units) held.texts.debug_info a) (same_told (sym told_abbrevs) held.told.debug_abbrev)
-          ∙ ap (λ (e : Dwarf). counts_text (length e.units) (sum_by (λ u. length u.entries) e.units) held.texts.debug_info held.texts.debug_abbrev) same;
+          ∙ ap (λ (e : DwarfValue). counts_text (length e.units) (sum_by (λ u. length u.entries) e.units) held.texts.debug_info held.texts.debug_abbrev) same;
     }

@@ -1,15 +1,16 @@
 -- The tree of a generated unit, once it is settled.
-use Rattle.std.proofs.Common.{◌≡◌, ◌∙◌, sym, ap, subst, refl, arith, inl, inr, ℕ, zero, suc, ◌+◌, ◌<◌, ◌≤◌, ◌^◌, Bool, false, List, [], ◌∷◌, ◌++◌, map, length, get_or}
+use Rattle.std.proofs.Common.{◌≡◌, ◌∙◌, sym, ap, subst, refl, arith, inl, inr, ℕ, zero, suc, ◌+◌, ◌<◌, ◌≤◌, ◌^◌, Bool, true, false, ◌||◌, List, [], ◌∷◌, ◌++◌, map, length, get_or}
 use Rattle.std.specs.Prelude.{◌⊎◌, All, not, filter, ◌==◌, ◌%◌, if◌then◌else◌}
 use Rattle.std.specs.List.{flat_map}
-use Rattle.std.proofs.lemmas.Bool.{cases_lt}
+use Rattle.std.proofs.lemmas.Bool.{cases_lt, eqb-true, true≢false}
 use Rattle.std.proofs.lemmas.List.{length-append, append-nil, get_or_append_left, get_or_at}
 use Rattle.std.proofs.lemmas.List.Elements.{All-nil, All-cons, All-head, All-tail, All-append, All-map, filter-append}
 use Rattle.dw_base.specs.Entries.{Mark, Open, Null}
 use Rattle.dw_entries.specs.Entries.{EntryValue, blank_entry, new_root, entry_at}
 use Rattle.dw_entries.specs.Settled.{base_type_tag, is_base, bases_first}
-use Rattle.dw_entries.specs.Tree.{closed, tree_from, preorder}
-use Rattle.dw_unit.specs.UnitValue.{UnitValue, new_unit, no_line_program}
+use Rattle.dw_entries.specs.Tree.{closed, tree_from, has_entry, preorder}
+use Rattle.dw_line.specs.LinePrograms.{no_line_program}
+use Rattle.dw_unit.specs.UnitValue.{UnitValue, new_unit}
 use Rattle.dw_unit.specs.Whole.{settled}
 use Rattle.dwarf_build.specs.Generated.{generated_encoding, generated_unit, base_type, base_type_id, variable, variables, variable_ids}
 use Rattle.dwarf_build.proofs.Drafts.{variable_that, length-variables}
@@ -68,18 +69,38 @@ IfOpen P es (Open i) = P (entry_at es i)
 IfOpen P es Null = Unit {0}
 
 -- a property that each entry has, whichever number a variable has and whether it names the first root or not
-pub each_mark : (P : EntryValue → Type 0) (from n : ℕ) → from + n ≤ 2 ^ 64 → P (made_root n) → P base_type → ((b : Bool) (id i : ℕ) → i < 2 ^ 64 → P (variable_that b id i)) →
+each_open : (P : EntryValue → Type 0) (from n : ℕ) → P (made_root n) → P base_type → ((k : ℕ) → k < n → P (entry_at (made_entries from n) (2 + k))) →
     All (IfOpen P (made_entries from n)) (made_marks n)
-each_mark P from n within root base each =
+each_open P from n root base here =
     let es = made_entries from n in
-    let here : (k : ℕ) → k < n → P (entry_at es (2 + k)) = λ k below.
-    subst P (sym (variable_at from n k (made_root n) base_type below)) (each (((from + k) % 100) == 0) (2 + k) (from + k) (omega arith)) in
     let behind = map Open (variable_ids n) ++ Null ∷ [] in
     All-cons (IfOpen P es) (Open 0) (Open base_type_id ∷ behind) root
     (All-cons (IfOpen P es) (Open base_type_id) behind base
     (All-append (IfOpen P es) (map Open (variable_ids n)) (Null ∷ [])
     (All-map (IfOpen P es) Open (variable_ids n) (each_id (λ i. P (entry_at es i)) n here))
     (All-cons (IfOpen P es) Null [] tt (All-nil (IfOpen P es)))))
+
+pub each_mark : (P : EntryValue → Type 0) (from n : ℕ) → from + n ≤ 2 ^ 64 → P (made_root n) → P base_type → ((b : Bool) (id i : ℕ) → i < 2 ^ 64 → P (variable_that b id i)) →
+    All (IfOpen P (made_entries from n)) (made_marks n)
+each_mark P from n within root base each =
+    each_open P from n root base
+    (λ k below. subst P (sym (variable_at from n k (made_root n) base_type below)) (each (((from + k) % 100) == 0) (2 + k) (from + k) (omega arith)))
+
+-- the same of a property that hangs on no number
+pub each_entry : (P : EntryValue → Type 0) (from n : ℕ) → P (made_root n) → P base_type → ((b : Bool) (id i : ℕ) → P (variable_that b id i)) → All (IfOpen P (made_entries from n)) (made_marks n)
+each_entry P from n root base each =
+    each_open P from n root base
+    (λ k below. subst P (sym (variable_at from n k (made_root n) base_type below)) (each (((from + k) % 100) == 0) (2 + k) (from + k)))
+
+-- and of each entry among marks
+pub entry_of : (P : EntryValue → Type 0) (es : List EntryValue) (ms : List (Mark ℕ)) → All (IfOpen P es) ms → (i : ℕ) → has_entry ms i ≡ true → P (entry_at es i)
+entry_of P es [] h i there = absurd (true≢false (sym there))
+entry_of P es (Null ∷ ms) h i there = entry_of P es ms (All-tail (IfOpen P es) Null ms h) i there
+entry_of P es (Open j ∷ ms) h i there = by_test (j == i) refl (λ later. entry_of P es ms (All-tail (IfOpen P es) (Open j) ms h) i later)
+  where
+    by_test : (b : Bool) → (j == i) ≡ b → (has_entry ms i ≡ true → P (entry_at es i)) → P (entry_at es i)
+    by_test true same rest = subst (λ k. P (entry_at es k)) (eqb-true j i same) (All-head (IfOpen P es) (Open j) ms h)
+    by_test false other rest = rest (sym (ap (λ b. b || has_entry ms i) other) ∙ there)
 
 -- The tree
 

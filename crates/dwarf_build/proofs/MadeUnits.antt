@@ -1,8 +1,7 @@
 -- A generated unit can be written, and stands wherever it is written.
-use Rattle.std.proofs.Common.{◌≡◌, ◌∙◌, sym, ap, subst, refl, arith, ℕ, ◌+◌, ◌<◌, ◌≤◌, ◌^◌, Bool, true, false, List, [], ◌∷◌, length}
+use Rattle.std.proofs.Common.{◌≡◌, ◌∙◌, sym, ap, subst, refl, arith, ℕ, ◌+◌, ◌<◌, ◌≤◌, ◌^◌, Bool, true, false, List, [], ◌∷◌, ◌++◌, length}
 use Rattle.std.specs.Prelude.{All, Option, Some, None, IsTrue, IsFalse, ◌==◌, if◌then◌else◌}
 use Rattle.std.specs.List.{list_any}
-use Rattle.std.proofs.Math.Path.{fun_ext}
 use Rattle.std.proofs.lemmas.Bool.{lt-ltb, ne_eqb}
 use Rattle.std.proofs.lemmas.List.Elements.{All-from_recursion, All-nil, All-cons, All-head, All-tail, All-weaker}
 use Rattle.dw_base.specs.Abbreviations.{Shape}
@@ -23,11 +22,13 @@ use Rattle.dw_writer.proofs.Steps.{followed_texts-wide}
 use Rattle.dw_entries.specs.declared.attribute.Attribute.{Attribute}
 use Rattle.dw_entries.specs.Entries.{EntryValue, entry_at, has_sibling}
 use Rattle.dw_entries.specs.Targets.{Tables, UnitTargets}
-use Rattle.dw_entries.specs.Tree.{preorder}
+use Rattle.dw_entries.specs.Tree.{has_entry, preorder}
 use Rattle.dw_entries.specs.Values.{IsRanged}
 use Rattle.dw_entries.proofs.ValueTexts.{value-draft}
 use Rattle.dw_unit.specs.Built.{Starts}
-use Rattle.dw_unit.specs.Laid.{sized, place_from, past_from, laid_from}
+use Rattle.dw_unit.specs.Coded.{code_of_entry}
+use Rattle.dw_unit.specs.Early.{attributes_unplaced, mark_unplaced, standing, is_forward, tree_is_forward}
+use Rattle.dw_unit.specs.Laid.{sibling_size, values_size, sized, place_from, laid_from}
 use Rattle.dw_unit.specs.Pending.{AreRanged, IsMarkRanged, Stands}
 use Rattle.dw_unit.specs.Places.{Placement, found, targets_of}
 use Rattle.dw_unit.specs.UnitFaults.{attributes_fail, mark_fails, marks_fail}
@@ -35,12 +36,12 @@ use Rattle.dw_unit.specs.UnitText.{fitting_text, length_text, fields_text, heade
 use Rattle.dw_unit.specs.Valid.{IsWritableTree}
 use Rattle.dw_unit.specs.Whole.{tree_shapes, tree_size, IsTreePlacement}
 use Rattle.dw_unit.proofs.Faults.{neither}
-use Rattle.dw_unit.proofs.OnePlacement.{sized-same}
+use Rattle.dw_unit.proofs.OnePlacement.{AgreeOn, place_agree, past_agree}
 use Rattle.dw_unit.proofs.ReadMarks.{tree_draft-size}
 use Rattle.dw_unit.proofs.TreeWritten.{tree_is_one}
 use Rattle.dwarf_build.specs.Generated.{generated_encoding, base_type, base_type_id}
 use Rattle.dwarf_build.proofs.Drafts.{variable_that}
-use Rattle.dwarf_build.proofs.MadeTrees.{made_root, made_entries, made_marks, IfOpen, each_mark, made_tree}
+use Rattle.dwarf_build.proofs.MadeTrees.{made_root, made_entries, made_marks, IfOpen, each_mark, each_entry, entry_of, made_tree}
 use Rattle.dwarf_build.proofs.MadeSizes.{tree_few, tree_bounded, table_declared}
 
 -- Faults
@@ -77,6 +78,38 @@ base_ranged = All-cons HasRange _ [] tt (All-nil HasRange)
 variable_ranged : (b : Bool) (id i : ℕ) → i < 2 ^ 64 → IsInRange (variable_that b id i)
 variable_ranged true id i small = All-from_recursion HasRange (variable_that true id i).attributes (small, (tt, (tt, tt)))
 variable_ranged false id i small = All-from_recursion HasRange (variable_that false id i).attributes (small, (tt, tt))
+
+-- No size hangs on a place
+
+abbrev HangsOnNothing : EntryValue → Type 0
+HangsOnNothing x = (known : ℕ → Option ℕ) (err : Error) → IsFalse (attributes_unplaced generated_encoding known x.attributes err)
+
+variable_hangs : (b : Bool) (id i : ℕ) → HangsOnNothing (variable_that b id i)
+variable_hangs true id i known err = refl
+variable_hangs false id i known err = refl
+
+abbrev HasOneSize : EntryValue → Type 0
+HasOneSize x = (p q : ℕ → Option ℕ) → values_size generated_encoding p x.attributes ≡ values_size generated_encoding q x.attributes
+
+variable_size : (b : Bool) (id i : ℕ) → HasOneSize (variable_that b id i)
+variable_size true id i p q = refl
+variable_size false id i p q = refl
+
+early_from : (es : List EntryValue) (before ms : List (Mark ℕ)) → All (IfOpen HangsOnNothing es) ms → (err : Error) → IsFalse (is_forward generated_encoding es before ms err)
+early_from es before [] h err = refl
+early_from es before (m ∷ ms) h err =
+    neither (mark_unplaced generated_encoding es (standing (before ++ m ∷ [])) m err) (is_forward generated_encoding es (before ++ m ∷ []) ms err) (here m (All-head (IfOpen HangsOnNothing es) m ms h))
+    (early_from es (before ++ m ∷ []) ms (All-tail (IfOpen HangsOnNothing es) m ms h) err)
+  where
+    here : (k : Mark ℕ) → IfOpen HangsOnNothing es k → IsFalse (mark_unplaced generated_encoding es (standing (before ++ m ∷ [])) k err)
+    here (Open i) own = own (standing (before ++ m ∷ [])) err
+    here Null own = refl
+
+pub made_early : (from n : ℕ) (err : Error) → IsFalse (tree_is_forward generated_encoding (made_entries from n) err)
+made_early from n err =
+    let es = made_entries from n in
+    subst (λ ms. IsFalse (is_forward generated_encoding es [] ms err)) (sym (made_tree from n))
+    (early_from es [] (made_marks n) (each_entry HangsOnNothing from n (λ known e. refl) (λ known e. refl) variable_hangs) err)
 
 -- Drafts
 
@@ -146,10 +179,14 @@ module _ (t : Tables) (from n : ℕ) where
   pub made_placed : IsTreePlacement generated_encoding es made_places
   made_placed =
       let shapes = tree_shapes generated_encoding es in
-      let same : sizes (λ i. 0) ≡ sizes made_places.place = fun_ext (sized-same generated_encoding es shapes (λ i. 0) made_places.place) in
+      let each = each_entry HasOneSize from n (λ p q. refl) (λ p q. refl) variable_size in
+      let agree : AgreeOn (sizes (λ i. 0)) (sizes made_places.place) (preorder es) = λ i there.
+      let x = entry_at es i in
+      let own = entry_of HasOneSize es (made_marks n) each i (sym (ap (λ ms. has_entry ms i) (made_tree from n)) ∙ there) in
+      ap (λ k. length (uleb (code_of_entry generated_encoding es shapes i)) + (sibling_size generated_encoding x + k)) (own (found (λ i. 0)) (found made_places.place)) in
       record {
-        place = λ i. ap (λ (size : ℕ → ℕ). place_from size es (header_size generated_encoding) (preorder es) i) same;
-        past = λ i. ap (λ (size : ℕ → ℕ). past_from size es (header_size generated_encoding) (preorder es) i) same;
+        place = λ i. place_agree (sizes (λ i. 0)) (sizes made_places.place) es (header_size generated_encoding) (preorder es) agree i;
+        past = λ i. past_agree (sizes (λ i. 0)) (sizes made_places.place) es (header_size generated_encoding) (preorder es) agree i;
       }
 
   -- the root stands behind the header
@@ -186,6 +223,7 @@ module _ (t : Tables) (from n : ℕ) where
       encodable = refl;
       places = made_places;
       placed = made_placed;
+      early = made_early from n;
       room = omega (arith, tree_bounded from n within made_places.place, few);
       fits = length_fitting;
       sound = no_fault;
@@ -209,6 +247,7 @@ module _ (t : Tables) (from n : ℕ) where
         record {
           starts = refl;
           placed = made_placed;
+          early = made_early from n;
           draft = then-draft (whole-draft (header_size generated_encoding) (header_text generated_encoding at.abbrevs body.size) (header-wide at.abbrevs body.size))
               (all-drafts (coded_draft generated_encoding es u shapes) (preorder es) (λ m. mark_drafted es u shapes _ m));
           encodable = refl;

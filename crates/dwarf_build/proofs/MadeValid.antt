@@ -1,5 +1,5 @@
 -- What is generated for a number up to the most is valid.
-use Rattle.std.proofs.Common.{◌≡◌, ◌∙◌, sym, ap, subst, refl, arith, inr, ℕ, zero, suc, ◌+◌, ◌-◌, ◌*◌, ◌/◌, ◌<◌, ◌≤◌, ◌^◌, Bool, true, false, List, [], ◌∷◌, ◌++◌, map, length}
+use Rattle.std.proofs.Common.{◌≡◌, ◌∙◌, sym, ap, subst, refl, arith, inr, ℕ, zero, suc, ◌+◌, ◌-◌, ◌*◌, ◌/◌, ◌<◌, ◌≤◌, ◌^◌, Bool, true, false, List, [], ◌∷◌, ◌++◌, length}
 use Rattle.std.specs.Prelude.{All, Some, None, is_none, IsFalse, min, ◌==◌, if◌then◌else◌}
 use Rattle.std.specs.Option.{option_map}
 use Rattle.std.proofs.lemmas.Bool.{lt-ltb}
@@ -13,11 +13,11 @@ use Rattle.dw_writer.specs.Drafts.{Draft, Info, then_draft, shifted}
 use Rattle.dw_writer.specs.declared.fixup.DebugInfoFixup.{DebugInfoFixup}
 use Rattle.dw_entries.specs.Entries.{EntryValue}
 use Rattle.dw_entries.specs.Targets.{Tables, UnitTargets}
-use Rattle.dw_unit.specs.Built.{Starts, numbered_from, at_begin, table_size}
+use Rattle.dw_unit.specs.Built.{Numbered, Starts, settled_at, numbered, numbered_from, at_begin, table_size}
 use Rattle.dw_unit.specs.Coded.{code_at}
-use Rattle.dw_unit.specs.Pending.{Kept, past_kept, draft_of, units_draft, info_of, Stands, AreInRow}
+use Rattle.dw_unit.specs.Elsewhere.{Elsewhere, tables_in, line_size, past_elsewhere}
+use Rattle.dw_unit.specs.Pending.{Kept, past_kept, draft_of, draft_at, units_draft, info_of, StandsAt, AreInRow}
 use Rattle.dw_unit.specs.Places.{targets_of}
-use Rattle.dw_unit.specs.Strings.{tables_in}
 use Rattle.dw_unit.specs.UnitFaults.{has_no_room, hole_fails, holes_fail}
 use Rattle.dw_unit.specs.UnitText.{entry_draft, mark_draft, marks_draft}
 use Rattle.dw_unit.specs.UnitValue.{UnitValue}
@@ -52,19 +52,31 @@ table_small u m =
     let same : table_size (settled u) ≡ table_size (made_unit m.from m.count) = ap table_size (settled_as u m) in
     omega (arith, same, table_bounded m.from m.count m.within, m.few)
 
-made_writes : (t : Tables) (u : UnitValue) → IsMade u → IsWritable true t u
-made_writes t u m =
-    subst (λ (v : UnitValue). IsWritable true t v) (sym m.is)
-    (subst (λ (v : UnitValue). IsWritableTree true v.encoding v.entries t) (sym (made_settled m.from m.count)) (made_writable t m.from m.count m.within m.few))
+-- where a line program is to begin, among no strings
+abbrev lines_at : ℕ → Elsewhere
+lines_at k = record { line_strings = []; strings = []; lines = record { size = k; is_plain = true } }
 
-units_writable : (t : Tables) (at : ℕ) (us : List UnitValue) → All IsMade us → at + 84000 * length us < 2 ^ 32 → AreWritable true t at us
-units_writable t at [] made small = tt
-units_writable t at (u ∷ us) made small =
+-- there is nothing elsewhere
+abbrev no_tables : Tables
+no_tables = tables_in None [] []
+
+made_writes : (k : ℕ) (u : UnitValue) → IsMade u → IsWritable true (lines_at k) u
+made_writes k u m =
+    subst (λ (v : UnitValue). IsWritable true (lines_at k) v) (sym m.is) (
+      λ err. refl,
+      subst (λ (v : UnitValue). IsWritableTree true v.encoding v.entries no_tables) (sym (made_settled m.from m.count)) (made_writable no_tables m.from m.count m.within m.few),
+    )
+
+units_writable : (k at : ℕ) (us : List UnitValue) → All IsMade us → at + 84000 * length us < 2 ^ 32 → AreWritable true (lines_at k) at us
+units_writable k at [] made small = tt
+units_writable k at (u ∷ us) made small =
     let m = All-head IsMade u us made in
     let past : past_table at u ≡ at + table_size (settled u) = ap (λ (v : UnitValue). past_table at v) m.is ∙ ap (λ (v : UnitValue). at + table_size (settled v)) (sym m.is) in
-    let format : word_of u.encoding.format ≡ 4 = ap (λ (v : UnitValue). word_of v.encoding.format) m.is in (
-      inr (made_writes t u m, ap (λ w. fits w at) format ∙ lt-ltb at (2 ^ 32) (omega (arith, small))),
-      units_writable t (past_table at u) us (All-tail IsMade u us made) (omega (arith, past, small, table_small u m)),
+    let lines : past_elsewhere (lines_at k) u ≡ lines_at (k + 0) = ap (past_elsewhere (lines_at k)) m.is in
+    let format : word_of u.encoding.format ≡ 4 = ap (λ (v : UnitValue). word_of v.encoding.format) m.is in
+    let others = units_writable (k + 0) (past_table at u) us (All-tail IsMade u us made) (omega (arith, past, small, table_small u m)) in (
+      inr (made_writes k u m, ap (λ w. fits w at) format ∙ lt-ltb at (2 ^ 32) (omega (arith, small))),
+      subst (λ (t : Elsewhere). AreWritable true t (past_table at u) us) (sym lines) others,
     )
 
 -- References across units
@@ -116,44 +128,46 @@ module _ (es : List EntryValue) (u : UnitTargets) where
       to_root-then _ _ (mark_to_root (code_at generated_encoding es (tree_shapes generated_encoding es) m) m (All-head (IfOpen HasRootAlone es) m ms h))
       (marks_to_root ms (All-tail (IfOpen HasRootAlone es) m ms h))
 
-unit_to_root : (t : Tables) (from n : ℕ) → from + n ≤ 2 ^ 64 → (k : Kept) → AreToRoot (draft_of generated_encoding (made_entries from n) t k).holes
-unit_to_root t from n within k =
+unit_to_root : (from n : ℕ) → from + n ≤ 2 ^ 64 → (k : Kept) → AreToRoot (draft_of generated_encoding (made_entries from n) no_tables k).holes
+unit_to_root from n within k =
     let es = made_entries from n in
-    let u = targets_of t k.places in
+    let u = targets_of no_tables k.places in
     to_root-then _ _ tt
     (subst (λ ms. AreToRoot (marks_draft generated_encoding es u (tree_shapes generated_encoding es) ms).holes) (sym (made_tree from n))
     (marks_to_root es u (made_marks n) (each_mark HasRootAlone from n within (root_alone n) base_alone variable_alone)))
 
--- behind a unit and its table
-abbrev past_made : Tables → Starts → UnitValue → Kept → Starts
-past_made t at u k = past_kept at (record { id = 0; unit = settled u; tables = t }) k
+-- a unit as it is numbered
+abbrev numbered_as : (n k : ℕ) (u : UnitValue) (m : IsMade u) → settled_at n (lines_at k) u ≡ record { id = n; unit = made_unit m.from m.count; tables = no_tables }
+numbered_as n k u m =
+    ap (settled_at n (lines_at k)) m.is
+    ∙ ap (λ (v : UnitValue). let x : Numbered = record { id = n; unit = v; tables = no_tables } in x) (made_settled m.from m.count)
 
 -- where units stand one behind another
-abbrev kept_of : Tables → Starts → (u : UnitValue) → IsMade u → Kept
-kept_of t at u m = record { starts = at; places = made_places t m.from m.count }
+abbrev kept_of : Starts → (u : UnitValue) → IsMade u → Kept
+kept_of at u m = record { starts = at; places = made_places no_tables m.from m.count }
 
-abbrev row_of : Tables → Starts → (us : List UnitValue) → All IsMade us → List Kept
-row_of t at [] made = []
-row_of t at (u ∷ us) made =
-    let k = kept_of t at u (All-head IsMade u us made) in
-    k ∷ row_of t (past_made t at u k) us (All-tail IsMade u us made)
+abbrev row_of : (n k : ℕ) → Starts → (us : List UnitValue) → All IsMade us → List Kept
+row_of n k at [] made = []
+row_of n k at (u ∷ us) made =
+    let place = kept_of at u (All-head IsMade u us made) in
+    place ∷ row_of (suc n) (k + line_size u) (past_kept at (settled_at n (lines_at k) u) place) us (All-tail IsMade u us made)
 
-made_row : (t : Tables) (n : ℕ) (at : Starts) (us : List UnitValue) (made : All IsMade us) → AreInRow at (numbered_from n t (map settled us)) (row_of t at us made)
-made_row t n at [] made = tt
-made_row t n at (u ∷ us) made =
+made_row : (n k : ℕ) (at : Starts) (us : List UnitValue) (made : All IsMade us) → AreInRow at (numbered_from n (lines_at k) us) (row_of n k at us made)
+made_row n k at [] made = tt
+made_row n k at (u ∷ us) made =
     let m = All-head IsMade u us made in
-    let k = kept_of t at u m in (
-      subst (λ (v : UnitValue). Stands at v.encoding v.entries t k) (sym (settled_as u m)) (made_stands t m.from m.count m.within m.few at),
-      made_row t (suc n) (past_made t at u k) us (All-tail IsMade u us made),
+    let place = kept_of at u m in (
+      subst (λ (x : Numbered). StandsAt at x place) (sym (numbered_as n k u m)) (made_stands no_tables m.from m.count m.within m.few at),
+      made_row (suc n) (k + line_size u) (past_kept at (settled_at n (lines_at k) u) place) us (All-tail IsMade u us made),
     )
 
-row_to_root : (t : Tables) (n : ℕ) (at : Starts) (us : List UnitValue) (made : All IsMade us) → AreToRoot (units_draft (numbered_from n t (map settled us)) (row_of t at us made)).holes
-row_to_root t n at [] made = tt
-row_to_root t n at (u ∷ us) made =
+row_to_root : (n k : ℕ) (at : Starts) (us : List UnitValue) (made : All IsMade us) → AreToRoot (units_draft (numbered_from n (lines_at k) us) (row_of n k at us made)).holes
+row_to_root n k at [] made = tt
+row_to_root n k at (u ∷ us) made =
     let m = All-head IsMade u us made in
-    let k = kept_of t at u m in
-    to_root-then _ _ (subst (λ (v : UnitValue). AreToRoot (draft_of v.encoding v.entries t k).holes) (sym (settled_as u m)) (unit_to_root t m.from m.count m.within k))
-    (row_to_root t (suc n) (past_made t at u k) us (All-tail IsMade u us made))
+    let place = kept_of at u m in
+    to_root-then _ _ (subst (λ (x : Numbered). AreToRoot (draft_at x place).holes) (sym (numbered_as n k u m)) (unit_to_root m.from m.count m.within place))
+    (row_to_root (suc n) (k + line_size u) (past_kept at (settled_at n (lines_at k) u) place) us (All-tail IsMade u us made))
 
 -- the root of the first unit stands behind its header
 module _ (info : Info) (first : info 0 0 ≡ Some 12) where
@@ -169,17 +183,17 @@ module _ (info : Info) (first : info 0 0 ≡ Some 12) where
   holes_sound [] to err = refl
   holes_sound (h ∷ hs) to err = neither (hole_fails info true h err) (holes_fail info true hs err) (hole_sound h to.0 err) (holes_sound hs to.1 err)
 
-references_lead : (t : Tables) (us : List UnitValue) → All IsMade us → ReferencesLead true at_begin (numbered_from 0 t (map settled us))
-references_lead t [] made = record { kept = []; in_row = tt; lead = λ err. refl }
-references_lead t (u ∷ us) made =
+references_lead : (us : List UnitValue) → All IsMade us → ReferencesLead true at_begin (numbered (lines_at 0) us)
+references_lead [] made = record { kept = []; in_row = tt; lead = λ err. refl }
+references_lead (u ∷ us) made =
     let m = All-head IsMade u us made in
-    let row = row_of t at_begin (u ∷ us) made in
-    let all = numbered_from 0 t (map settled (u ∷ us)) in
-    let first : info_of all row 0 0 ≡ Some 12 = ap (λ k. option_map (λ n. 0 + n) (if k == 0 then None else Some k)) (root_place t m.from m.count) in
+    let row = row_of 0 0 at_begin (u ∷ us) made in
+    let all = numbered (lines_at 0) (u ∷ us) in
+    let first : info_of all row 0 0 ≡ Some 12 = ap (λ k. option_map (λ n. 0 + n) (if k == 0 then None else Some k)) (root_place no_tables m.from m.count) in
     record {
       kept = row;
-      in_row = made_row t 0 at_begin (u ∷ us) made;
-      lead = holes_sound (info_of all row) first (units_draft all row).holes (row_to_root t 0 at_begin (u ∷ us) made);
+      in_row = made_row 0 0 at_begin (u ∷ us) made;
+      lead = holes_sound (info_of all row) first (units_draft all row).holes (row_to_root 0 0 at_begin (u ∷ us) made);
     }
 
 -- What is generated
@@ -203,6 +217,7 @@ generated_valid n most =
     let few : count ≤ 1001 = omega arith in
     let made = units_made n count few in
     record {
-      units = units_writable (tables_in [] []) 0 (generated_units n count) made (omega (arith, length-units n count, few));
-      references = references_lead (tables_in [] []) (generated_units n count) made;
+      units = units_writable 0 0 (generated_units n count) made (omega (arith, length-units n count, few));
+      references = references_lead (generated_units n count) made;
+      extra = λ err. refl;
     }

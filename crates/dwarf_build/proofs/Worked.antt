@@ -5,13 +5,15 @@ use Rattle.dw_script.specs.declared.command.Command.TheVariants.{String as AddSt
 use Rattle.dw_script.specs.declared.reason.Reason.TheVariants.{ZeroByte}
 use Rattle.dw_base.specs.declared.common.Format.TheVariants.{Dwarf32, Dwarf64}
 use Rattle.dw_base.specs.declared.endianity.RunTimeEndian.TheVariants.{Little}
-use Rattle.dw_unit.specs.UnitValue.{new_unit, no_line_program}
+use Rattle.dw_line.specs.LinePrograms.{no_line_program}
+use Rattle.dw_unit.specs.UnitValue.{new_unit}
 use Rattle.dw_base.specs.declared.address.DebugInfoRef.TheVariants.{Entry}
 use Rattle.dw_entries.specs.Attributes.{named}
 use Rattle.dw_entries.specs.Entries.{blank_entry, new_root}
 use Rattle.dw_entries.specs.declared.value.AttributeValue.TheVariants.{Data1, Udata, UnitRef, DebugInfoRef}
 use Rattle.dwarf_build.specs.Generated.{generated}
-use Rattle.dwarf_build.specs.Script.{after_command, after_string, empty_script, script}
+use Rattle.dwarf_build.specs.Script.{after_command, after_string, script}
+use Rattle.dwarf_build.specs.ScriptValue.{empty_script}
 
 -- no line at all
 empty : script [] ≡ Ok empty_script
@@ -23,6 +25,7 @@ second_unit : script (codes "unit 5 8 32\nunit 4 4 64") ≡ Ok (record {
   endian = Little;
   dwarf = record {
     units = new_unit (record { address_size = 8; format = Dwarf32; version = 5 }) no_line_program ∷ new_unit (record { address_size = 4; format = Dwarf64; version = 4 }) no_line_program ∷ [];
+    line_programs = [];
     line_strings = [];
     strings = [];
   };

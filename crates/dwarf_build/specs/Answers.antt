@@ -3,10 +3,9 @@ use Rattle.std.specs.Prelude.{◌≡◌, ◌⊎◌, ℕ, ◌+◌, ◌<◌, ◌�
 use Rattle.dw_base.specs.Order.{is_big_of}
 use Rattle.dw_base.specs.declared.error.Error.{Error}
 use Rattle.dw_unit.specs.Built.{at_begin}
-use Rattle.dw_unit.specs.Causes.{UnitsFail}
-use Rattle.dw_dwarf.specs.Valid.{IsValid, SomeReferenceFails, settled_dwarf, settled_units, string_tables}
+use Rattle.dw_dwarf.specs.DwarfValue.{DwarfValue}
+use Rattle.dw_dwarf.specs.Valid.{IsValid, DwarfFails, no_lines}
 use Rattle.dw_dwarf.specs.Written.{SectionTexts, AreTextsOf}
-use Rattle.dw_dwarf.specs.declared.dwarf.Dwarf.{Dwarf}
 use Rattle.dw_base.specs.Faults.{HasRisen}
 use Rattle.dw_ends.specs.Ends.{Input, Intake, used_up, with_after, TakesPrefix}
 use Rattle.dw_script.specs.Numbers.{number_below}
@@ -17,7 +16,7 @@ use Rattle.dwarf_build.specs.declared.answer.Stop.{Stop}
 use Rattle.dwarf_build.specs.declared.answer.Stop.TheVariants as stop
 use Rattle.dwarf_build.specs.declared.status.Status.{Status}
 use Rattle.dwarf_build.specs.declared.status.Status.TheVariants.{Listed, Usage, ScriptRefused, WriteRefused, SourceFailed, SinkFailed, NoMemory, TooLong}
-use Rattle.dwarf_build.specs.declared.script.Script.{Script}
+use Rattle.dwarf_build.specs.ScriptValue.{ScriptValue}
 use Rattle.dwarf_build.specs.declared.script.Refusal.{Refusal}
 
 -- the words are the command that reads a script
@@ -51,34 +50,35 @@ longest_script = 16777216
 abbrev pub IsShort : List ℕ → Type 0
 IsShort bytes = length bytes ≤ longest_script
 
--- the listing of sections that are read as exactly the script's units, with nothing in other sections. It comes, with
--- status 0, only for valid units, so that each reference in it names an entry of its unit's tree
-pub record ListsScript (s : Script) (text : List ℕ) : Type 0 where
+-- the listing of sections that are read as exactly the script's units, with their line programs and strings in their
+-- sections and nothing in the others. It comes, with status 0, only for valid units, so that each reference in it names an
+-- entry of its unit's tree
+pub record ListsScript (s : ScriptValue) (text : List ℕ) : Type 0 where
   pub texts : SectionTexts
   pub valid : IsValid true s.dwarf
-  pub are : AreTextsOf (is_big_of s.endian) (settled_dwarf s.dwarf) texts
+  pub are : AreTextsOf (is_big_of s.endian) (is_big_of s.endian) s.dwarf texts
   pub listed : text ≡ sections_text (is_big_of s.endian) texts
 
--- A plain writer can't take some unit, where its table stands behind those of the units before it, or some reference across
--- units leads to no entry, or to one whose place has no room.
-abbrev pub HasFault : Dwarf → Error → Type 0
-HasFault d error = UnitsFail true (string_tables d) 0 d.units error ⊎ SomeReferenceFails true at_begin (settled_units d) error
+-- A plain writer can't take some unit, where its table and its line program stand behind those of the units before it, or some
+-- reference across units leads to no entry, or to one whose place has no room.
+abbrev pub HasFault : DwarfValue → Error → Type 0
+HasFault d error = DwarfFails true at_begin (no_lines true) d error
 
 -- some unit of the script, or a reference across them, can't be written, and the text says why
-pub record IsWriteRefusal (s : Script) (text : List ℕ) : Type 0 where
+pub record IsWriteRefusal (s : ScriptValue) (text : List ℕ) : Type 0 where
   pub error : Error
   pub cause : HasFault s.dwarf error
   pub says : text ≡ refused_text error
 
 -- what is said of an accepted script
-abbrev pub SaysOf : Script → Status → List ℕ → Type 0
+abbrev pub SaysOf : ScriptValue → Status → List ℕ → Type 0
 SaysOf s Listed text = ListsScript s text
 SaysOf s WriteRefused text = IsWriteRefusal s text
 SaysOf s _ text = ⊥
 
 -- the script of these bytes is accepted, and this is said of it
 pub record SaysAccepted (bytes : List ℕ) (status : Status) (text : List ℕ) : Type 0 where
-  pub value : Script
+  pub value : ScriptValue
   pub accepted : script bytes ≡ Ok value
   pub says : SaysOf value status text
 
@@ -104,7 +104,7 @@ pub record SaysRead (left : Option (List ℕ)) (status : Status) (text : List �
 -- the summary of sections that are read as exactly what is generated for a number, with nothing in other sections
 pub record SaysMade (number : ℕ) (text : List ℕ) : Type 0 where
   pub texts : SectionTexts
-  pub are : AreTextsOf false (settled_dwarf (generated number)) texts
+  pub are : AreTextsOf false false (generated number) texts
   pub says : text ≡ summary_text (generated number) texts
 
 -- the words ask for a number, and this is said of what is generated for it
@@ -181,7 +181,7 @@ pub record RunAnswers (words : List (List ℕ)) (source_old source_new : Input) 
 abbrev pub ListsValid : List (List ℕ) → Input → Input → Intake → Intake → ℕ → Type 0
 ListsValid words source_old source_new sink_old sink_new code =
     IsBuild words → (bytes : List ℕ) → source_old.left ≡ Some bytes → IsShort bytes →
-    (s : Script) → script bytes ≡ Ok s → IsValid true s.dwarf →
+    (s : ScriptValue) → script bytes ≡ Ok s → IsValid true s.dwarf →
     (HasRisen source_old.faults source_new.faults → ⊥) → (HasRisen sink_old.faults sink_new.faults → ⊥) →
     (code ≡ 0) ⊎ (code ≡ 6)
 

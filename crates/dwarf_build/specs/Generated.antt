@@ -9,8 +9,9 @@ use Rattle.dw_entries.specs.declared.value.AttributeValue.{AttributeValue}
 use Rattle.dw_entries.specs.declared.value.AttributeValue.TheVariants.{Data1, Udata, UnitRef, DebugInfoRef}
 use Rattle.dw_entries.specs.Attributes.{named}
 use Rattle.dw_entries.specs.Entries.{EntryValue, blank_entry, new_root}
-use Rattle.dw_unit.specs.UnitValue.{UnitValue, new_unit, no_line_program}
-use Rattle.dw_dwarf.specs.declared.dwarf.Dwarf.{Dwarf}
+use Rattle.dw_line.specs.LinePrograms.{no_line_program}
+use Rattle.dw_unit.specs.UnitValue.{UnitValue, new_unit}
+use Rattle.dw_dwarf.specs.DwarfValue.{DwarfValue}
 
 -- version 5, addresses of 8 bytes, 32-bit
 abbrev pub generated_encoding : Encoding
@@ -65,5 +66,5 @@ generated_units n zero = []
 generated_units n (suc k) = generated_units n k ++ generated_unit (k * unit_variables) (min unit_variables (n - k * unit_variables)) ∷ []
 
 -- what is generated for so many variables
-abbrev pub generated : ℕ → Dwarf
-generated n = record { units = generated_units n (n / unit_variables + 1); line_strings = []; strings = [] }
+abbrev pub generated : ℕ → DwarfValue
+generated n = record { units = generated_units n (n / unit_variables + 1); line_programs = []; line_strings = []; strings = [] }

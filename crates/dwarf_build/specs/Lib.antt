@@ -1,3 +1,8 @@
+pub mod Names
+pub mod ScriptValue
+pub mod LineChanges
+pub mod Expressions
+pub mod OpenOperations
 pub mod Script
 pub mod Generated
 pub mod Drafted

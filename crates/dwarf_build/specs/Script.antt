@@ -1,32 +1,31 @@
 -- What a script builds: each line does what it says to what the lines before it built.
 use Rattle.std.specs.Prelude.{◌≡◌, ℕ, ◌+◌, List, [], ◌∷◌, ◌++◌, length, Option, Some, None, Result, Ok, Err, ok_or, true, false, not, nat_lt, ◌==◌, if◌then◌else◌, slice_get, slice_set, All}
-use Rattle.dw_base.specs.declared.endianity.RunTimeEndian.TheVariants.{Little}
+use Rattle.std.specs.Option.{option_map}
 use Rattle.dw_script.specs.Fields.{Outcome, ◌>>=◌}
 use Rattle.dw_script.specs.Lines.{parsed_line}
 use Rattle.dw_script.specs.Pieces.{newline, pieces}
 use Rattle.dw_script.specs.declared.command.Command.{Command}
-use Rattle.dw_script.specs.declared.command.Command.TheVariants.{Order, Unit as AddUnit, String as AddString, LineString as AddLineString, Change as ChangeUnit}
+use Rattle.dw_script.specs.declared.command.Command.TheVariants.{Order, Unit as AddUnit, String as AddString, LineString as AddLineString, Change as ChangeUnit, Line as ChangeLines}
 use Rattle.dw_script.specs.declared.change.Change.{Change}
 use Rattle.dw_script.specs.declared.change.Change.TheVariants as change
-use Rattle.dw_script.specs.declared.reason.Reason.TheVariants.{OrderNotFirst, NoSuchUnit, NoSuchEntry, NotReserved, BadTag, BadName, ZeroByte}
+use Rattle.dw_script.specs.declared.reason.Reason.TheVariants.{OrderNotFirst, NoSuchUnit, NoSuchEntry, NotReserved, BadTag, BadName}
 use Rattle.dw_script.specs.declared.value.Value.{Value}
 use Rattle.dw_script.specs.declared.value.Value.TheVariants as value
 use Rattle.dw_strings.specs.Strings.{with_string}
-use Rattle.dw_entries.specs.Content.{has_zero}
 use Rattle.dw_entries.specs.Entries.{EntryValue, with_changed, filled_up, with_new_child, with_sibling, with_attribute, without_attribute, without_child}
-use Rattle.dw_unit.specs.UnitValue.{UnitValue, new_unit, is_reserved, no_line_program}
+use Rattle.dw_line.specs.LinePrograms.{no_line_program}
+use Rattle.dw_unit.specs.UnitValue.{UnitValue, new_unit, is_reserved}
 use Rattle.dw_entries.specs.declared.value.AttributeValue.{AttributeValue}
 use Rattle.dw_entries.specs.declared.value.AttributeValue.TheVariants as stored
-use Rattle.dwarf_build.specs.declared.script.Script.{Script}
+use Rattle.dwarf_build.specs.Expressions.{expression_of}
+use Rattle.dwarf_build.specs.LineChanges.{CountsBytes, after_line_change}
+use Rattle.dwarf_build.specs.Names.{text_of}
+use Rattle.dwarf_build.specs.ScriptValue.{ScriptValue, empty_script}
 use Rattle.dwarf_build.specs.declared.script.Refusal.{Refusal}
 use Rattle.dwarf_build.specs.declared.script.CommandError.{CommandError}
 use Rattle.dwarf_build.specs.declared.script.CommandError.TheVariants as command
 use Rattle.dwarf_build.specs.declared.script.ScriptError.{ScriptError}
 use Rattle.dwarf_build.specs.declared.script.ScriptError.TheVariants as whole
-
--- before the first line: no units, little-endian
-abbrev pub empty_script : Script
-empty_script = record { endian = Little; dwarf = record { units = []; line_strings = []; strings = [] }; has_begun = false }
 
 -- the value that an attribute gets
 abbrev pub attribute_value : Value → AttributeValue
@@ -52,6 +51,8 @@ attribute_value (value.DebugStrRefSup n) = stored.DebugStrRefSup n
 attribute_value (value.String bytes) = stored.String bytes
 attribute_value (value.StringRef i) = stored.StringRef (record { 0 = i })
 attribute_value (value.LineStringRef i) = stored.LineStringRef (record { 0 = i })
+attribute_value value.LineProgramRef = stored.LineProgramRef
+attribute_value (value.FileIndex file) = stored.FileIndex (option_map (λ i. record { 0 = i }) file)
 attribute_value (value.Encoding n) = stored.Encoding n
 attribute_value (value.DecimalSign n) = stored.DecimalSign n
 attribute_value (value.Endianity n) = stored.Endianity n
@@ -64,6 +65,7 @@ attribute_value (value.IdentifierCase n) = stored.IdentifierCase n
 attribute_value (value.CallingConvention n) = stored.CallingConvention n
 attribute_value (value.Inline n) = stored.Inline n
 attribute_value (value.Ordering n) = stored.Ordering n
+attribute_value (value.Exprloc steps) = stored.Exprloc (expression_of steps)
 
 -- a unit with an entry added under a parent, for which an id was handed out
 abbrev pub after_add : ℕ → ℕ → UnitValue → Outcome UnitValue
@@ -115,48 +117,45 @@ with_unit_changed i change us = do
   Ok (slice_set us i v)
 
 -- a script with other units
-abbrev pub with_units : Script → List UnitValue → Script
+abbrev pub with_units : ScriptValue → List UnitValue → ScriptValue
 with_units s us = record s { dwarf = record s.dwarf { units = us }; has_begun = true }
 
--- a text without a zero byte
-abbrev pub text_of : List ℕ → Outcome (List ℕ)
-text_of bytes = if has_zero bytes then Err ZeroByte else Ok bytes
-
 -- a script with one more string, if none equals it
-abbrev pub after_string : Script → List ℕ → Script
+abbrev pub after_string : ScriptValue → List ℕ → ScriptValue
 after_string s text = record s { dwarf = record s.dwarf { strings = with_string s.dwarf.strings text }; has_begun = true }
 
-abbrev pub after_line_string : Script → List ℕ → Script
+abbrev pub after_line_string : ScriptValue → List ℕ → ScriptValue
 after_line_string s text = record s { dwarf = record s.dwarf { line_strings = with_string s.dwarf.line_strings text }; has_begun = true }
 
 -- after a command
-abbrev pub after_command : Script → Command → Outcome Script
+abbrev pub after_command : ScriptValue → Command → Outcome ScriptValue
 after_command s (Order o) = if s.has_begun then Err OrderNotFirst else Ok (record s { endian = o; has_begun = true })
 after_command s (AddUnit e) = Ok (with_units s (s.dwarf.units ++ new_unit e no_line_program ∷ []))
 after_command s (AddString bytes) = text_of bytes >>= λ text. Ok (after_string s text)
 after_command s (AddLineString bytes) = text_of bytes >>= λ text. Ok (after_line_string s text)
 after_command s (ChangeUnit unit c) = with_unit_changed unit (after_change c) s.dwarf.units >>= λ us. Ok (with_units s us)
+after_command s (ChangeLines unit c) = with_unit_changed unit (after_line_change c) s.dwarf.units >>= λ us. Ok (with_units s us)
 
 -- after a line that may ask for nothing
-abbrev pub after_asked : Script → Option Command → Outcome Script
+abbrev pub after_asked : ScriptValue → Option Command → Outcome ScriptValue
 after_asked s None = Ok s
 after_asked s (Some c) = after_command s c
 
-abbrev pub after_line : Script → List ℕ → Outcome Script
+abbrev pub after_line : ScriptValue → List ℕ → Outcome ScriptValue
 after_line s line = parsed_line line >>= after_asked s
 
 -- after lines, of which the first has number n; the first that is refused decides
-abbrev pub after_lines : ℕ → Script → List (List ℕ) → Result Script Refusal
+abbrev pub after_lines : ℕ → ScriptValue → List (List ℕ) → Result ScriptValue Refusal
 after_lines n s [] = Ok s
 after_lines n s (line ∷ lines) = elim (after_line s line) [ Ok t ↦ after_lines (n + 1) t lines | Err reason ↦ Err (record { line = n; reason = reason }) ]
 
 -- what the bytes of a script build, or the first line that is refused
-unfoldable pub script : List ℕ → Result Script Refusal
+unfoldable pub script : List ℕ → Result ScriptValue Refusal
 script bytes = after_lines 1 empty_script (pieces newline bytes)
 
--- a unit that is still built: it was neither written nor freed
+-- a unit that is still built: it was neither written nor freed, and its line program is one that lines build
 abbrev pub IsOpen : UnitValue → Type 0
-IsOpen u = (u.is_written ≡ false) × (u.is_freed ≡ false)
+IsOpen u = (u.is_written ≡ false) × (u.is_freed ≡ false) × CountsBytes u.line_program
 
 abbrev pub AreOpen : List UnitValue → Type 0
 AreOpen us = All IsOpen us
@@ -167,7 +166,7 @@ RefusedFor outcome (command.Refused reason) = outcome ≡ Err reason
 RefusedFor outcome command.NoMemory = Unit {0}
 
 -- the same of a line
-abbrev pub LineRefused : Script → List ℕ → ℕ → ScriptError → Type 0
+abbrev pub LineRefused : ScriptValue → List ℕ → ℕ → ScriptError → Type 0
 LineRefused s line n (whole.Refused r) = (after_line s line ≡ Err r.reason) × (r.line ≡ n)
 LineRefused s line n whole.NoMemory = Unit {0}
 

@@ -5,7 +5,7 @@ use Rattle.dw_base.specs.declared.section_id.SectionId.TheVariants.{DebugAbbrev,
 use Rattle.dw_base.specs.ErrorName.{error_name}
 use Rattle.dw_base.specs.declared.error.Error.{Error}
 use Rattle.dw_dwarf.specs.Written.{SectionTexts}
-use Rattle.dw_dwarf.specs.declared.dwarf.Dwarf.{Dwarf}
+use Rattle.dw_dwarf.specs.DwarfValue.{DwarfValue}
 use Rattle.dw_ends.specs.Listing.{listing}
 use Rattle.dw_script.specs.Reasons.{reason_text}
 use Rattle.dwarf_build.specs.declared.script.Refusal.{Refusal}
@@ -45,5 +45,5 @@ counts_text units entries info abbrevs =
     ++ codes " abbrev " ++ decimal (length abbrevs) ++ codes " sum " ++ decimal (sum info) ++ codes "\n"
 
 -- what `make` tells of what it wrote
-abbrev pub summary_text : Dwarf → SectionTexts → List ℕ
+abbrev pub summary_text : DwarfValue → SectionTexts → List ℕ
 summary_text d s = counts_text (length d.units) (sum_by (λ u. length u.entries) d.units) s.debug_info s.debug_abbrev

@@ -5,6 +5,7 @@ ghost use Rattle.dw_base.specs.declared.error.Error.TheVariants.{NoMemory};
 ghost use Rattle.dw_script.specs.Numbers.{number_below};
 ghost use Rattle.dwarf_build.specs.Answers.{IsBuild, LeavesUnread, Says, SaysOf, SaysBuild, SaysMade, Reads, StopsFor, made_of, most_variables};
 ghost use Rattle.dwarf_build.specs.Script.{AreOpen};
+ghost use Rattle.dwarf_build.specs.ScriptValue.{script_in};
 ghost use Rattle.dwarf_build.specs.Texts.{refusal_text, refused_text};
 
 use crate::listing::list_sections;
@@ -119,7 +120,7 @@ fn answer_write_refusal(alloc: Global, error: Error) -> Result<Answer, AllocErro
 // Writes what the script has built, and lists the sections.
 fn write_script(alloc: Global, mut script: Script) -> Result<Answer, AllocError>
     requires { AreOpen script.dwarf.units }
-    ensures { IfOk result (λ a. SaysOf script a.status a.text.items) }
+    ensures { IfOk result (λ a. SaysOf (script_in script) a.status a.text.items) }
 {
     match write_new(alloc, script.endian, &mut script.dwarf) {
         Ok(sections) => {

@@ -5,9 +5,10 @@ ghost use Rattle.dw_entries.specs.Entries.{with_sibling, without_attribute, with
 ghost use Rattle.dw_unit.specs.UnitValue.{is_reserved, IsReserved};
 ghost use Rattle.dwarf_build.specs.Script.{attribute_value, after_change, after_add, after_reserve, after_add_reserved, with_entry_changed, after_set, RefusedFor};
 
+use crate::expressions::owned_expression;
 use crate::script::CommandError;
 use dw_base::constants::DW_AT_sibling;
-use dw_base::{DwAt, DwTag, LineStringId, StringId, UnitEntryId};
+use dw_base::{DwAt, DwTag, FileId, LineStringId, StringId, UnitEntryId};
 use dw_script::{Change, Reason, Value};
 use dw_unit::{AttributeValue, Unit};
 use dw_writer::Bytes;
@@ -212,6 +213,9 @@ fn owned_value(alloc: Global, value: Value<'_>) -> Result<AttributeValue, AllocE
         Value::LineStringRef(string) => {
             AttributeValue::LineStringRef(LineStringId::new(string as usize))
         }
+        Value::LineProgramRef => AttributeValue::LineProgramRef,
+        Value::FileIndex(None) => AttributeValue::FileIndex(None),
+        Value::FileIndex(Some(file)) => AttributeValue::FileIndex(Some(FileId::new(file))),
         Value::Encoding(code) => AttributeValue::Encoding(code),
         Value::DecimalSign(code) => AttributeValue::DecimalSign(code),
         Value::Endianity(code) => AttributeValue::Endianity(code),
@@ -224,6 +228,7 @@ fn owned_value(alloc: Global, value: Value<'_>) -> Result<AttributeValue, AllocE
         Value::CallingConvention(code) => AttributeValue::CallingConvention(code),
         Value::Inline(code) => AttributeValue::Inline(code),
         Value::Ordering(code) => AttributeValue::Ordering(code),
+        Value::Exprloc(fields) => AttributeValue::Exprloc(owned_expression(alloc, &fields)?),
     };
     Ok(stored)
 }

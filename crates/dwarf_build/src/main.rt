@@ -3,6 +3,12 @@
 
 mod answer;
 mod entries;
+#[cfg(test)]
+mod expression_tests;
+mod expressions;
+#[cfg(test)]
+mod line_program_tests;
+mod line_programs;
 mod listing;
 mod make;
 #[cfg(test)]

@@ -3,6 +3,7 @@
 ghost use Rattle.std.specs.Prelude.{◌≡◌, ◌≢◌, ◌+◌, ◌<◌, ◌≤◌, ◌^◌, false, length, OnOk, IfOk, IfErr};
 ghost use Rattle.dw_base.specs.declared.error.Error.TheVariants.{NoMemory};
 ghost use Rattle.dw_entries.specs.Entries.{with_attribute};
+ghost use Rattle.dw_dwarf.specs.DwarfValue.{dwarf_in};
 ghost use Rattle.dw_unit.specs.UnitValue.{with_entry};
 ghost use Rattle.dwarf_build.specs.Drafted.{with_variable};
 ghost use Rattle.dwarf_build.specs.Generated.{generated, generated_unit};
@@ -28,7 +29,7 @@ const ENCODING: Encoding = Encoding {
 
 /// Generates so many variables, a thousand a unit.
 pub fn generate(alloc: Global, count: u64) -> Result<Dwarf>
-    ensures ok { IfOk result (λ d. d ≡ generated count) }
+    ensures ok { IfOk result (λ d. dwarf_in d ≡ generated count) }
     ensures err { IfErr result (λ e. e ≡ NoMemory) }
 {
     let mut dwarf = Dwarf::new(alloc);

@@ -2,12 +2,15 @@
 
 ghost use Rattle.std.specs.Prelude.{◌≡◌, ◌≤◌, length, Ok, Err, OnOk, IfOk, IfErr};
 ghost use Rattle.dw_base.specs.Spellable.{IsText};
-ghost use Rattle.dwarf_build.specs.Script.{text_of as text_in, RefusedFor};
+ghost use Rattle.dwarf_build.specs.Names.{text_of as text_in};
+ghost use Rattle.dwarf_build.specs.Script.{RefusedFor};
+ghost use Rattle.dwarf_build.specs.ScriptValue.{script_in};
 
 use crate::entries::{apply_change, index_below};
+use crate::line_programs::apply_line_change;
 use dw_base::{Encoding, RunTimeEndian, UnitId};
 use dw_dwarf::Dwarf;
-use dw_script::{Change, Command, HexBytes, Reason, lines, parse_line};
+use dw_script::{Change, Command, HexBytes, LineChange, Reason, lines, parse_line};
 use dw_unit::{LineProgram, Unit};
 use std::alloc::Global;
 
@@ -19,7 +22,7 @@ pub const SCRIPT_LIMIT: usize = 16_777_216;
 pub struct Script {
     /// The byte order of the sections.
     pub endian: RunTimeEndian,
-    /// The units and strings.
+    /// The units, their line programs and the strings.
     pub dwarf: Dwarf,
     /// Whether there was a line that isn't passed over.
     pub has_begun: bool,
@@ -47,11 +50,12 @@ pub enum CommandError {
 }
 
 impl Script {
-    ghost use Rattle.dwarf_build.specs.Script.{empty_script, after_command, after_line, AreOpen, LineRefused};
+    ghost use Rattle.dwarf_build.specs.ScriptValue.{empty_script};
+    ghost use Rattle.dwarf_build.specs.Script.{after_command, after_line, AreOpen, LineRefused};
 
     // Before the first line.
     fn new(alloc: Global) -> Script
-        ensures { result ≡ empty_script }
+        ensures { script_in result ≡ empty_script }
     {
         Script {
             endian: RunTimeEndian::Little,
@@ -64,8 +68,9 @@ impl Script {
     // again.
     fn read_line(&mut self, alloc: Global, line: &[u8], number: usize) -> Result<(), ScriptError>
         requires { AreOpen self.old.dwarf.units }
-        ensures ok { OnOk result (after_line self.old line.now ≡ Ok self.new) }
-        ensures err { IfErr result (LineRefused self.old line.now number) }
+        ensures ok { OnOk result
+            (after_line (script_in self.old) line.now ≡ Ok (script_in self.new)) }
+        ensures err { IfErr result (LineRefused (script_in self.old) line.now number) }
     {
         match parse_line(line) {
             Ok(None) => Ok(()),
@@ -80,8 +85,9 @@ impl Script {
 
     fn apply(&mut self, alloc: Global, command: Command<'_>) -> Result<(), CommandError>
         requires { AreOpen self.old.dwarf.units }
-        ensures ok { OnOk result (after_command self.old command.entry ≡ Ok self.new) }
-        ensures err { IfErr result (RefusedFor (after_command self.old command.entry)) }
+        ensures ok { OnOk result
+            (after_command (script_in self.old) command.entry ≡ Ok (script_in self.new)) }
+        ensures err { IfErr result (RefusedFor (after_command (script_in self.old) command.entry)) }
     {
         match command {
             Command::Order(endian) => self.set_order(endian),
@@ -89,12 +95,15 @@ impl Script {
             Command::String(bytes) => self.add_string(alloc, &bytes),
             Command::LineString(bytes) => self.add_line_string(alloc, &bytes),
             Command::Change { unit, change } => self.change_unit(alloc, unit, change),
+            Command::Line { unit, change } => self.change_line_program(alloc, unit, change),
         }
     }
 
     fn set_order(&mut self, endian: RunTimeEndian) -> Result<(), CommandError>
-        ensures ok { OnOk result (after_command self.old (Command.Order endian) ≡ Ok self.new) }
-        ensures err { IfErr result (RefusedFor (after_command self.old (Command.Order endian))) }
+        ensures ok { OnOk result
+            (after_command (script_in self.old) (Command.Order endian) ≡ Ok (script_in self.new)) }
+        ensures err { IfErr result
+            (RefusedFor (after_command (script_in self.old) (Command.Order endian))) }
     {
         if self.has_begun {
             return Err(CommandError::Refused(Reason::OrderNotFirst));
@@ -105,8 +114,10 @@ impl Script {
     }
 
     fn add_unit(&mut self, alloc: Global, encoding: Encoding) -> Result<(), CommandError>
-        ensures ok { OnOk result (after_command self.old (Command.Unit encoding) ≡ Ok self.new) }
-        ensures err { IfErr result (RefusedFor (after_command self.old (Command.Unit encoding))) }
+        ensures ok { OnOk result
+            (after_command (script_in self.old) (Command.Unit encoding) ≡ Ok (script_in self.new)) }
+        ensures err { IfErr result
+            (RefusedFor (after_command (script_in self.old) (Command.Unit encoding))) }
     {
         let unit = Unit::new(alloc, encoding, LineProgram::none()).map_err(
             |_| CommandError::NoMemory,
@@ -120,9 +131,11 @@ impl Script {
     }
 
     fn add_string(&mut self, alloc: Global, bytes: &HexBytes<'_>) -> Result<(), CommandError>
-        ensures ok { OnOk result (after_command self.old (Command.String bytes.now) ≡ Ok self.new) }
+        ensures ok { OnOk result
+            (after_command (script_in self.old) (Command.String bytes.now)
+            ≡ Ok (script_in self.new)) }
         ensures err { IfErr result
-            (RefusedFor (after_command self.old (Command.String bytes.now))) }
+            (RefusedFor (after_command (script_in self.old) (Command.String bytes.now))) }
     {
         let text = text_of(alloc, bytes)?;
         self.dwarf
@@ -135,9 +148,10 @@ impl Script {
 
     fn add_line_string(&mut self, alloc: Global, bytes: &HexBytes<'_>) -> Result<(), CommandError>
         ensures ok { OnOk result
-            (after_command self.old (Command.LineString bytes.now) ≡ Ok self.new) }
+            (after_command (script_in self.old) (Command.LineString bytes.now)
+            ≡ Ok (script_in self.new)) }
         ensures err { IfErr result
-            (RefusedFor (after_command self.old (Command.LineString bytes.now))) }
+            (RefusedFor (after_command (script_in self.old) (Command.LineString bytes.now))) }
     {
         let text = text_of(alloc, bytes)?;
         self.dwarf
@@ -156,9 +170,10 @@ impl Script {
     ) -> Result<(), CommandError>
         requires { AreOpen self.old.dwarf.units }
         ensures ok { OnOk result
-            (after_command self.old (Command.Change unit change.entry) ≡ Ok self.new) }
+            (after_command (script_in self.old) (Command.Change unit change.entry)
+            ≡ Ok (script_in self.new)) }
         ensures err { IfErr result
-            (RefusedFor (after_command self.old (Command.Change unit change.entry))) }
+            (RefusedFor (after_command (script_in self.old) (Command.Change unit change.entry))) }
     {
         let index = index_below(unit, self.dwarf.units.count(), Reason::NoSuchUnit)?;
         let unit = self.dwarf.units.get_mut(UnitId::new(index));
@@ -166,10 +181,30 @@ impl Script {
         self.has_begun = true;
         Ok(())
     }
+
+    fn change_line_program(
+        &mut self,
+        alloc: Global,
+        unit: u64,
+        change: LineChange<'_>,
+    ) -> Result<(), CommandError>
+        requires { AreOpen self.old.dwarf.units }
+        ensures ok { OnOk result
+            (after_command (script_in self.old) (Command.Line unit change.entry)
+            ≡ Ok (script_in self.new)) }
+        ensures err { IfErr result
+            (RefusedFor (after_command (script_in self.old) (Command.Line unit change.entry))) }
+    {
+        let index = index_below(unit, self.dwarf.units.count(), Reason::NoSuchUnit)?;
+        let unit = self.dwarf.units.get_mut(UnitId::new(index));
+        apply_line_change(alloc, unit, change)?;
+        self.has_begun = true;
+        Ok(())
+    }
 }
 
 // The bytes of a string, which has no zero byte.
-fn text_of(alloc: Global, bytes: &HexBytes<'_>) -> Result<Vec<u8>, CommandError>
+pub(crate) fn text_of(alloc: Global, bytes: &HexBytes<'_>) -> Result<Vec<u8>, CommandError>
     ensures ok { IfOk result (λ text. Ok text.items ≡ text_in bytes.now) }
     ensures text { IfOk result (λ text. IsText text.items) }
     ensures err { IfErr result (RefusedFor (text_in bytes.now)) }
@@ -192,7 +227,7 @@ ghost use Rattle.dwarf_build.specs.Script.{script, ScriptRefused};
 /// Builds what the lines of a script say, one after another, up to the first that is refused.
 pub fn read_script(alloc: Global, bytes: &[u8]) -> Result<Script, ScriptError>
     requires { length bytes.now ≤ SCRIPT_LIMIT }
-    ensures ok { IfOk result (λ s. script bytes.now ≡ Ok s) }
+    ensures ok { IfOk result (λ s. script bytes.now ≡ Ok (script_in s)) }
     ensures err { IfErr result (ScriptRefused bytes.now) }
 {
     let mut script = Script::new(alloc);

@@ -328,7 +328,7 @@ fn refuses_lines(rt: HostRuntime) -> Result<(), Fail> {
         (b"add 0 0", "line 1: wrong fields\n"),
         (b"add 0 0 DW_TAG_frob", "line 1: unknown word\n"),
         (b"set 0 0 3 string 6", "line 1: bad hex\n"),
-        (b"end", "line 1: not built\n"),
+        (b"loc", "line 1: not built\n"),
         (b"# one\n\n#\xff\nunit\n", "line 4: wrong fields\n"),
         (b"\n\nunit 6 8 32\n\nunit 5 8 16", "line 5: bad number\n"),
         (b"unit 5 8 32\nfrob\nunit\n\x80", "line 2: unknown word\n"),

@@ -3,7 +3,8 @@
 ghost use Rattle.std.specs.Prelude.{◌≡◌, ◌≢◌, true, IfOk, IfErr};
 ghost use Rattle.dw_base.specs.Order.{is_big_of};
 ghost use Rattle.dw_base.specs.declared.error.Error.TheVariants.{NoMemory};
-ghost use Rattle.dw_dwarf.specs.Valid.{AreUnwritten, IsValid, settled_dwarf};
+ghost use Rattle.dw_dwarf.specs.DwarfValue.{dwarf_in};
+ghost use Rattle.dw_dwarf.specs.Valid.{AreUnwritten, IsValid};
 ghost use Rattle.dw_dwarf.specs.Written.{HoldsDwarf};
 ghost use Rattle.dwarf_build.specs.Answers.{HasFault};
 
@@ -18,13 +19,15 @@ pub(crate) fn write_new(
     endian: RunTimeEndian,
     dwarf: &mut Dwarf,
 ) -> Result<Sections<EndianVec<RunTimeEndian>>>
-    requires { AreUnwritten dwarf.old }
-    ensures valid { IfOk result (λ _. IsValid true dwarf.old) }
+    requires { AreUnwritten (dwarf_in dwarf.old) }
+    ensures valid { IfOk result (λ _. IsValid true (dwarf_in dwarf.old)) }
     ensures order { IfOk result (λ s.
         (⟦<EndianVec<RunTimeEndian> as Writer>⟧.meaning s.debug_info.0).is_big ≡ is_big_of endian) }
+    ensures lines_order { IfOk result (λ s.
+        (⟦<EndianVec<RunTimeEndian> as Writer>⟧.meaning s.debug_line.0).is_big ≡ is_big_of endian) }
     ensures holds { IfOk result (λ s.
-        HoldsDwarf ⟦<EndianVec<RunTimeEndian> as Writer>⟧.meaning s (settled_dwarf dwarf.old)) }
-    ensures err { IfErr result (λ e. e ≢ NoMemory → HasFault dwarf.old e) }
+        HoldsDwarf ⟦<EndianVec<RunTimeEndian> as Writer>⟧.meaning s (dwarf_in dwarf.old)) }
+    ensures err { IfErr result (λ e. e ≢ NoMemory → HasFault (dwarf_in dwarf.old) e) }
 {
     let mut sections = Sections::new(alloc, EndianVec::new(alloc, endian))?;
     dwarf.write(&mut sections)?;

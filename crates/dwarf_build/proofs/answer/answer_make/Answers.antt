@@ -1,6 +1,7 @@
 use Rattle.std.proofs.Common.{◌∙◌, refl, sym, subst}
 use Rattle.std.specs.Prelude.{true}
 use Rattle.std.proofs.lemmas.Result.{err_from_is_err_and}
+use Rattle.dw_dwarf.specs.DwarfValue.{dwarf_in}
 use Rattle.dw_dwarf.specs.Valid.{IsValid}
 use Rattle.dwarf_build.proofs.Faulty.{only_memory}
 use Rattle.dwarf_build.proofs.Made.{generated_unwritten, made_told}
@@ -8,12 +9,12 @@ use Rattle.dwarf_build.proofs.MadeValid.{generated_valid}
 use Rattle.dwarf_build.proofs.answer.answer_make.Goals as goal
 
 pub write_new-requires : goal.write_new-requires
-write_new-requires c = generated_unwritten c.args.count c.in_ok-dwarf.dwarf c.in_ok-dwarf.ensures.ok
+write_new-requires c = generated_unwritten c.args.count (dwarf_in c.in_ok-dwarf.dwarf) c.in_ok-dwarf.ensures.ok
 
 pub returns-in_err-sections-clause-err : goal.returns-in_err-sections-clause-err
 returns-in_err-sections-clause-err c =
     let p = err_from_is_err_and c.from_residual-in_err-sections.result c.from_residual-in_err-sections.ensures.1 in
-    let d = c.in_ok-dwarf.dwarf in
+    let d = dwarf_in c.in_ok-dwarf.dwarf in
     let valid = subst (IsValid true) (sym c.in_ok-dwarf.ensures.ok) (generated_valid c.args.count c.requires) in
     rw (p.1, p.2) (only_memory d valid c.in_err-sections.field-0.0 c.in_err-sections.ensures.err)
 
@@ -26,7 +27,7 @@ returns-clause-ok c =
     let told_abbrevs = rw c.section-2.ensures at c.slice-abbrev.ensures.bytes in
     let answer = c.in_ok-answer_with in (
       answer.ensures.0,
-      made_told _ c.args.count c.in_ok-dwarf.dwarf c.in_ok-sections.sections answer.field-0.text.items info abbrevs c.in_ok-dwarf.ensures.ok c.in_ok-sections.ensures.holds c.in_ok-sections.ensures.order
+      made_told _ c.args.count (dwarf_in c.in_ok-dwarf.dwarf) c.in_ok-sections.sections answer.field-0.text.items info abbrevs c.in_ok-dwarf.ensures.ok c.in_ok-sections.ensures.holds c.in_ok-sections.ensures.order c.in_ok-sections.ensures.lines_order
           (sym told_info) (sym told_abbrevs)
           (answer.ensures.1 ∙ c.as_bytes.ensures.value ∙ says),
     )

@@ -2,15 +2,17 @@ use Rattle.std.proofs.Common.{◌∙◌, sym, ap, subst, arith, suc, ◌+◌}
 use Rattle.dw_base.specs.declared.constants.TheConstants.{DW_TAG_base_type, DW_AT_byte_size}
 use Rattle.dw_entries.specs.declared.value.AttributeValue.TheVariants.{Data1}
 use Rattle.dw_entries.specs.Entries.{with_added, with_attribute}
-use Rattle.dw_unit.specs.UnitValue.{UnitValue, with_entry, IsReserved}
+use Rattle.dw_unit.specs.UnitValue.{UnitValue, new_unit, with_entry, IsReserved}
 use Rattle.dwarf_build.specs.Drafted.{with_variable}
-use Rattle.dwarf_build.specs.Generated.{generated_unit}
+use Rattle.dwarf_build.specs.Generated.{generated_encoding, generated_unit}
 use Rattle.dwarf_build.proofs.Drafts.{IsDraft, none_drafted, one_drafted, base_reserved, base_added}
 use Rattle.dwarf_build.proofs.make.generate_unit.Goals as goal
 
 pub loop-index-init : goal.loop-index-init
 loop-index-init c = record {
-  draft = subst (IsDraft c.args.from 0) (sym (c.reserve-base_type.ensures.unit ∙ ap (λ (u : UnitValue). record u { reserved = u.reserved + 1 }) c.in_ok-unit.ensures.ok)) (none_drafted c.args.from);
+  draft =
+      let made = c.in_ok-unit.ensures.ok ∙ ap (new_unit generated_encoding) c.none.ensures in
+      subst (IsDraft c.args.from 0) (sym (c.reserve-base_type.ensures.unit ∙ ap (λ (u : UnitValue). record u { reserved = u.reserved + 1 }) made)) (none_drafted c.args.from);
   base = c.reserve-base_type.ensures.id ∙ ap (λ u. u.reserved) c.in_ok-unit.ensures.ok;
 }
 

@@ -1,6 +1,7 @@
 use Rattle.std.proofs.Common.{◌∙◌, sym, ap, subst, ◌+◌, length, arith}
 use Rattle.dw_script.specs.Pieces.{lines_left}
-use Rattle.dwarf_build.specs.Script.{script, after_lines, empty_script, AreOpen}
+use Rattle.dwarf_build.specs.Script.{script, after_lines, AreOpen}
+use Rattle.dwarf_build.specs.ScriptValue.{empty_script, script_in}
 use Rattle.dwarf_build.proofs.Lines.{after_lines-ok}
 use Rattle.dwarf_build.proofs.ScriptUnits.{none_open, line_open}
 use Rattle.dwarf_build.proofs.script.read_script.Goals as goal
@@ -24,9 +25,9 @@ loop-line-preserved c =
     record {
       can_next = tt;
       finite = tt;
-      open_units = line_open c.loop-line.script c.read_line.new.self c.in-Some.line.now c.in_ok-read_line.ensures.ok c.loop-line.invariant.open_units;
-      left = sym (after_lines-ok (c.loop-line.number + 1) c.loop-line.script c.read_line.new.self c.in-Some.line.now (lines_left c.next.new.self) c.in_ok-read_line.ensures.ok)
-          ∙ sym (ap (after_lines (c.loop-line.number + 1) c.loop-line.script) step) ∙ c.loop-line.invariant.left;
+      open_units = line_open (script_in c.loop-line.script) (script_in c.read_line.new.self) c.in-Some.line.now c.in_ok-read_line.ensures.ok c.loop-line.invariant.open_units;
+      left = sym (after_lines-ok (c.loop-line.number + 1) (script_in c.loop-line.script) (script_in c.read_line.new.self) c.in-Some.line.now (lines_left c.next.new.self) c.in_ok-read_line.ensures.ok)
+          ∙ sym (ap (after_lines (c.loop-line.number + 1) (script_in c.loop-line.script)) step) ∙ c.loop-line.invariant.left;
       room = omega (arith, c.loop-line.invariant.room, ap length step);
     }
 
@@ -35,7 +36,7 @@ overflow_add-number c = omega (arith, c.loop-line.invariant.room, ap length c.in
 
 pub returns-clause-ok : goal.returns-clause-ok
 returns-clause-ok c =
-    sym c.loop-line.invariant.left ∙ ap (after_lines (c.loop-line.number + 1) c.loop-line.script) c.in-None.ensures.steps.0
+    sym c.loop-line.invariant.left ∙ ap (after_lines (c.loop-line.number + 1) (script_in c.loop-line.script)) c.in-None.ensures.steps.0
 
 pub read_line-requires : goal.read_line-requires
 read_line-requires c = c.loop-line.invariant.open_units
