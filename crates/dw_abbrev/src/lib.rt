@@ -5,8 +5,6 @@
 mod abbreviation;
 mod specification;
 mod table;
-#[cfg(test)]
-mod tests;
 
 pub use abbreviation::Abbreviation;
 pub use specification::AttributeSpecification;

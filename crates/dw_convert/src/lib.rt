@@ -9,8 +9,6 @@ mod locations;
 mod range;
 mod ranges;
 mod references;
-#[cfg(test)]
-mod tests;
 
 pub use expressions::expression;
 pub use locations::location_list;

@@ -2,24 +2,10 @@
 //! are all offered here, so that it names this crate alone.
 #![tactic(auto)]
 
-#[cfg(test)]
-mod building;
 mod dwarf;
 mod dwarf_unit;
-#[cfg(test)]
-mod dwarf_unit_tests;
-#[cfg(test)]
-mod expression_tests;
 mod line_string;
-#[cfg(test)]
-mod line_tests;
-#[cfg(test)]
-mod relocation_tests;
 mod rest;
-#[cfg(test)]
-mod tests;
-#[cfg(test)]
-mod unit_table_tests;
 
 pub use dw_base::{
     Address, BigEndian, DebugInfoRef, DirectoryId, DwAt, DwAte, DwForm, DwLang, DwTag, Encoding,

@@ -5,8 +5,6 @@
 mod listing;
 mod sink;
 mod source;
-#[cfg(test)]
-mod tests;
 mod transfer;
 
 pub use listing::{push_order, push_section};

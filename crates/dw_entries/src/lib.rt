@@ -11,8 +11,6 @@ mod entry;
 mod key;
 mod settle;
 mod size;
-#[cfg(test)]
-mod tests;
 mod tree;
 mod value;
 

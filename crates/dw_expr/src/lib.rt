@@ -4,8 +4,6 @@
 
 mod op;
 mod places;
-#[cfg(test)]
-mod tests;
 
 pub use op::{Expression, Operation};
 pub use places::EntryPlaces;

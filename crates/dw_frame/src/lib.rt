@@ -14,8 +14,6 @@ mod places;
 mod program;
 mod spelling;
 mod table;
-#[cfg(test)]
-mod tests;
 
 pub use cie::CommonInformationEntry;
 pub use fde::FrameDescriptionEntry;

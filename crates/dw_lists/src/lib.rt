@@ -16,8 +16,6 @@ mod part;
 mod places;
 mod range;
 mod table;
-#[cfg(test)]
-mod tests;
 
 pub use location::{Location, LocationList};
 pub use location_table::LocationListTable;

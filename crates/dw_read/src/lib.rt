@@ -20,8 +20,6 @@ mod leb128;
 mod number;
 mod operand;
 mod reader;
-#[cfg(test)]
-mod tests;
 mod text;
 mod unit_header;
 mod value;

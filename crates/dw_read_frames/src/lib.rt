@@ -14,8 +14,6 @@ mod operand;
 mod pointer;
 mod register_rules;
 mod section;
-#[cfg(test)]
-mod tests;
 
 pub use cie::CommonInformationEntry;
 pub use entries::{CfiEntriesIter, CieOrFde, PartialFrameDescriptionEntry};

@@ -14,8 +14,6 @@ mod instructions;
 mod parameters;
 mod program;
 mod reading;
-#[cfg(test)]
-mod tests;
 
 pub use file_entries::FileEntryIter;
 pub use file_entry::FileEntry;

@@ -5,8 +5,6 @@
 mod dwarf;
 mod lookup;
 mod root;
-#[cfg(test)]
-mod tests;
 mod unit_reading;
 mod unit_ref;
 

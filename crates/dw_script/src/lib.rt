@@ -38,10 +38,3 @@ pub use operation::ScriptOperation;
 pub use reason::Reason;
 pub use script::{ScriptLines, lines};
 pub use value::Value;
-
-#[cfg(test)]
-mod expression_tests;
-#[cfg(test)]
-mod line_program_tests;
-#[cfg(test)]
-mod tests;

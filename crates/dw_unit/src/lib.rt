@@ -9,21 +9,13 @@ mod header;
 mod layout;
 mod offsets;
 mod places;
-#[cfg(test)]
-mod reference_tests;
 mod references;
 mod shape;
 mod targets;
-#[cfg(test)]
-mod tests;
 mod unit;
 mod unit_iter;
-#[cfg(test)]
-mod unit_iter_tests;
 mod unit_table;
 mod value;
-#[cfg(test)]
-mod write_tests;
 
 pub use dw_entries::{
     AttrMut, Attribute, AttributeValue, AttributeWalk, AttrsMut, Bytes, DebuggingInformationEntry,
