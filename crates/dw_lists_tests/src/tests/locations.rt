@@ -130,18 +130,35 @@ fn hash_of(list: &LocationList) -> u64 {
     state.finish()
 }
 
+/// A list of one pair.
+fn one_pair(alloc: Global) -> Result<LocationList> {
+    Ok(LocationList(vec![in alloc; pair(1, 2, nop(alloc)?)]?))
+}
+
+#[test]
+fn a_copy_of_a_location_list_equals_it(rt: HostRuntime) -> std::result::Result<(), Fail> {
+    let list = one_pair(rt.alloc())?;
+    let copy = list.try_clone()?;
+    assert!(rt; copy == list && hash_of(&copy) == hash_of(&list));
+    Ok(())
+}
+
+/// Adds a list, one without items, and the first again: their ids.
+fn add_thrice(alloc: Global, table: &mut LocationListTable) -> Result<[usize; 3]> {
+    let list = one_pair(alloc)?;
+    let copy = list.try_clone()?;
+    Ok([
+        table.add(list)?.index(),
+        table.add(LocationList(Vec::new(alloc)))?.index(),
+        table.add(copy)?.index(),
+    ])
+}
+
 #[test]
 fn equal_location_lists_are_kept_once(rt: HostRuntime) -> std::result::Result<(), Fail> {
-    let alloc = rt.alloc();
-    let list = LocationList(vec![in alloc; pair(1, 2, nop(alloc)?)]?);
-    let copy = list.try_clone()?;
-    assert!(rt; copy == list);
-    assert_eq!(rt; hash_of(&copy), hash_of(&list));
-    let mut table = LocationListTable::new(alloc);
-    assert!(rt; table.add(list)? == LocationListId::new(0));
-    assert!(rt; table.add(LocationList(Vec::new(alloc)))? == LocationListId::new(1));
-    assert!(rt; table.add(copy)? == LocationListId::new(0));
-    assert_eq!(rt; table.count(), 2);
+    let mut table = LocationListTable::new(rt.alloc());
+    let ids = add_thrice(rt.alloc(), &mut table)?;
+    assert_eq!(rt; (ids, table.count()), ([0, 1, 0], 2));
     Ok(())
 }
 
@@ -214,15 +231,26 @@ fn refusals(alloc: Global, item: Location) -> Result<(Option<Error>, Option<Erro
 }
 
 #[test]
-fn pairs_alone_want_a_base(rt: HostRuntime) -> std::result::Result<(), Fail> {
-    let alloc = rt.alloc();
+fn a_pair_wants_a_base(rt: HostRuntime) -> std::result::Result<(), Fail> {
+    let item = pair(0x1234, 0x2345, Expression::new(rt.alloc()));
+    let missing = Some(Error::MissingBaseAddress);
+    assert_eq!(rt; refusals(rt.alloc(), item)?, (missing, None));
+    Ok(())
+}
+
+#[test]
+fn two_addresses_want_no_base(rt: HostRuntime) -> std::result::Result<(), Fail> {
+    let item = ends(0x1234, 0x2345, Expression::new(rt.alloc()));
     let unexpected = Some(Error::UnexpectedBaseAddress);
-    let (without, with) = refusals(alloc, pair(0x1234, 0x2345, Expression::new(alloc)))?;
-    assert!(rt; without == Some(Error::MissingBaseAddress) && with.is_none());
-    let (without, with) = refusals(alloc, ends(0x1234, 0x2345, Expression::new(alloc)))?;
-    assert!(rt; without.is_none() && with == unexpected);
-    let (without, with) = refusals(alloc, start(0x1234, 1, Expression::new(alloc)))?;
-    assert!(rt; without.is_none() && with == unexpected);
+    assert_eq!(rt; refusals(rt.alloc(), item)?, (None, unexpected));
+    Ok(())
+}
+
+#[test]
+fn a_start_wants_no_base(rt: HostRuntime) -> std::result::Result<(), Fail> {
+    let item = start(0x1234, 1, Expression::new(rt.alloc()));
+    let unexpected = Some(Error::UnexpectedBaseAddress);
+    assert_eq!(rt; refusals(rt.alloc(), item)?, (None, unexpected));
     Ok(())
 }
 
@@ -315,39 +343,50 @@ fn an_entry_of_the_unit_wants_places(rt: HostRuntime) -> std::result::Result<(),
     Ok(())
 }
 
+/// A list of a call of an entry of another unit, and what it becomes.
+fn written_call(alloc: Global, encoding: Encoding) -> Result<Sections<EndianVec<RunTimeEndian>>> {
+    let call = one(
+        alloc,
+        Operation::CallRef(DebugInfoRef::Entry(UnitId::new(2), UnitEntryId::new(3))),
+    )?;
+    written(alloc, vec_of(alloc, start(1, 2, call))?, LITTLE, encoding)
+}
+
+/// Where the call's operand stands.
+fn fixup_at(offset: usize, size: u8) -> DebugInfoFixup {
+    DebugInfoFixup {
+        offset,
+        size,
+        unit: UnitId::new(2),
+        entry: UnitEntryId::new(3),
+    }
+}
+
 #[test]
 fn references_are_left_open(rt: HostRuntime) -> std::result::Result<(), Fail> {
-    let alloc = rt.alloc();
-    let entry = UnitEntryId::new(3);
-    let unit = UnitId::new(2);
-    let call = one(alloc, Operation::CallRef(DebugInfoRef::Entry(unit, entry)))?;
-    let list = vec![in alloc; start(1, 2, call.try_clone()?)]?;
-    let sections = written(alloc, list, LITTLE, encoding(4, Format::Dwarf32, 2))?;
+    let sections = written_call(rt.alloc(), encoding(4, Format::Dwarf32, 2))?;
     let bytes = [1, 0, 3, 0, 5, 0, 0x9a, 0, 0, 0, 0, 0, 0, 0, 0];
     assert!(rt; sections.debug_loc.0.slice() == bytes.as_slice());
-    let size = 4;
-    let offset = 7;
-    let fixup = DebugInfoFixup {
-        offset,
-        size,
-        unit,
-        entry,
-    };
-    assert!(rt; sections.debug_loc_fixups.get(0) == Some(fixup));
-    assert_eq!(rt; sections.debug_loc_fixups.len(), 1);
+    let fixups = &sections.debug_loc_fixups;
+    assert_eq!(rt; (fixups.get(0), fixups.len()), (Some(fixup_at(7, 4)), 1));
+    Ok(())
+}
+
+#[test]
+fn a_reference_of_version_4_is_open_in_its_section(
+    rt: HostRuntime,
+) -> std::result::Result<(), Fail> {
+    let sections = written_call(rt.alloc(), encoding(4, Format::Dwarf32, 2))?;
     assert!(rt; sections.debug_loclists_fixups.is_empty() && sections.debug_info_fixups.is_empty());
-    let list = vec![in alloc; start(1, 2, call)]?;
-    let sections = written(alloc, list, LITTLE, encoding(5, Format::Dwarf64, 2))?;
-    let size = 8;
+    Ok(())
+}
+
+#[test]
+fn references_of_version_5_are_left_open(rt: HostRuntime) -> std::result::Result<(), Fail> {
+    let sections = written_call(rt.alloc(), encoding(5, Format::Dwarf64, 2))?;
     // The header has 20 bytes, the entry 8, and the item 5 before its expression.
-    let offset = 20 + 8 + 5 + 1;
-    let fixup = DebugInfoFixup {
-        offset,
-        size,
-        unit,
-        entry,
-    };
-    assert!(rt; sections.debug_loclists_fixups.get(0) == Some(fixup));
+    let fixup = fixup_at(20 + 8 + 5 + 1, 8);
+    assert_eq!(rt; sections.debug_loclists_fixups.get(0), Some(fixup));
     assert!(rt; sections.debug_loc_fixups.is_empty());
     Ok(())
 }
@@ -363,14 +402,25 @@ fn second(alloc: Global, encoding: Encoding) -> Result<LocationListOffsets> {
     table.write(&mut sections, encoding, false, Some(&places))
 }
 
+/// The places of the first three ids.
+fn first_places(offsets: &LocationListOffsets) -> [Option<LocationListsOffset>; 3] {
+    [
+        offsets.get(LocationListId::new(0)),
+        offsets.get(LocationListId::new(1)),
+        offsets.get(LocationListId::new(2)),
+    ]
+}
+
 #[test]
 fn places_of_a_second_table_of_locations(rt: HostRuntime) -> std::result::Result<(), Fail> {
     // The first list has 7 bytes of addresses and expression and a close of 4, the second a close.
     let offsets = second(rt.alloc(), encoding(4, Format::Dwarf32, 2))?;
-    assert!(rt; offsets.base().is_none());
-    assert!(rt; offsets.get(LocationListId::new(0)) == Some(LocationListsOffset(15)));
-    assert!(rt; offsets.get(LocationListId::new(1)) == Some(LocationListsOffset(15 + 11)));
-    assert!(rt; offsets.get(LocationListId::new(2)).is_none());
+    let places = [
+        Some(LocationListsOffset(15)),
+        Some(LocationListsOffset(15 + 11)),
+        None,
+    ];
+    assert_eq!(rt; (offsets.base(), first_places(&offsets)), (None, places));
     Ok(())
 }
 
@@ -378,8 +428,14 @@ fn places_of_a_second_table_of_locations(rt: HostRuntime) -> std::result::Result
 fn entries_of_a_second_table_of_locations(rt: HostRuntime) -> std::result::Result<(), Fail> {
     // A table has 12 bytes, two words and lists of 8 bytes and 1.
     let offsets = second(rt.alloc(), encoding(5, Format::Dwarf32, 2))?;
-    assert!(rt; offsets.base() == Some(29 + 12));
-    assert!(rt; offsets.get(LocationListId::new(0)) == Some(LocationListsOffset(29 + 20)));
-    assert!(rt; offsets.get(LocationListId::new(1)) == Some(LocationListsOffset(29 + 28)));
+    let places = [
+        Some(LocationListsOffset(29 + 20)),
+        Some(LocationListsOffset(29 + 28)),
+        None,
+    ];
+    assert_eq!(rt;
+        (offsets.base(), first_places(&offsets)),
+        (Some(29 + 12), places)
+    );
     Ok(())
 }
