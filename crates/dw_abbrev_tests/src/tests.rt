@@ -29,54 +29,80 @@ fn variable(alloc: Global, size: i64) -> Result<Abbreviation> {
     Ok(Abbreviation::new(DW_TAG_variable, false, attributes))
 }
 
+/// The codes of a subprogram and of a copy of a compile unit.
+fn add_both(alloc: Global, table: &mut AbbreviationTable) -> Result<[u64; 2]> {
+    let unit = compile_unit(alloc)?.try_clone()?;
+    Ok([table.add(subprogram(alloc)?)?, table.add(unit)?])
+}
+
 #[test]
 fn shares_codes(rt: HostRuntime) -> std::result::Result<(), Fail> {
     let mut table = AbbreviationTable::new(rt.alloc());
-    assert_eq!(rt; table.add(subprogram(rt.alloc())?)?, 1);
-    assert_eq!(rt; table.add(compile_unit(rt.alloc())?)?, 2);
-    assert_eq!(rt; table.add(subprogram(rt.alloc())?)?, 1);
-    assert_eq!(rt; table.add(compile_unit(rt.alloc())?.try_clone()?)?, 2);
-    assert_eq!(rt; table.count(), 2);
+    let first = add_both(rt.alloc(), &mut table)?;
+    let again = add_both(rt.alloc(), &mut table)?;
+    assert_eq!(rt; (first, again, table.count()), ([1, 2], [1, 2], 2));
+    Ok(())
+}
+
+#[test]
+fn writes_each_code_once(rt: HostRuntime) -> std::result::Result<(), Fail> {
+    let mut table = AbbreviationTable::new(rt.alloc());
+    add_both(rt.alloc(), &mut table)?;
+    add_both(rt.alloc(), &mut table)?;
     let mut section = DebugAbbrev::from(EndianVec::new(rt.alloc(), LittleEndian));
     table.write(&mut section)?;
-    assert_eq!(rt;
-        section.0.slice(),
-        [
-            0x01, 0x2e, 0x00, 0x03, 0x08, 0x00, 0x00, 0x02, 0x11, 0x01, 0x25, 0x0e, 0x13, 0x05,
-            0x00, 0x00, 0x00,
-        ]
-        .as_slice()
-    );
+    let bytes = [
+        0x01, 0x2e, 0x00, 0x03, 0x08, 0x00, 0x00, 0x02, 0x11, 0x01, 0x25, 0x0e, 0x13, 0x05, 0x00,
+        0x00, 0x00,
+    ];
+    assert_eq!(rt; section.0.slice(), bytes.as_slice());
     Ok(())
+}
+
+/// The codes of variables of two sizes.
+fn add_variables(alloc: Global, table: &mut AbbreviationTable) -> Result<[u64; 2]> {
+    Ok([
+        table.add(variable(alloc, -1)?)?,
+        table.add(variable(alloc, 1)?)?,
+    ])
 }
 
 #[test]
 fn tells_constants_apart(rt: HostRuntime) -> std::result::Result<(), Fail> {
     let mut table = AbbreviationTable::new(rt.alloc());
-    assert_eq!(rt; table.add(variable(rt.alloc(), -1)?)?, 1);
-    assert_eq!(rt; table.add(variable(rt.alloc(), 1)?)?, 2);
+    assert_eq!(rt; add_variables(rt.alloc(), &mut table)?, [1, 2]);
+    Ok(())
+}
+
+#[test]
+fn writes_constants(rt: HostRuntime) -> std::result::Result<(), Fail> {
+    let mut table = AbbreviationTable::new(rt.alloc());
+    add_variables(rt.alloc(), &mut table)?;
     let mut section = DebugAbbrev::from(EndianVec::new(rt.alloc(), LittleEndian));
     table.write(&mut section)?;
-    assert_eq!(rt;
-        section.0.slice(),
-        [
-            0x01, 0x34, 0x00, 0x0b, 0x21, 0x7f, 0x00, 0x00, 0x02, 0x34, 0x00, 0x0b, 0x21, 0x01,
-            0x00, 0x00, 0x00,
-        ]
-        .as_slice()
-    );
+    let bytes = [
+        0x01, 0x34, 0x00, 0x0b, 0x21, 0x7f, 0x00, 0x00, 0x02, 0x34, 0x00, 0x0b, 0x21, 0x01, 0x00,
+        0x00, 0x00,
+    ];
+    assert_eq!(rt; section.0.slice(), bytes.as_slice());
     Ok(())
 }
 
 #[test]
 fn answers_what_it_was_made_of(rt: HostRuntime) -> std::result::Result<(), Fail> {
     let unit = compile_unit(rt.alloc())?;
-    assert_eq!(rt; unit.tag(), DW_TAG_compile_unit);
-    assert!(rt; unit.has_children());
-    assert_eq!(rt; unit.attributes().len(), 2);
-    let size = AttributeSpecification::new(DW_AT_byte_size, DW_FORM_implicit_const, Some(-1));
-    assert_eq!(rt; size.name(), DW_AT_byte_size);
-    assert_eq!(rt; size.form(), DW_FORM_implicit_const);
-    assert_eq!(rt; size.implicit_const_value(), Some(-1));
+    assert_eq!(rt;
+        (unit.tag(), unit.has_children(), unit.attributes().len()),
+        (DW_TAG_compile_unit, true, 2)
+    );
     Ok(())
+}
+
+#[test]
+fn answers_what_an_attribute_was_made_of(rt: HostRuntime) {
+    let size = AttributeSpecification::new(DW_AT_byte_size, DW_FORM_implicit_const, Some(-1));
+    assert_eq!(rt;
+        (size.name(), size.form(), size.implicit_const_value()),
+        (DW_AT_byte_size, DW_FORM_implicit_const, Some(-1))
+    );
 }
