@@ -2,8 +2,8 @@
 
 use crate::tests::{FIVE, Little, TWO, program};
 use dw_base::{DebugLineStrOffset, DwForm};
-use dw_read::{AttributeValue, ReadError, Reader};
-use dw_read_lines::FileEntry;
+use dw_read::{AttributeValue, ReadError, ReadResult, Reader};
+use dw_read_lines::{FileEntry, FileEntryIter};
 use std::test::Fail;
 
 /// Whether an entry's name is a text that stands in the entry.
@@ -14,61 +14,89 @@ fn is_named(entry: &FileEntry<Little<'_>>, name: &[u8]) -> bool {
     }
 }
 
+/// The directories of a program.
+fn directories(bytes: &[u8]) -> ReadResult<FileEntryIter<Little<'_>>> {
+    program(bytes, 0)?.header().include_directories()
+}
+
+/// The files of a program, behind its one directory.
+fn files(bytes: &[u8]) -> ReadResult<FileEntryIter<Little<'_>>> {
+    let mut directories = directories(bytes)?;
+    directories.next()?;
+    directories.next()?;
+    directories.file_names()
+}
+
 #[test]
-fn reads_the_tables_of_version_2(rt: HostRuntime) -> Result<(), Fail> {
-    let program = program(TWO, 0)?;
-    let mut directories = program.header().include_directories()?;
+fn reads_the_directories_of_version_2(rt: HostRuntime) -> Result<(), Fail> {
+    let mut directories = directories(TWO)?;
     let directory = directories.next()?.ok_or("a directory")?;
-    assert_eq!(rt; is_named(&directory, b"inc".as_slice()), true);
-    assert_eq!(rt; directory.directory_index.is_none(), true);
-    assert_eq!(rt; directories.next()?.is_none(), true);
-    let mut files = directories.file_names()?;
-    let file = files.next()?.ok_or("a file")?;
-    assert_eq!(rt; is_named(&file, b"a.c".as_slice()), true);
-    assert_eq!(rt;
-        matches!(file.directory_index, Some(AttributeValue::Udata(1))),
-        true
-    );
-    assert_eq!(rt;
-        matches!(file.timestamp, Some(AttributeValue::Udata(2))),
-        true
-    );
-    assert_eq!(rt; matches!(file.size, Some(AttributeValue::Udata(3))), true);
-    assert_eq!(rt; files.next()?.is_none(), true);
-    assert_eq!(rt; files.next()?.is_none(), true);
+    assert!(rt; is_named(&directory, b"inc") && directory.directory_index.is_none());
+    assert!(rt; directories.next()?.is_none());
     Ok(())
 }
 
 #[test]
-fn reads_the_tables_of_version_5(rt: HostRuntime) -> Result<(), Fail> {
-    let program = program(FIVE, 0)?;
-    let mut directories = program.header().include_directories()?;
+fn reads_the_name_of_a_file_of_version_2(rt: HostRuntime) -> Result<(), Fail> {
+    let file = files(TWO)?.next()?.ok_or("a file")?;
+    assert!(rt; is_named(&file, b"a.c"));
+    Ok(())
+}
+
+#[test]
+fn reads_the_numbers_of_a_file_of_version_2(rt: HostRuntime) -> Result<(), Fail> {
+    let file = files(TWO)?.next()?.ok_or("a file")?;
+    assert!(rt; matches!(file.directory_index, Some(AttributeValue::Udata(1))));
+    assert!(rt; matches!(file.timestamp, Some(AttributeValue::Udata(2))));
+    assert!(rt; matches!(file.size, Some(AttributeValue::Udata(3))));
+    Ok(())
+}
+
+#[test]
+fn ends_behind_the_files_of_version_2(rt: HostRuntime) -> Result<(), Fail> {
+    let mut files = files(TWO)?;
+    files.next()?;
+    assert!(rt; files.next()?.is_none());
+    assert!(rt; files.next()?.is_none());
+    Ok(())
+}
+
+#[test]
+fn reads_the_directories_of_version_5(rt: HostRuntime) -> Result<(), Fail> {
+    let mut directories = directories(FIVE)?;
     let directory = directories.next()?.ok_or("a directory")?;
-    assert_eq!(rt;
+    assert!(rt;
         matches!(
             directory.path_name,
             Some(AttributeValue::DebugLineStrRef(DebugLineStrOffset(0)))
-        ),
-        true
+        )
     );
-    assert_eq!(rt; directories.next()?.is_none(), true);
-    let mut files = directories.file_names()?;
-    let file = files.next()?.ok_or("a file")?;
-    assert_eq!(rt; is_named(&file, b"a.c".as_slice()), true);
-    assert_eq!(rt;
-        matches!(file.directory_index, Some(AttributeValue::Data1(0))),
-        true
-    );
-    assert_eq!(rt; file.timestamp.is_none(), true);
-    let checksum = 0x100f_0e0d_0c0b_0a09_0807_0605_0403_0201;
-    assert_eq!(rt;
-        match file.md5 {
-            Some(AttributeValue::Data16(number)) => number == checksum,
-            _ => false,
-        },
-        true
-    );
-    assert_eq!(rt; files.next()?.is_none(), true);
+    assert!(rt; directories.next()?.is_none());
+    Ok(())
+}
+
+/// Whether an entry has this checksum.
+fn has_checksum(entry: &FileEntry<Little<'_>>, checksum: u128) -> bool {
+    match entry.md5 {
+        Some(AttributeValue::Data16(number)) => number == checksum,
+        _ => false,
+    }
+}
+
+#[test]
+fn reads_a_file_of_version_5(rt: HostRuntime) -> Result<(), Fail> {
+    let file = files(FIVE)?.next()?.ok_or("a file")?;
+    assert!(rt; is_named(&file, b"a.c") && file.timestamp.is_none());
+    assert!(rt; matches!(file.directory_index, Some(AttributeValue::Data1(0))));
+    assert!(rt; has_checksum(&file, 0x100f_0e0d_0c0b_0a09_0807_0605_0403_0201));
+    Ok(())
+}
+
+#[test]
+fn ends_behind_the_files_of_version_5(rt: HostRuntime) -> Result<(), Fail> {
+    let mut files = files(FIVE)?;
+    files.next()?;
+    assert!(rt; files.next()?.is_none());
     Ok(())
 }
 

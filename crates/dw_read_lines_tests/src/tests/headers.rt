@@ -9,26 +9,30 @@ use std::test::Fail;
 fn reads_what_a_header_of_version_2_tells(rt: HostRuntime) -> Result<(), Fail> {
     let program = program(TWO, 0)?;
     let header = program.header();
+    let encoding = Encoding {
+        address_size: 4,
+        format: Format::Dwarf32,
+        version: 2,
+    };
+    let offset = DebugLineOffset(0);
     assert_eq!(rt;
-        header.encoding(),
-        Encoding {
-            address_size: 4,
-            format: Format::Dwarf32,
-            version: 2
-        }
+        (header.encoding(), header.offset(), header.opcode_base()),
+        (encoding, offset, 10)
     );
-    assert_eq!(rt;
-        header.line_encoding(),
-        LineEncoding {
-            minimum_instruction_length: 1,
-            maximum_operations_per_instruction: 1,
-            default_is_stmt: true,
-            line_base: -5,
-            line_range: 14,
-        }
-    );
-    assert_eq!(rt; header.opcode_base(), 10);
-    assert_eq!(rt; header.offset(), DebugLineOffset(0));
+    Ok(())
+}
+
+#[test]
+fn reads_how_lines_of_version_2_are_encoded(rt: HostRuntime) -> Result<(), Fail> {
+    let program = program(TWO, 0)?;
+    let line_encoding = LineEncoding {
+        minimum_instruction_length: 1,
+        maximum_operations_per_instruction: 1,
+        default_is_stmt: true,
+        line_base: -5,
+        line_range: 14,
+    };
+    assert_eq!(rt; program.header().line_encoding(), line_encoding);
     Ok(())
 }
 
@@ -46,30 +50,31 @@ fn refuses_each_cut(rt: HostRuntime) -> Result<(), Fail> {
 }
 
 #[test]
-fn refuses_headers_by_their_fields(rt: HostRuntime) -> Result<(), Fail> {
-    let reserved = b"\xf0\xff\xff\xff";
-    assert_eq!(rt;
-        program(reserved, 0).err(),
-        Some(ReadError::UnknownReservedLength)
-    );
-    let version = b"\x02\x00\x00\x00\x06\x00";
-    assert_eq!(rt;
-        program(version, 0).err(),
-        Some(ReadError::UnknownVersion(6))
-    );
-    let address = b"\x04\x00\x00\x00\x05\x00\x03\x00";
-    assert_eq!(rt;
-        program(address, 0).err(),
-        Some(ReadError::UnsupportedAddressSize(3))
-    );
-    let segment = b"\x04\x00\x00\x00\x05\x00\x08\x02";
-    assert_eq!(rt;
-        program(segment, 0).err(),
-        Some(ReadError::UnsupportedSegmentSize(2))
-    );
-    assert_eq!(rt;
-        program(TWO, TWO.len() + 1).err(),
-        Some(ReadError::UnexpectedEof)
-    );
-    Ok(())
+fn refuses_headers_by_their_fields(rt: HostRuntime) {
+    for (bytes, reason) in [
+        (
+            b"\xf0\xff\xff\xff".as_slice(),
+            ReadError::UnknownReservedLength,
+        ),
+        (
+            b"\x02\x00\x00\x00\x06\x00".as_slice(),
+            ReadError::UnknownVersion(6),
+        ),
+        (
+            b"\x04\x00\x00\x00\x05\x00\x03\x00".as_slice(),
+            ReadError::UnsupportedAddressSize(3),
+        ),
+        (
+            b"\x04\x00\x00\x00\x05\x00\x08\x02".as_slice(),
+            ReadError::UnsupportedSegmentSize(2),
+        ),
+    ] {
+        assert_eq!(rt; program(bytes, 0).err(), Some(reason), "of {bytes:?}");
+    }
+}
+
+#[test]
+fn refuses_a_header_behind_the_section(rt: HostRuntime) {
+    let refused = program(TWO, TWO.len() + 1).err();
+    assert_eq!(rt; refused, Some(ReadError::UnexpectedEof));
 }
