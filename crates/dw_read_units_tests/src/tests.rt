@@ -3,7 +3,7 @@ mod lookups;
 mod strings;
 
 use dw_base::constants::*;
-use dw_base::{DebugStrOffset, LittleEndian, UnitOffset};
+use dw_base::{DebugStrOffset, DwTag, LittleEndian};
 use dw_read::{
     AttributeValue, DebuggingInformationEntry, EndianSlice, EntriesRaw, ReadError, ReadResult,
     Reader,
@@ -48,11 +48,13 @@ pub(crate) fn first<'a>(alloc: Global, dwarf: &Dwarf<Little<'a>>) -> ReadResult<
     dwarf.unit(alloc, header)
 }
 
-fn first_value<'a>(
-    entry: &DebuggingInformationEntry<Little<'a>>,
-) -> Result<AttributeValue<Little<'a>>, Fail> {
-    let attribute = entry.attrs.first().ok_or("an attribute")?;
-    Ok(attribute.value())
+/// What the first attribute of an entry tells.
+fn first_value(entry: &DebuggingInformationEntry<Little<'_>>) -> Option<(&'static str, usize)> {
+    match entry.attrs.first()?.value() {
+        AttributeValue::Data1(number) => Some(("data1", usize::from(number))),
+        AttributeValue::UnitRef(offset) => Some(("unit reference", offset.0)),
+        _ => Some(("other", 0)),
+    }
 }
 
 // Version 4: a root with children, a base type of 4 bytes, a subprogram of that type, a zero.
@@ -62,52 +64,59 @@ const INFO: &[u8] = b"\x10\x00\x00\x00\x04\x00\x00\x00\x00\x00\x04\
 const ABBREV: &[u8] = b"\x01\x11\x01\x00\x00\x02\x24\x00\x0b\x0b\x00\x00\
     \x03\x2e\x00\x49\x13\x00\x00\x00";
 
+/// The place, the depth and the tag of the next row.
+fn next_row<'a>(
+    rows: &mut EntriesRaw<'_, Little<'a>>,
+    entry: &mut DebuggingInformationEntry<Little<'a>>,
+) -> ReadResult<Option<(usize, isize, DwTag)>> {
+    if rows.read_entry(entry)? {
+        Ok(Some((entry.offset.0, entry.depth, entry.tag)))
+    } else {
+        Ok(None)
+    }
+}
+
 #[test]
 fn reads_rows_in_order(rt: HostRuntime) -> Result<(), Fail> {
-    let alloc = rt.alloc();
     let dwarf = sections(INFO, ABBREV, b"", b"", b"");
-    let unit = first(alloc, &dwarf)?;
+    let unit = first(rt.alloc(), &dwarf)?;
     let mut rows = EntriesRaw::new(&unit.header, &unit.abbreviations);
-    let mut entry = DebuggingInformationEntry::new(alloc);
-    assert_eq!(rt; rows.read_entry(&mut entry)?, true);
-    assert_eq!(rt;
-        (entry.offset.0, entry.depth, entry.tag),
-        (11, 0, DW_TAG_compile_unit)
-    );
-    assert_eq!(rt; rows.read_entry(&mut entry)?, true);
-    assert_eq!(rt;
-        (entry.offset.0, entry.depth, entry.tag),
-        (12, 1, DW_TAG_base_type)
-    );
-    assert_eq!(rt;
-        matches!(first_value(&entry)?, AttributeValue::Data1(4)),
-        true
-    );
-    assert_eq!(rt; rows.read_entry(&mut entry)?, true);
-    assert_eq!(rt;
-        (entry.offset.0, entry.depth, entry.tag),
-        (14, 1, DW_TAG_subprogram)
-    );
-    assert_eq!(rt;
-        matches!(
-            first_value(&entry)?,
-            AttributeValue::UnitRef(UnitOffset(12))
-        ),
-        true
-    );
-    assert_eq!(rt; rows.read_entry(&mut entry)?, false);
-    assert_eq!(rt; rows.is_empty(), true);
+    let mut entry = DebuggingInformationEntry::new(rt.alloc());
+    for row in [
+        Some((11, 0, DW_TAG_compile_unit)),
+        Some((12, 1, DW_TAG_base_type)),
+        Some((14, 1, DW_TAG_subprogram)),
+        None,
+    ] {
+        assert_eq!(rt; next_row(&mut rows, &mut entry)?, row);
+    }
+    assert!(rt; rows.is_empty());
     Ok(())
 }
 
 #[test]
-fn refuses_an_unknown_code(rt: HostRuntime) -> Result<(), Fail> {
+fn reads_values_of_rows(rt: HostRuntime) -> Result<(), Fail> {
+    let dwarf = sections(INFO, ABBREV, b"", b"", b"");
+    let unit = first(rt.alloc(), &dwarf)?;
+    let mut rows = EntriesRaw::new(&unit.header, &unit.abbreviations);
+    let mut entry = DebuggingInformationEntry::new(rt.alloc());
+    for value in [None, Some(("data1", 4)), Some(("unit reference", 12))] {
+        rows.read_entry(&mut entry)?;
+        assert_eq!(rt; first_value(&entry), value);
+    }
+    Ok(())
+}
+
+#[test]
+fn refuses_an_unknown_code(rt: HostRuntime) {
     let info = b"\x09\x00\x00\x00\x05\x00\x01\x08\x00\x00\x00\x00\x07";
     let dwarf = sections(info, b"\x01\x11\x00\x00\x00\x00", b"", b"", b"");
-    assert_eq!(rt; dwarf.units().next()?.is_some(), true);
+    let has_header = matches!(dwarf.units().next(), Ok(Some(_)));
     let refused = first(rt.alloc(), &dwarf).err();
-    assert_eq!(rt; refused, Some(ReadError::UnknownAbbreviation(7)));
-    Ok(())
+    assert_eq!(rt;
+        (has_header, refused),
+        (true, Some(ReadError::UnknownAbbreviation(7)))
+    );
 }
 
 #[test]
@@ -120,24 +129,44 @@ fn refuses_each_cut_of_a_root(rt: HostRuntime) {
 }
 
 // Version 5: a root with its name as strx1, its low_pc as addrx1, and both bases as sec_offset.
-#[test]
-fn finds_strings_and_addresses_through_bases(rt: HostRuntime) -> Result<(), Fail> {
+fn through_bases() -> Dwarf<Little<'static>> {
     let info = b"\x13\x00\x00\x00\x05\x00\x01\x04\x00\x00\x00\x00\
         \x01\x01\x00\x08\x00\x00\x00\x08\x00\x00\x00";
     let abbrev = b"\x01\x11\x00\x03\x25\x11\x29\x72\x17\x73\x17\x00\x00\x00";
     let offsets = b"\x0c\x00\x00\x00\x05\x00\x00\x00\x00\x00\x00\x00\x02\x00\x00\x00";
     let addresses = b"\x08\x00\x00\x00\x05\x00\x04\x00\x78\x56\x34\x12";
-    let dwarf = sections(info, abbrev, b"a\x00bc\x00", offsets, addresses);
-    let unit = first(rt.alloc(), &dwarf)?;
-    assert_eq!(rt; unit.low_pc, 0x1234_5678);
-    assert_eq!(rt; (unit.str_offsets_base, unit.addr_base), (8, 8));
+    sections(info, abbrev, b"a\x00bc\x00", offsets, addresses)
+}
+
+#[test]
+fn finds_a_name_through_a_base(rt: HostRuntime) -> Result<(), Fail> {
+    let unit = first(rt.alloc(), &through_bases())?;
     let name = unit.name.as_ref().ok_or("a name")?;
     assert_eq!(rt; name.to_slice(), b"bc".as_slice());
+    Ok(())
+}
+
+#[test]
+fn finds_an_address_through_a_base(rt: HostRuntime) -> Result<(), Fail> {
+    let unit = first(rt.alloc(), &through_bases())?;
+    assert_eq!(rt;
+        (unit.low_pc, unit.str_offsets_base, unit.addr_base),
+        (0x1234_5678, 8, 8)
+    );
+    Ok(())
+}
+
+#[test]
+fn finds_what_indices_lead_to(rt: HostRuntime) -> Result<(), Fail> {
+    let dwarf = through_bases();
+    let unit = first(rt.alloc(), &dwarf)?;
     let both = UnitRef {
         dwarf: &dwarf,
         unit: &unit,
     };
-    assert_eq!(rt; both.string_offset(0)?, DebugStrOffset(0));
-    assert_eq!(rt; both.address(1).err(), Some(ReadError::UnexpectedEof));
+    assert_eq!(rt;
+        (both.string_offset(0), both.address(1)),
+        (Ok(DebugStrOffset(0)), Err(ReadError::UnexpectedEof))
+    );
     Ok(())
 }

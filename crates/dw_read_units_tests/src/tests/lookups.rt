@@ -55,14 +55,35 @@ fn follows_values_through_bases(rt: HostRuntime) -> Result<(), Fail> {
     };
     let mut rows = both.entries_raw(rt.alloc(), Some(UnitOffset(29)))?;
     let mut child = DebuggingInformationEntry::new(rt.alloc());
-    assert_eq!(rt; rows.read_entry(&mut child)?, true);
-    assert_eq!(rt; child.attrs.len(), 4);
+    let has_row = rows.read_entry(&mut child)?;
+    assert_eq!(rt; (has_row, child.attrs.len()), (true, 4));
     for (attribute, place) in child.attrs.iter().zip([2, 0x20, 22, 22]) {
         assert_eq!(rt; led_to(both, attribute.value())?, Some(place));
     }
+    Ok(())
+}
+
+#[test]
+fn finds_the_string_at_a_place(rt: HostRuntime) -> Result<(), Fail> {
+    let dwarf = dwarf_of(OFFSETS, ADDRESSES, LISTS);
+    let unit = first(rt.alloc(), &dwarf)?;
+    let both = UnitRef {
+        dwarf: &dwarf,
+        unit: &unit,
+    };
     let name = both.string(DebugStrOffset(2))?;
     assert_eq!(rt; name.to_slice(), b"bc".as_slice());
     Ok(())
+}
+
+/// Why a string, an address, a range list and a location list aren't found under an index.
+fn refusals(both: UnitRef<'_, Little<'_>>, index: u64) -> [Option<ReadError>; 4] {
+    [
+        both.string_offset(index).err(),
+        both.address(index).err(),
+        both.ranges_offset(index).err(),
+        both.locations_offset(index).err(),
+    ]
 }
 
 const PAST: Option<ReadError> = Some(ReadError::UnexpectedEof);
@@ -81,26 +102,13 @@ fn refuses_each_cut_of_tables(rt: HostRuntime) -> Result<(), Fail> {
             dwarf: &dwarf,
             unit: &unit,
         };
+        let word = if size >= 12 { None } else { PAST };
+        let others = if size >= 16 { None } else { PAST };
         assert_eq!(rt;
-            both.string_offset(0).is_ok(),
-            size >= 12,
+            (refusals(both, 0), refusals(both, 1)),
+            ([word, others, others, others], [PAST, PAST, PAST, PAST]),
             "of {size} bytes"
         );
-        assert_eq!(rt; both.string_offset(1).err(), PAST, "of {size} bytes");
-        assert_eq!(rt; both.address(0).is_ok(), size >= 16, "of {size} bytes");
-        assert_eq!(rt; both.address(1).err(), PAST, "of {size} bytes");
-        assert_eq!(rt;
-            both.ranges_offset(0).is_ok(),
-            size >= 16,
-            "of {size} bytes"
-        );
-        assert_eq!(rt; both.ranges_offset(1).err(), PAST, "of {size} bytes");
-        assert_eq!(rt;
-            both.locations_offset(0).is_ok(),
-            size >= 16,
-            "of {size} bytes"
-        );
-        assert_eq!(rt; both.locations_offset(1).err(), PAST, "of {size} bytes");
     }
     Ok(())
 }
@@ -115,10 +123,11 @@ fn refuses_huge_indices(rt: HostRuntime) -> Result<(), Fail> {
         unit: &unit,
     };
     for index in [1 << 60, 1 << 61, 1 << 62, 1 << 63, u64::MAX] {
-        assert_eq!(rt; both.string_offset(index).err(), PAST, "of {index}");
-        assert_eq!(rt; both.address(index).err(), PAST, "of {index}");
-        assert_eq!(rt; both.ranges_offset(index).err(), PAST, "of {index}");
-        assert_eq!(rt; both.locations_offset(index).err(), PAST, "of {index}");
+        assert_eq!(rt;
+            refusals(both, index),
+            [PAST, PAST, PAST, PAST],
+            "of {index}"
+        );
     }
     Ok(())
 }
