@@ -41,22 +41,46 @@ fn converted(alloc: Global, entry: usize) -> dw_base::Result<AttributeValue> {
 /// The length, the code, and two bytes of the place (DWARF 5, 2.5.1.6).
 #[test]
 fn an_expression_has_a_size_by_the_places_in_it(rt: HostRuntime) -> Result<(), Fail> {
+    let value = converted(rt.alloc(), 1)?;
+    assert_eq!(rt; value.size(ENCODING, &Places), Ok(4));
+    Ok(())
+}
+
+#[test]
+fn an_expression_has_no_size_without_a_place(rt: HostRuntime) -> Result<(), Fail> {
+    let later = converted(rt.alloc(), 2)?;
+    let refused = Err(Error::UnsupportedExpressionForwardReference);
+    assert_eq!(rt; later.size(ENCODING, &Places), refused);
+    Ok(())
+}
+
+#[test]
+fn an_expression_has_a_form_by_its_version(rt: HostRuntime) -> Result<(), Fail> {
     let old = Encoding {
         version: 3,
         ..ENCODING
     };
     let value = converted(rt.alloc(), 1)?;
-    assert_eq!(rt; value.form(ENCODING)?, (DW_FORM_exprloc, None));
-    assert_eq!(rt; value.form(old)?, (DW_FORM_block, None));
-    assert_eq!(rt; value.size(ENCODING, &Places), Ok(4));
+    assert_eq!(rt;
+        (value.form(ENCODING)?, value.form(old)?),
+        ((DW_FORM_exprloc, None), (DW_FORM_block, None))
+    );
+    Ok(())
+}
+
+#[test]
+fn a_copy_of_an_expression_equals_it(rt: HostRuntime) -> Result<(), Fail> {
+    let value = converted(rt.alloc(), 1)?;
     let copy = value.try_clone()?;
     assert!(rt; copy == value);
+    Ok(())
+}
+
+#[test]
+fn expressions_of_other_entries_differ(rt: HostRuntime) -> Result<(), Fail> {
+    let value = converted(rt.alloc(), 1)?;
     let later = converted(rt.alloc(), 2)?;
     assert!(rt; later != value);
-    assert_eq!(rt;
-        later.size(ENCODING, &Places),
-        Err(Error::UnsupportedExpressionForwardReference)
-    );
     Ok(())
 }
 
@@ -95,96 +119,168 @@ fn an_attribute_is_copied(rt: HostRuntime) -> Result<(), Fail> {
 }
 
 #[test]
-fn a_form_follows_from_the_value(rt: HostRuntime) -> Result<(), Fail> {
+fn a_string_has_the_form_of_strings(rt: HostRuntime) -> Result<(), Fail> {
     let text = AttributeValue::String(Bytes::new(rt.alloc(), b"int")?);
     assert_eq!(rt; text.form(ENCODING)?, (DW_FORM_string, None));
-    assert_eq!(rt;
-        AttributeValue::Data1(4).form(ENCODING)?,
-        (DW_FORM_data1, None)
-    );
-    assert_eq!(rt;
-        AttributeValue::Udata(4).form(ENCODING)?,
-        (DW_FORM_udata, None)
-    );
-    let reference = AttributeValue::UnitRef(UnitEntryId::new(1));
-    assert_eq!(rt; reference.form(ENCODING)?, (DW_FORM_ref4, None));
-    let wide = Encoding {
-        format: Format::Dwarf64,
-        ..ENCODING
-    };
-    assert_eq!(rt; reference.form(wide)?, (DW_FORM_ref8, None));
     Ok(())
 }
 
 #[test]
-fn a_line_program_and_its_files_are_written(rt: HostRuntime) -> Result<(), Fail> {
-    let old = Encoding {
+fn a_number_has_a_form_by_its_width(rt: HostRuntime) -> Result<(), Fail> {
+    let (fixed, any) = (AttributeValue::Data1(4), AttributeValue::Udata(4));
+    assert_eq!(rt;
+        (fixed.form(ENCODING)?, any.form(ENCODING)?),
+        ((DW_FORM_data1, None), (DW_FORM_udata, None))
+    );
+    Ok(())
+}
+
+#[test]
+fn a_reference_has_a_form_by_the_format(rt: HostRuntime) -> Result<(), Fail> {
+    let reference = AttributeValue::UnitRef(UnitEntryId::new(1));
+    let wide = Encoding {
         format: Format::Dwarf64,
-        version: 3,
         ..ENCODING
     };
-    let program = AttributeValue::LineProgramRef;
-    assert_eq!(rt; program.form(ENCODING)?, (DW_FORM_sec_offset, None));
-    assert_eq!(rt; program.form(old)?, (DW_FORM_data8, None));
     assert_eq!(rt;
-        program.content(old),
+        (reference.form(ENCODING)?, reference.form(wide)?),
+        ((DW_FORM_ref4, None), (DW_FORM_ref8, None))
+    );
+    Ok(())
+}
+
+/// Version 3 of the wide format.
+const OLD: Encoding = Encoding {
+    address_size: 8,
+    format: Format::Dwarf64,
+    version: 3,
+};
+
+#[test]
+fn a_line_program_has_a_form_by_its_version(rt: HostRuntime) -> Result<(), Fail> {
+    let program = AttributeValue::LineProgramRef;
+    assert_eq!(rt;
+        (program.form(ENCODING)?, program.form(OLD)?),
+        ((DW_FORM_sec_offset, None), (DW_FORM_data8, None))
+    );
+    Ok(())
+}
+
+#[test]
+fn a_line_program_is_a_part_of_its_section(rt: HostRuntime) {
+    let program = AttributeValue::LineProgramRef;
+    assert_eq!(rt;
+        program.content(OLD),
         Content::OwnPart(SectionId::DebugLine)
     );
+}
+
+#[test]
+fn a_file_is_a_number(rt: HostRuntime) -> Result<(), Fail> {
     let file = AttributeValue::FileIndex(Some(FileId::new(127)));
-    assert_eq!(rt; file.form(old)?, (DW_FORM_udata, None));
+    assert_eq!(rt; file.form(OLD)?, (DW_FORM_udata, None));
+    Ok(())
+}
+
+/// The content of a file's index, and its size.
+fn written_file(file: Option<FileId>, encoding: Encoding) -> dw_base::Result<(Option<u64>, u64)> {
+    let value = AttributeValue::FileIndex(file);
+    let size = value.size(encoding, &Places)?;
+    match value.content(encoding) {
+        Content::File(number) => Ok((number, size)),
+        _ => Err(Error::InvalidAttributeValue),
+    }
+}
+
+#[test]
+fn files_count_from_one_up_to_version_4(rt: HostRuntime) -> Result<(), Fail> {
+    let file = Some(FileId::new(127));
     assert_eq!(rt;
-        (file.content(ENCODING), file.size(ENCODING, &Places)?),
-        (Content::File(Some(127)), 1)
+        (written_file(file, ENCODING)?, written_file(file, OLD)?),
+        ((Some(127), 1), (Some(128), 2))
     );
-    assert_eq!(rt;
-        (file.content(old), file.size(old, &Places)?),
-        (Content::File(Some(128)), 2)
-    );
-    let last = AttributeValue::FileIndex(Some(FileId::new(usize::MAX)));
-    assert_eq!(rt;
-        (last.content(old), last.size(old, &Places)?),
-        (Content::File(None), 10)
-    );
-    assert_eq!(rt;
-        AttributeValue::FileIndex(None).content(old),
-        Content::File(Some(0))
-    );
+    Ok(())
+}
+
+#[test]
+fn a_file_past_the_last_has_no_number(rt: HostRuntime) -> Result<(), Fail> {
+    let last = Some(FileId::new(usize::MAX));
+    assert_eq!(rt; written_file(last, OLD)?, (None, 10));
+    Ok(())
+}
+
+#[test]
+fn no_file_is_the_number_0_up_to_version_4(rt: HostRuntime) {
+    let none = AttributeValue::FileIndex(None);
+    assert_eq!(rt; none.content(OLD), Content::File(Some(0)));
+}
+
+/// A root whose file is none, and that may name one beside a line program.
+fn root_with_a_file(alloc: Global, has_file: bool) -> dw_base::Result<Entries> {
+    let mut entries = Entries::new(alloc)?;
+    entries.set(0, DW_AT_decl_file, AttributeValue::FileIndex(None))?;
+    if has_file {
+        let file = AttributeValue::FileIndex(Some(FileId::new(0)));
+        entries.set(0, DW_AT_stmt_list, AttributeValue::Data4(7))?;
+        entries.set(0, DW_AT_call_file, file)?;
+    }
+    Ok(entries)
+}
+
+/// Whether the second attribute of a root is this value of a line program.
+fn names_program(entries: &Entries, value: &AttributeValue) -> bool {
+    if entries.count() == 0 {
+        return false;
+    }
+    match entries.get(UnitEntryId::new(0)).attributes().get(1) {
+        Some(attribute) => attribute.name() == DW_AT_stmt_list && attribute.get().is_same(value),
+        None => false,
+    }
+}
+
+#[test]
+fn a_root_names_a_file(rt: HostRuntime) -> Result<(), Fail> {
+    assert!(rt; !root_with_a_file(rt.alloc(), false)?.names_file());
+    assert!(rt; root_with_a_file(rt.alloc(), true)?.names_file());
     Ok(())
 }
 
 #[test]
 fn a_root_names_the_line_program_in_use(rt: HostRuntime) -> Result<(), Fail> {
-    let mut entries = Entries::new(rt.alloc())?;
-    let root = UnitEntryId::new(0);
-    entries.set(0, DW_AT_decl_file, AttributeValue::FileIndex(None))?;
-    assert!(rt; !entries.names_file());
-    entries.set(0, DW_AT_stmt_list, AttributeValue::Data4(7))?;
-    entries.set(
-        0,
-        DW_AT_call_file,
-        AttributeValue::FileIndex(Some(FileId::new(0))),
-    )?;
-    assert!(rt; entries.names_file());
+    let mut entries = root_with_a_file(rt.alloc(), true)?;
     entries.settle(true)?;
-    let program = AttributeValue::LineProgramRef;
-    assert!(rt;
-        matches!(
-        entries.get(root).attributes().get(1),
-        Some(attribute) if attribute.name() == DW_AT_stmt_list && attribute.get().is_same(&program)
-    )
-    );
-    entries.settle(false)?;
-    assert!(rt; entries.get(root).get(DW_AT_stmt_list).is_none());
+    assert!(rt; names_program(&entries, &AttributeValue::LineProgramRef));
     Ok(())
 }
 
 #[test]
-fn the_tree_is_flattened_in_preorder(rt: HostRuntime) -> Result<(), Fail> {
-    let mut entries = Entries::new(rt.alloc())?;
+fn a_root_names_no_line_program_out_of_use(rt: HostRuntime) -> Result<(), Fail> {
+    let mut entries = root_with_a_file(rt.alloc(), true)?;
+    entries.settle(true)?;
+    entries.settle(false)?;
+    assert!(rt; entries.count() > 0);
+    assert!(rt;
+        entries
+            .get(UnitEntryId::new(0))
+            .get(DW_AT_stmt_list)
+            .is_none()
+    );
+    Ok(())
+}
+
+/// A root with a variable and behind it a base type, and a base type within the variable.
+fn tree(alloc: Global) -> dw_base::Result<Entries> {
+    let mut entries = Entries::new(alloc)?;
     let root = UnitEntryId::new(0);
     let first = entries.add(root, DW_TAG_variable)?;
     entries.add(root, DW_TAG_base_type)?;
     entries.add(first, DW_TAG_base_type)?;
+    Ok(entries)
+}
+
+#[test]
+fn the_tree_is_flattened_in_preorder(rt: HostRuntime) -> Result<(), Fail> {
+    let entries = tree(rt.alloc())?;
     let items = flatten(rt.alloc(), entries.as_slice())?;
     let in_calls_order = [
         Item::Open(0),
@@ -195,6 +291,12 @@ fn the_tree_is_flattened_in_preorder(rt: HostRuntime) -> Result<(), Fail> {
         Item::Null,
     ];
     assert_eq!(rt; items.as_slice(), in_calls_order.as_slice());
+    Ok(())
+}
+
+#[test]
+fn base_types_come_first_once_settled(rt: HostRuntime) -> Result<(), Fail> {
+    let mut entries = tree(rt.alloc())?;
     entries.settle(false)?;
     let items = flatten(rt.alloc(), entries.as_slice())?;
     let bases_first = [
