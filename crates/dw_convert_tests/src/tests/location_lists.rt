@@ -31,42 +31,83 @@ fn zero(alloc: Global) -> Result<Expression> {
 }
 
 // All kinds, of which the third, with equal ends, and the fifth, of length 0, are left out.
-#[test]
-fn converts_lists_of_version_5(rt: HostRuntime) -> std::result::Result<(), Fail> {
-    let alloc = rt.alloc();
+fn every_kind(alloc: Global) -> ConvertResult<LocationList> {
     let bytes = b"\x01\x01\x02\x00\x01\x01\x30\x02\x00\x00\x01\x30\x03\x00\x10\x01\x30\
         \x03\x01\x00\x01\x30\x04\x01\x02\x01\x30\x05\x01\x30\x06\x00\x10\x00\x00\
         \x07\x00\x10\x00\x00\x00\x20\x00\x00\x01\x30\x08\x00\x10\x00\x00\x10\x01\x30\x00";
-    let list = converted(alloc, FIVE_AT, bytes)?;
-    let (begin, end) = (Address::Constant(0x1000), Address::Constant(0x2000));
-    assert_eq!(rt; list.0.len(), 8);
-    assert_eq!(rt; list.0[0], Location::BaseAddress { address: end });
+    converted(alloc, FIVE_AT, bytes)
+}
+
+const BEGIN: Address = Address::Constant(0x1000);
+
+const END: Address = Address::Constant(0x2000);
+
+/// The two addresses.
+fn ends(alloc: Global) -> Result<Location> {
     let expression = zero(alloc)?;
-    let ends = Location::StartEnd {
-        begin,
-        end,
+    Ok(Location::StartEnd {
+        begin: BEGIN,
+        end: END,
         expression,
-    };
-    assert_eq!(rt; list.0[1], ends);
+    })
+}
+
+/// The first address, and a length of 16.
+fn start(alloc: Global) -> Result<Location> {
     let expression = zero(alloc)?;
-    let start = Location::StartLength {
-        begin,
+    Ok(Location::StartLength {
+        begin: BEGIN,
         length: 16,
         expression,
-    };
-    assert_eq!(rt; list.0[2], start);
-    let expression = zero(alloc)?;
+    })
+}
+
+/// Whether this item stands at two places of a list.
+fn stands_at(list: &LocationList, places: [usize; 2], item: &Location) -> bool {
+    list.0.get(places[0]) == Some(item) && list.0.get(places[1]) == Some(item)
+}
+
+#[test]
+fn converts_bases_of_version_5(rt: HostRuntime) -> std::result::Result<(), Fail> {
+    let list = every_kind(rt.alloc())?;
+    assert_eq!(rt; list.0.len(), 8);
+    assert!(rt; list.0.get(0) == Some(&Location::BaseAddress { address: END }));
+    assert!(rt; list.0.get(5) == Some(&Location::BaseAddress { address: BEGIN }));
+    Ok(())
+}
+
+#[test]
+fn converts_addresses_of_version_5(rt: HostRuntime) -> std::result::Result<(), Fail> {
+    let list = every_kind(rt.alloc())?;
+    assert!(rt; stands_at(&list, [1, 6], &ends(rt.alloc())?));
+    Ok(())
+}
+
+#[test]
+fn converts_starts_of_version_5(rt: HostRuntime) -> std::result::Result<(), Fail> {
+    let list = every_kind(rt.alloc())?;
+    assert!(rt; stands_at(&list, [2, 7], &start(rt.alloc())?));
+    Ok(())
+}
+
+#[test]
+fn converts_a_pair_of_version_5(rt: HostRuntime) -> std::result::Result<(), Fail> {
+    let list = every_kind(rt.alloc())?;
+    let expression = zero(rt.alloc())?;
     let pair = Location::OffsetPair {
         begin: 1,
         end: 2,
         expression,
     };
-    assert_eq!(rt; list.0[3], pair);
-    let expression = zero(alloc)?;
-    assert_eq!(rt; list.0[4], Location::DefaultLocation { expression });
-    assert_eq!(rt; list.0[5], Location::BaseAddress { address: begin });
-    assert_eq!(rt; list.0[6], ends);
-    assert_eq!(rt; list.0[7], start);
+    assert!(rt; list.0.get(3) == Some(&pair));
+    Ok(())
+}
+
+#[test]
+fn converts_a_default_location(rt: HostRuntime) -> std::result::Result<(), Fail> {
+    let list = every_kind(rt.alloc())?;
+    let expression = zero(rt.alloc())?;
+    assert!(rt; list.0.get(4) == Some(&Location::DefaultLocation { expression }));
     Ok(())
 }
 
