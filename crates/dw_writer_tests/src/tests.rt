@@ -139,12 +139,18 @@ fn patch_places<W: Writer>(w: &mut W) -> Result<()> {
     w.write_u8_at(4, 0x03)
 }
 
-#[test]
-fn puts_offsets_and_addresses_as_they_are(rt: HostRuntime) -> std::result::Result<(), Fail> {
-    let mut w = EndianVec::new(rt.alloc(), LittleEndian);
+/// A vector of places that were patched, and a copy that was made before.
+fn patched_and_copy(alloc: Global) -> Result<(EndianVec<LittleEndian>, EndianVec<LittleEndian>)> {
+    let mut w = EndianVec::new(alloc, LittleEndian);
     write_places(&mut w)?;
     let copy = copy_of(&w)?;
     patch_places(&mut w)?;
+    Ok((w, copy))
+}
+
+#[test]
+fn puts_offsets_and_addresses_as_they_are(rt: HostRuntime) -> std::result::Result<(), Fail> {
+    let (w, copy) = patched_and_copy(rt.alloc())?;
     assert!(rt; copy.slice() == b"\x34\x12\0\0\0\0\0\0\x56\0\0\0".as_slice());
     assert!(rt; w.slice() == b"\xbc\x9a\x02\x01\x03\0\0\0\x78\0\0\0".as_slice());
     Ok(())
@@ -269,16 +275,26 @@ fn check_one_byte(rt: &impl Abort, sections: &Sections<EndianVec<LittleEndian>>,
     }
 }
 
+/// Sections of which this one has a byte.
+fn with_one_byte(alloc: Global, id: SectionId) -> Result<Sections<EndianVec<LittleEndian>>> {
+    let mut sections = new_sections(alloc)?;
+    if let Some(section) = sections.get_mut(id) {
+        section.write_u8(7)?;
+    }
+    Ok(sections)
+}
+
 #[test]
 fn lends_each_section_that_is_written(rt: HostRuntime) -> std::result::Result<(), Fail> {
     for id in WRITTEN {
-        let mut sections = new_sections(rt.alloc())?;
-        if let Some(section) = sections.get_mut(id) {
-            section.write_u8(7)?;
-        }
-        check_one_byte(&rt, &sections, id);
+        check_one_byte(&rt, &with_one_byte(rt.alloc(), id)?, id);
     }
     Ok(())
+}
+
+/// Whether a section is lent, to look at or to write.
+fn has_writer(sections: &mut Sections<EndianVec<LittleEndian>>, id: SectionId) -> bool {
+    sections.get(id).is_some() || sections.get_mut(id).is_some()
 }
 
 #[test]
@@ -291,8 +307,7 @@ fn has_no_writer_for_other_sections(rt: HostRuntime) -> std::result::Result<(), 
         SectionId::DebugMacro,
         SectionId::DebugAranges,
     ] {
-        assert!(rt; sections.get(id).is_none(), "at {id:?}");
-        assert!(rt; sections.get_mut(id).is_none(), "at {id:?}");
+        assert!(rt; !has_writer(&mut sections, id), "at {id:?}");
     }
     Ok(())
 }
@@ -377,12 +392,19 @@ fn visit_up_to(
     })
 }
 
-#[test]
-fn visits_sections_in_order(rt: HostRuntime) -> std::result::Result<(), Fail> {
-    let mut sections = filled_sections(rt.alloc())?;
+/// Filled sections of which each was visited.
+fn visited(alloc: Global) -> Result<Sections<EndianVec<LittleEndian>>> {
+    let mut sections = filled_sections(alloc)?;
     visit_up_to(&mut sections, None)?;
-    check_filled(&rt, &sections, &WRITTEN);
-    let mut names = Vec::new(rt.alloc());
+    Ok(sections)
+}
+
+/// The names of visited sections, in the order of a second visit.
+fn names_of(
+    alloc: Global,
+    sections: &Sections<EndianVec<LittleEndian>>,
+) -> Result<Vec<&'static str>> {
+    let mut names = Vec::new(alloc);
     sections.for_each(|id, section| {
         names.push(id.name())?;
         if section.len() == id as usize + 1 {
@@ -391,24 +413,44 @@ fn visits_sections_in_order(rt: HostRuntime) -> std::result::Result<(), Fail> {
             Err(Error::WriteFault)
         }
     })?;
-    assert_eq!(rt; names.as_slice(), NAMES.as_slice());
+    Ok(names)
+}
+
+#[test]
+fn visits_each_section(rt: HostRuntime) -> std::result::Result<(), Fail> {
+    check_filled(&rt, &visited(rt.alloc())?, &WRITTEN);
     Ok(())
 }
 
 #[test]
-fn stops_at_the_first_error(rt: HostRuntime) -> std::result::Result<(), Fail> {
-    let sections = new_sections(rt.alloc())?;
-    let mut ids = Vec::new(rt.alloc());
-    let answer = sections.for_each(|id, _section| {
+fn visits_sections_in_order(rt: HostRuntime) -> std::result::Result<(), Fail> {
+    let sections = visited(rt.alloc())?;
+    let names = names_of(rt.alloc(), &sections)?;
+    assert_eq!(rt; names.as_slice(), NAMES.as_slice());
+    Ok(())
+}
+
+/// Visits sections up to `.debug_line`, and keeps which they are.
+fn visit_up_to_lines(
+    sections: &Sections<EndianVec<LittleEndian>>,
+    ids: &mut Vec<SectionId>,
+) -> Result<()> {
+    sections.for_each(|id, _section| {
         ids.push(id)?;
         if id == SectionId::DebugLine {
             Err(Error::WriteFault)
         } else {
             Ok(())
         }
-    });
-    assert_eq!(rt; answer, Err(Error::WriteFault));
-    assert_eq!(rt; ids.as_slice(), &WRITTEN[..4]);
+    })
+}
+
+#[test]
+fn stops_at_the_first_error(rt: HostRuntime) -> std::result::Result<(), Fail> {
+    let sections = new_sections(rt.alloc())?;
+    let mut ids = Vec::new(rt.alloc());
+    let answer = visit_up_to_lines(&sections, &mut ids);
+    assert!(rt; answer == Err(Error::WriteFault) && ids.as_slice() == &WRITTEN[..4]);
     Ok(())
 }
 
@@ -424,10 +466,9 @@ fn a_visit_that_fails_leaves_the_others(rt: HostRuntime) -> std::result::Result<
     Ok(())
 }
 
-#[test]
-fn tells_each_section_by_its_type(rt: HostRuntime) -> std::result::Result<(), Fail> {
-    let sections = new_sections(rt.alloc())?;
-    let ids = [
+/// What the sections are, by their types.
+fn ids_of(sections: &Sections<EndianVec<LittleEndian>>) -> [SectionId; 11] {
+    [
         sections.debug_abbrev.id(),
         sections.debug_str.id(),
         sections.debug_line_str.id(),
@@ -439,8 +480,13 @@ fn tells_each_section_by_its_type(rt: HostRuntime) -> std::result::Result<(), Fa
         sections.debug_info.id(),
         sections.debug_frame.id(),
         sections.eh_frame.id(),
-    ];
-    assert_eq!(rt; ids, WRITTEN);
+    ]
+}
+
+#[test]
+fn tells_each_section_by_its_type(rt: HostRuntime) -> std::result::Result<(), Fail> {
+    let sections = new_sections(rt.alloc())?;
+    assert_eq!(rt; ids_of(&sections), WRITTEN);
     Ok(())
 }
 
@@ -451,14 +497,25 @@ fn tells_a_section_by_its_type(rt: HostRuntime) -> std::result::Result<(), Fail>
     Ok(())
 }
 
+/// A section of these bytes.
+fn info_of(alloc: Global, bytes: &[u8]) -> Result<DebugInfo<EndianVec<LittleEndian>>> {
+    let mut info = DebugInfo::from(EndianVec::new(alloc, LittleEndian));
+    info.section_mut().write(bytes)?;
+    Ok(info)
+}
+
 #[test]
 fn tells_where_a_section_ends(rt: HostRuntime) -> std::result::Result<(), Fail> {
-    let mut info = DebugInfo::from(EndianVec::new(rt.alloc(), LittleEndian));
-    assert!(rt; info.offset() == DebugInfoOffset(0));
-    info.section_mut().write(b"abc")?;
+    let info = info_of(rt.alloc(), b"abc")?;
     assert!(rt; info.offset() == DebugInfoOffset(3));
     assert!(rt; info.section().slice() == b"abc".as_slice());
     Ok(())
+}
+
+#[test]
+fn an_empty_section_ends_at_its_begin(rt: HostRuntime) {
+    let info = DebugInfo::from(EndianVec::new(rt.alloc(), LittleEndian));
+    assert!(rt; info.offset() == DebugInfoOffset(0));
 }
 
 /// Two fixups of an entry, at 11 and 15.
