@@ -51,16 +51,26 @@ fn backward(alloc: Global, count: usize) -> Result<Expression> {
 }
 
 #[test]
-fn goes_as_far_as_two_bytes(rt: HostRuntime) -> std::result::Result<(), Fail> {
-    let alloc = rt.alloc();
-    let (w, _fixups) = spelled(alloc, &forward(alloc, 32767)?, encoding(5))?;
+fn goes_forward_as_far_as_two_bytes(rt: HostRuntime) -> std::result::Result<(), Fail> {
+    let (w, _fixups) = spelled(rt.alloc(), &forward(rt.alloc(), 32767)?, encoding(5))?;
     assert_eq!(rt; w.slice().get(..3), Some([0x2f, 0xff, 0x7f].as_slice()));
-    let (w, _fixups) = spelled(alloc, &backward(alloc, 32765)?, encoding(5))?;
+    Ok(())
+}
+
+#[test]
+fn goes_backward_as_far_as_two_bytes(rt: HostRuntime) -> std::result::Result<(), Fail> {
+    let (w, _fixups) = spelled(rt.alloc(), &backward(rt.alloc(), 32765)?, encoding(5))?;
     assert_eq!(rt; w.slice().get(32765..), Some([0x28, 0, 0x80].as_slice()));
-    let answer = spelled(alloc, &forward(alloc, 32768)?, encoding(5)).map(|_| ());
-    assert_eq!(rt; answer, Err(Error::ValueTooLarge));
-    let answer = spelled(alloc, &backward(alloc, 32766)?, encoding(5)).map(|_| ());
-    assert_eq!(rt; answer, Err(Error::ValueTooLarge));
+    Ok(())
+}
+
+#[test]
+fn goes_no_farther_than_two_bytes(rt: HostRuntime) -> std::result::Result<(), Fail> {
+    let (ahead, back) = (forward(rt.alloc(), 32768)?, backward(rt.alloc(), 32766)?);
+    for expression in [&ahead, &back] {
+        let refused = spelled(rt.alloc(), expression, encoding(5)).err();
+        assert_eq!(rt; refused, Some(Error::ValueTooLarge));
+    }
     Ok(())
 }
 
