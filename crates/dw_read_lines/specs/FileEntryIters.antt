@@ -78,6 +78,7 @@ module _ {R E : Type 0} (reading : R → Reading) (old new : FileEntryIter R E) 
   -- there are no more at the place, or there were no more before
   pub record ClosesEntries : Type 0 where
     pub ended : new.has_ended ≡ true
+    pub layout : new.layout ≡ old.layout
     pub again : old.has_ended ≡ true → new ≡ old
     pub is : old.has_ended ≡ false → TakesEntry reading (reading old.input) (reading new.input) old.layout old.remaining None
 

@@ -1,6 +1,6 @@
 //! The tables of directories and files in a line program's header (DWARF 5, 6.2.4).
 
-ghost use Rattle.std.specs.Prelude.{◌≤◌, nat_le, IfOk, IfErr, true};
+ghost use Rattle.std.specs.Prelude.{◌≡◌, ◌≤◌, nat_le, IfOk, IfErr, true};
 ghost use Rattle.dw_read.specs.Reading.{left};
 ghost use Rattle.dw_read.specs.Took.{option_of};
 ghost use Rattle.dw_read_lines.specs.LineEntryViews.{entry_of};
@@ -25,6 +25,8 @@ impl<R: Reader> LineProgramHeader<R> {
             (nat_le 5 self.now.encoding.encoding.version) Directories
             (R.reading self.now.tables).is_big self.now.encoding.encoding
             (left (R.reading self.now.tables))) }
+        ensures order { IfOk result (λ i.
+            (R.reading i.input).is_big ≡ (R.reading self.now.tables).is_big) }
         ensures err { IfErr result (MissesEntries
             (nat_le 5 self.now.encoding.encoding.version)
             (R.reading self.now.tables).is_big (left (R.reading self.now.tables))) }
@@ -77,6 +79,8 @@ impl<R: Reader> FileEntryIter<R> {
     pub fn file_names(&self) -> ReadResult<FileEntryIter<R>>
         ensures ok { IfOk result
             (BeginsBehind R.reading self.now.layout (R.reading self.now.input)) }
+        ensures order { IfOk result (λ i.
+            (R.reading i.input).is_big ≡ (R.reading self.now.input).is_big) }
         ensures err { IfErr result (MissesBehind self.now.layout (R.reading self.now.input)) }
     {
         match &self.layout {
@@ -93,7 +97,8 @@ impl<R: Reader> FileEntryIter<R> {
 
 /// The files that begin there, up to version 4.
 fn old_files<R: Reader>(input: R) -> FileEntryIter<R>
-    ensures { BeginsOld R.reading Files (left (R.reading input)) result }
+    ensures begins { BeginsOld R.reading Files (left (R.reading input)) result }
+    ensures order { (R.reading result.input).is_big ≡ (R.reading input).is_big }
 {
     FileEntryIter {
         input,
@@ -108,6 +113,8 @@ fn begin_described<R: Reader>(section: R, encoding: Encoding) -> ReadResult<File
     requires { encoding.address_size ≤ 8 }
     ensures ok { IfOk result (BeginsDescribed R.reading
         (R.reading section).is_big encoding (left (R.reading section))) }
+    ensures order { IfOk result (λ i.
+        (R.reading i.input).is_big ≡ (R.reading section).is_big) }
     ensures err { IfErr result (MissesEntries true
         (R.reading section).is_big (left (R.reading section))) }
 {

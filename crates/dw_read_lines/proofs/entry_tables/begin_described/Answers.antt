@@ -1,6 +1,7 @@
 use Rattle.std.proofs.Common.{ap, refl}
 use Rattle.std.proofs.lemmas.Result.{err_from_is_err_and}
 use Rattle.dw_base.specs.declared.common.Encoding.{Encoding}
+use Rattle.dw_read.proofs.Lefts.{same_order}
 use Rattle.dw_read_lines.specs.LineEntries.{Described}
 use Rattle.dw_read_lines.proofs.entry_tables.begin_described.Goals as goal
 
@@ -19,3 +20,6 @@ returns-clause-ok g c =
       input = d.is;
       not_ended = refl;
     }
+
+pub returns-clause-order : goal.returns-clause-order
+returns-clause-order g c = same_order _ _ _ c.in_ok-description.ensures.went.passes

@@ -27,6 +27,7 @@ returns-in-Ok-None g c =
     let t = taken_none reading _ _ _ _ _ c.in-Ok-None.ensures.ok c.in-Ok-None.field-0-is in
     record {
       ended = refl;
+      layout = refl;
       again = λ (t : i.has_ended ≡ true). absurd (let f : i.has_ended ≡ false = c.if-self.false in cc);
       is = λ _. subst (λ (r : Reading). TakesEntry reading r new i.layout i.remaining None) c.duplicate-after.ensures t;
     }

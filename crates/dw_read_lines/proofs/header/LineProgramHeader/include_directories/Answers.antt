@@ -1,4 +1,4 @@
-use Rattle.std.proofs.Common.{arith, ap, subst, refl, true}
+use Rattle.std.proofs.Common.{◌∙◌, arith, ap, subst, refl, true}
 use Rattle.std.proofs.lemmas.Bool.{le-leb, lt-leb}
 use Rattle.std.proofs.lemmas.Result.{err_from_is_err_and}
 use Rattle.dw_read.specs.Reading.{Reading, left}
@@ -17,3 +17,9 @@ returns-in_err-entries-clause-err g c =
 pub returns-clause-ok : goal.returns-clause-ok
 returns-clause-ok g c =
     rw (le-leb 5 c.args.self.now.encoding.encoding.version (omega arith)) (subst (λ (r : Reading). BeginsDescribed g.R.Reader.reading r.is_big c.args.self.now.encoding.encoding (left r) c.in_ok-entries.entries) c.duplicate-input.ensures c.in_ok-entries.ensures.ok)
+
+pub returns-then-encoding-lt5-clause-order : goal.returns-then-encoding-lt5-clause-order
+returns-then-encoding-lt5-clause-order g c = ap (λ (r : Reading). r.is_big) c.duplicate-input.ensures
+
+pub returns-clause-order : goal.returns-clause-order
+returns-clause-order g c = c.in_ok-entries.ensures.order ∙ ap (λ (r : Reading). r.is_big) c.duplicate-input.ensures
