@@ -1,0 +1,10 @@
+pub mod Reasons
+pub mod Texts
+pub mod Indices
+pub mod OldEntries
+pub mod Walking
+pub mod EntrySteps
+pub mod WorkingLaws
+pub mod Beginnings
+pub mod Headers
+pub mod Told

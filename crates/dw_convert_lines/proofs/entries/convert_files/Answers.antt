@@ -1,0 +1,98 @@
+use Rattle.std.proofs.Common.{◌∙◌, sym, subst, refl, inl, inr, ℕ, ◌-◌}
+use Rattle.std.specs.Prelude.{nat_le}
+use Rattle.dw_read.specs.Reading.{left}
+use Rattle.dw_read.specs.declared.error.ReadError.{ReadError}
+use Rattle.dw_read_lines.specs.FileEntryIters.{layout_of}
+use Rattle.dw_read_lines.specs.LineEntries.{next_read}
+use Rattle.dw_read_lines.specs.LineEntryViews.{entry_of}
+use Rattle.dw_sources.specs.ConvertErrors.{from_read}
+use Rattle.dw_convert_lines.specs.EntryImages.{file_image}
+use Rattle.dw_convert_lines.specs.Views.{texts_of, converting}
+use Rattle.dw_convert_lines.specs.Walks.{Walked}
+use Rattle.dw_convert_lines.proofs.Reasons.{is_err}
+use Rattle.dw_convert_lines.proofs.Walking.{walked_none, walked_more}
+use Rattle.dw_convert_lines.proofs.EntrySteps.{passes, closes, read_here, closed_here, refused_here, order_passed, smaller}
+use Rattle.dw_convert_lines.proofs.entries.convert_files.Goals as goal
+
+pub entries-init : goal.entries-init
+entries-init g c = record {
+  walked = λ parts has. walked_none _ _ _ _ _;
+  layout = refl;
+  order = refl;
+  open_yet = c.requires.begun.open_yet;
+  target = c.requires.target;
+}
+
+pub entries-preserved : goal.entries-preserved
+entries-preserved g c =
+    let reading = g.R.Reader.reading in
+    let i = c.entries.invariant in
+    let begun = c.requires.begun in
+    let p = passes _ _ reading _ _ _ _ c.in_ok-entry.ensures c.in-Some.is in
+    let first = c.args.entries.now in
+    record {
+      walked = λ parts has. subst (λ (k : ℕ). Walked (next_read (reading first.input).is_big (layout_of reading first.layout parts)) (file_image (texts_of reading c.args.dwarf.now) c.args.is_big (nat_le 5 c.args.version) c.args.directories.now) first.remaining (left (reading first.input)) (converting c.args.program.now c.args.ids.now.items c.args.strings.now c.args.line_strings.now) k (left (reading c.next.new.self.input)) (converting c.convert_file.new.program c.convert_file.new.ids.items c.convert_file.new.strings c.convert_file.new.line_strings))
+          (sym p.remaining)
+          (walked_more _ _ _ _ _ _ _ _ (entry_of reading c.in-Some.entry) _ _ (i.walked parts has) (read_here _ _ reading _ _ _ _ parts i.order i.layout has _ p) c.in_ok-convert_file.ensures.ok);
+      layout = p.layout ∙ i.layout;
+      order = order_passed _ _ reading _ _ _ _ begun.parts i.order i.layout begun.described _ p ∙ i.order;
+      open_yet = p.went_on.1;
+      target = c.in_ok-convert_file.ensures.target;
+    }
+
+pub entries-smaller : goal.entries-smaller
+entries-smaller g c =
+    let reading = g.R.Reader.reading in
+    let i = c.entries.invariant in
+    let begun = c.requires.begun in
+    let p = passes _ _ reading _ _ _ _ c.in_ok-entry.ensures c.in-Some.is in
+    smaller _ _ reading _ _ _ _ begun.parts i.order i.layout begun.described _ p
+
+pub returns-in_err-entry-clause-err : goal.returns-in_err-entry-clause-err
+returns-in_err-entry-clause-err g c =
+    let reading = g.R.Reader.reading in
+    let i = c.entries.invariant in
+    let why : ReadError = c.in_err-entry.field-0.0 in
+    let e = is_err _ (from_read why) c.from_residual.ensures in
+    rw e (inr (λ parts has. record {
+      count = c.entries.entries.remaining;
+      rest = left (reading c.entries.entries.input);
+      made = converting c.entries.program c.entries.ids.items c.entries.strings c.entries.line_strings;
+      walked = i.walked parts has;
+      cause = inl (record { error = why; reason = refused_here _ _ reading _ _ _ _ parts i.order i.layout has why c.in_err-entry.ensures; is = refl });
+    }))
+
+pub returns-in_err-convert_file-clause-err : goal.returns-in_err-convert_file-clause-err
+returns-in_err-convert_file-clause-err g c =
+    let reading = g.R.Reader.reading in
+    let i = c.entries.invariant in
+    let p = passes _ _ reading _ _ _ _ c.in_ok-entry.ensures c.in-Some.is in
+    let made = converting c.entries.program c.entries.ids.items c.entries.strings c.entries.line_strings in
+    let e = is_err _ _ c.from_residual-in_err-convert_file.ensures in
+    rw e (elim c.in_err-convert_file.ensures.err [
+      | inl h ↦ inl h
+      | inr h ↦ inr (λ parts has. record {
+        count = c.entries.entries.remaining;
+        rest = left (reading c.entries.entries.input);
+        made = made;
+        walked = i.walked parts has;
+        cause = inr (record {
+          entry = entry_of reading c.in-Some.entry;
+          next = left (reading c.next.new.self.input);
+          read = read_here _ _ reading _ _ _ _ parts i.order i.layout has _ p;
+          refused = h;
+        });
+      })
+    ])
+
+pub returns-clause-ok : goal.returns-clause-ok
+returns-clause-ok g c =
+    let reading = g.R.Reader.reading in
+    let i = c.entries.invariant in
+    let q = closes _ _ reading _ _ _ c.in_ok-entry.ensures c.in_default.is in
+    λ parts has. record {
+      count = c.entries.entries.remaining;
+      rest = left (reading c.entries.entries.input);
+      walked = i.walked parts has;
+      end = closed_here _ _ reading _ _ _ _ parts i.order i.layout has i.open_yet q;
+    }

@@ -1,0 +1,235 @@
+//! The header of a line program: its parameters, directories and files (DWARF 5, 6.2.4).
+
+ghost use Rattle.std.specs.Prelude.{◌≡◌, ◌⊎◌, ◌≤ℤ◌, ◌<ℤ◌, ◌+ℤ◌, ◌↔◌, ℕ, List, [], ◌∷◌, pos, nat_le, IsTrue, IfOk, IfErr, IfSome, OnOk, Ok, Err};
+ghost use Rattle.dw_line.specs.Names.{IsName};
+ghost use Rattle.dw_read.specs.Reading.{left};
+ghost use Rattle.dw_read_lines.specs.FileEntryIters.{layout_of, HasParts};
+ghost use Rattle.dw_read_lines.specs.LineEntries.{next_read};
+ghost use Rattle.dw_sources.specs.declared.convert_error.ConvertError.TheVariants.{NoMemory};
+ghost use Rattle.dw_convert_lines.specs.Entries.{IsOpen, IsSameList};
+ghost use Rattle.dw_convert_lines.specs.HeaderImages.{IsWritable, IsReadable, EncodingOutcome, working_image, new_program, first_ids, HeaderOutcome};
+ghost use Rattle.dw_convert_lines.specs.Views.{texts_of, tables, converting};
+
+use crate::entries::{convert_directories, convert_files};
+use crate::name::{convert_name, inline};
+use dw_base::{DirectoryId, Encoding, Endianity, FileId, LineEncoding};
+use dw_line::{LineProgram, LineString};
+use dw_read::Reader;
+use dw_read_lines::{FileEntryIter, LineProgramHeader};
+use dw_read_units::Dwarf;
+use dw_sources::{ConvertError, ConvertResult};
+use dw_strings::{LineStringTable, StringTable};
+use std::alloc::Global;
+
+/// The parameters of the target: those that are given, or else those that were read.
+pub(crate) fn target_encoding(
+    read: LineEncoding,
+    opcode_base: u8,
+    given: Option<LineEncoding>,
+) -> ConvertResult<LineEncoding>
+    requires { IfSome given IsWritable }
+    ensures { EncodingOutcome read opcode_base given result }
+{
+    if !is_readable(read, opcode_base) {
+        return Err(ConvertError::UnsupportedLineProgram);
+    }
+    match given {
+        Some(given) => Ok(given),
+        None => {
+            if !has_writable_lines(read) {
+                return Err(ConvertError::UnsupportedLineProgram);
+            }
+            Ok(read)
+        }
+    }
+}
+
+/// Whether instructions can be read by these parameters.
+fn is_readable(read: LineEncoding, opcode_base: u8) -> bool
+    ensures { IsTrue result ↔ IsReadable read opcode_base }
+{
+    read.maximum_operations_per_instruction == 1
+        && read.minimum_instruction_length > 0
+        && read.line_range > 0
+        && opcode_base > 0
+}
+
+/// Whether the lines of special opcodes can be those of a program that is written: some stay on
+/// the line or go back, and some go on.
+fn has_writable_lines(read: LineEncoding) -> bool
+    ensures { IsTrue result ↔ ((read.line_base ≤ℤ pos 0)
+        × (pos 0 <ℤ (read.line_base +ℤ pos read.line_range))) }
+{
+    read.line_base <= 0 && read.line_base as i16 + read.line_range as i16 > 0
+}
+
+/// The working directory: the first of the directories from version 5 on. Below, it is that of the
+/// unit, and stands in no program.
+fn working_directory<R: Reader>(
+    alloc: Global,
+    dwarf: &Dwarf<R>,
+    is_new: bool,
+    version: u16,
+    entries: &mut FileEntryIter<R>,
+    line_strings: &mut LineStringTable,
+    strings: &mut StringTable,
+) -> ConvertResult<LineString>
+    requires { IsOpen R.reading entries.old }
+    ensures ok { IfOk result (λ s. (parts : List (ℕ × ℕ))
+        → HasParts R.reading entries.old.layout parts → working_image is_new (nat_le 5 version)
+        (texts_of R.reading dwarf.now) (next_read (R.reading entries.old.input).is_big
+        (layout_of R.reading entries.old.layout parts)) entries.old.remaining
+        (left (R.reading entries.old.input)) (tables strings.old line_strings.old)
+        ≡ Ok (record {
+          name = s;
+          tables = tables strings.new line_strings.new;
+          count = entries.new.remaining;
+          bytes = left (R.reading entries.new.input);
+        })) }
+    ensures text { IfOk result IsName }
+    ensures same { OnOk result (IsSameList R.reading entries.old entries.new) }
+    ensures open { OnOk result (IsOpen R.reading entries.new) }
+    ensures err { IfErr result (λ e. (e ≡ NoMemory) ⊎ ((parts : List (ℕ × ℕ))
+        → HasParts R.reading entries.old.layout parts → working_image is_new (nat_le 5 version)
+        (texts_of R.reading dwarf.now) (next_read (R.reading entries.old.input).is_big
+        (layout_of R.reading entries.old.layout parts)) entries.old.remaining
+        (left (R.reading entries.old.input)) (tables strings.old line_strings.old) ≡ Err e)) }
+{
+    if is_new {
+        let Some(entry) = entries.next()? else {
+            return Err(ConvertError::InvalidDirectoryIndex);
+        };
+        let name = convert_name(
+            alloc,
+            dwarf,
+            version,
+            entry.path_name,
+            line_strings,
+            strings,
+        )?;
+        return Ok(name);
+    }
+    let name = inline(alloc, b"")?;
+    Ok(name)
+}
+
+/// A program of a working directory alone.
+fn new_program(
+    alloc: Global,
+    encoding: Encoding,
+    line_encoding: LineEncoding,
+    working: LineString,
+) -> ConvertResult<LineProgram>
+    requires parameters { IsWritable line_encoding }
+    requires name { IsName working }
+    ensures ok { IfOk result (λ p. p ≡ new_program encoding line_encoding working) }
+    ensures err { IfErr result (λ e. e ≡ NoMemory) }
+{
+    match LineProgram::new(alloc, encoding, line_encoding, working) {
+        Ok(program) => Ok(program),
+        Err(_) => Err(ConvertError::NoMemory),
+    }
+}
+
+/// The id of the working directory.
+fn first_directories(alloc: Global) -> ConvertResult<Vec<DirectoryId>>
+    ensures ok { IfOk result (λ ids. ids.items ≡ record { 0 = 0 } ∷ []) }
+    ensures err { IfErr result (λ e. e ≡ NoMemory) }
+{
+    let mut ids = Vec::new(alloc);
+    ids.push(DirectoryId::new(0))?;
+    Ok(ids)
+}
+
+/// The ids of no files: up to version 4 files are counted from 1, so that 0 names none.
+fn first_ids(alloc: Global, is_new: bool) -> ConvertResult<Vec<FileId>>
+    ensures ok { IfOk result (λ ids. ids.items ≡ first_ids is_new) }
+    ensures err { IfErr result (λ e. e ≡ NoMemory) }
+{
+    let mut ids = Vec::new(alloc);
+    if !is_new {
+        ids.push(FileId::new(0))?;
+    }
+    Ok(ids)
+}
+
+/// Whether a program tells its working directory, as from version 5 on. From there on files are
+/// counted from 0, too.
+fn tells_working_directory<R: Reader>(header: &LineProgramHeader<R>) -> bool
+    ensures { result ≡ nat_le 5 header.now.encoding.encoding.version }
+{
+    header.encoding().version >= 5
+}
+
+/// Whether the highest byte of a number stands first in the header.
+fn is_big<R: Reader>(header: &LineProgramHeader<R>) -> bool
+    ensures { result ≡ (R.reading header.now.parameters.operand_counts).is_big }
+{
+    header.standard_opcode_lengths().endian().is_big_endian()
+}
+
+/// A program with the directories and files of a header, and the ids of the files by their
+/// numbers.
+pub(crate) fn convert_header<R: Reader>(
+    alloc: Global,
+    dwarf: &Dwarf<R>,
+    header: &LineProgramHeader<R>,
+    encoding: Encoding,
+    line_encoding: LineEncoding,
+    line_strings: &mut LineStringTable,
+    strings: &mut StringTable,
+) -> ConvertResult<(LineProgram, Vec<FileId>)>
+    requires { IsWritable line_encoding }
+    ensures ok { IfOk result (λ x. HeaderOutcome (texts_of R.reading dwarf.now)
+        header.now.encoding.encoding (R.reading header.now.tables).is_big
+        (R.reading header.now.parameters.operand_counts).is_big
+        (left (R.reading header.now.tables)) encoding line_encoding
+        (tables strings.old line_strings.old)
+        (Ok (converting x.0 x.1.items strings.new line_strings.new))) }
+    ensures err { IfErr result (λ e. (e ≡ NoMemory) ⊎ HeaderOutcome (texts_of R.reading dwarf.now)
+        header.now.encoding.encoding (R.reading header.now.tables).is_big
+        (R.reading header.now.parameters.operand_counts).is_big
+        (left (R.reading header.now.tables)) encoding line_encoding
+        (tables strings.old line_strings.old) (Err e)) }
+{
+    let version = encoding.version;
+    let is_new = tells_working_directory(header);
+    let mut entries = header.include_directories()?;
+    let working = working_directory(
+        alloc,
+        dwarf,
+        is_new,
+        version,
+        &mut entries,
+        line_strings,
+        strings,
+    )?;
+    let mut program = new_program(alloc, encoding, line_encoding, working)?;
+    let mut directories = first_directories(alloc)?;
+    convert_directories(
+        alloc,
+        dwarf,
+        version,
+        &mut entries,
+        &mut program,
+        &mut directories,
+        line_strings,
+        strings,
+    )?;
+    let mut listed = entries.file_names()?;
+    let mut files = first_ids(alloc, is_new)?;
+    let is_big = is_big(header);
+    convert_files(
+        alloc,
+        dwarf,
+        version,
+        is_big,
+        directories.as_slice(),
+        &mut listed,
+        &mut program,
+        &mut files,
+        line_strings,
+        strings,
+    )?;
+    Ok((program, files))
+}
