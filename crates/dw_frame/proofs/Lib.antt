@@ -20,4 +20,7 @@ pub mod CieReading
 pub mod TableReading
 pub mod TableWhole
 pub mod EqualSteps
+pub mod ConvertLaws
+pub mod ConvertSteps
+pub mod ConvertTableSteps
 pub mod Worked

@@ -18,3 +18,10 @@ pub mod ReadPointers
 pub mod ReadCies
 pub mod Reading
 pub mod ReadTables
+pub mod ConvertInstructions
+pub mod ConvertOrders
+pub mod ConvertPrograms
+pub mod ConvertEntries
+pub mod ConvertViews
+pub mod ConvertTables
+pub mod ConvertSections

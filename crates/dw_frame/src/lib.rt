@@ -4,6 +4,10 @@
 
 mod advance;
 mod cie;
+mod convert;
+mod convert_cie;
+mod convert_fde;
+mod convert_instruction;
 mod entry;
 mod factor;
 mod fde;

@@ -1,6 +1,7 @@
 //! Instructions at the limits of their spellings, and tables of entries. The bytes are taken from
 //! the tables of the standard (DWARF 5, 7.24).
 
+mod conversions;
 mod entries;
 mod limits;
 mod pointers;

@@ -1,0 +1,88 @@
+use Rattle.std.proofs.Common.{◌≡◌, ◌∙◌, sym, ap, subst, refl, inl, inr, ⊎_elim, Ok, Err}
+use Rattle.dw_read.specs.Reading.{Reading, left}
+use Rattle.dw_read_frames.specs.declared.cie.CommonInformationEntry.{CommonInformationEntry as ReadCie}
+use Rattle.dw_sources.specs.ConvertErrors.{from_read}
+use Rattle.dw_frame.proofs.ConvertLaws.{is_err}
+use Rattle.dw_frame.specs.ConvertEntries.{IsCie, RefusesCie}
+use Rattle.dw_frame.specs.ConvertViews.{cie_terms}
+use Rattle.dw_frame.proofs.ConvertTableSteps.{by_place, fde_so, refuses_fde_so}
+use Rattle.dw_frame.proofs.convert.convert_frame.Goals as goal
+
+pub returns-in_err-common-clause-err : goal.returns-in_err-common-clause-err
+returns-in_err-common-clause-err g c =
+    let why = c.in_err-common.field-0.0 in
+    let e : c.from_residual.result ≡ Err (from_read why) = is_err _ _ c.from_residual.ensures in
+    rw e (inr (inl (record { error = why; refused = by_place _ _ _ _ _ _ _ _ c.cie_offset.ensures c.in_err-common.ensures.err; is = refl })))
+
+pub returns-in_err-read-clause-err : goal.returns-in_err-read-clause-err
+returns-in_err-read-clause-err g c =
+    let reading = g.R.Reader.reading in
+    let answers = goal.F-post g c.args.convert_address.now in
+    let common = c.in_ok-common.common in
+    let why = c.in_err-read.field-0.0 in
+    let e : c.from_residual-in_err-read.result ≡ Err (from_read why) = is_err _ _ c.from_residual-in_err-read.ensures in
+    rw e (inr (inr (record {
+      common = common.fields;
+      first = left (reading common.instructions);
+      found = by_place _ _ _ _ _ _ _ _ c.cie_offset.ensures c.in_ok-common.ensures.ok;
+      cause = inl (record { error = why; refused = c.in_err-read.ensures.err; is = refl });
+    })))
+
+pub returns-in_err-cie-clause-err : goal.returns-in_err-cie-clause-err
+returns-in_err-cie-clause-err g c =
+    let reading = g.R.Reader.reading in
+    let answers = goal.F-post g c.args.convert_address.now in
+    let common = c.in_ok-common.common in
+    let why = c.in_err-cie.field-0.0 in
+    let e : c.from_residual-in_err-cie.result ≡ Err why = is_err _ _ c.from_residual-in_err-cie.ensures in
+    rw e (⊎_elim (λ n. inl n) (λ h. inr (inr (record {
+      common = common.fields;
+      first = left (reading common.instructions);
+      found = by_place _ _ _ _ _ _ _ _ c.cie_offset.ensures c.in_ok-common.ensures.ok;
+      cause = inr (inl (record {
+        cie_big = (reading common.instructions).is_big;
+        cie_end = (reading common.instructions).end;
+        refused = subst (λ (k : ReadCie _ _). RefusesCie answers (cie_terms reading k) (left (reading k.instructions)) why) (c.cie.ensures ∙ c.in_ok-read.ensures.cie) h;
+      }));
+    }))) c.in_err-cie.ensures.err)
+
+pub returns-in_err-fde-clause-err : goal.returns-in_err-fde-clause-err
+returns-in_err-fde-clause-err g c =
+    let reading = g.R.Reader.reading in
+    let answers = goal.F-post g c.args.convert_address.now in
+    let common = c.in_ok-common.common in
+    let read = c.in_ok-read.read in
+    let took = c.in_ok-read.ensures.ok in
+    let why = c.in_err-fde.field-0.0 in
+    let e : c.from_residual-in_err-fde.result ≡ Err why = is_err _ _ c.from_residual-in_err-fde.ensures in
+    rw e (⊎_elim (λ n. inl n) (λ h. inr (inr (record {
+      common = common.fields;
+      first = left (reading common.instructions);
+      found = by_place _ _ _ _ _ _ _ _ c.cie_offset.ensures c.in_ok-common.ensures.ok;
+      cause = inr (inr (record {
+        own = read.fields;
+        more = left (reading read.instructions);
+        says = took.value;
+        refused = refuses_fde_so answers _ _ _ _ _ _ _ _ (ap (λ (r : Reading). r.is_big) took.passes.is) (ap (λ (r : Reading). r.end) took.passes.is) (ap (λ (k : ReadCie _ _). k.fields) c.in_ok-read.ensures.cie) why h;
+      }));
+    }))) c.in_err-fde.ensures.err)
+
+pub returns-clause-ok : goal.returns-clause-ok
+returns-clause-ok g c =
+    let reading = g.R.Reader.reading in
+    let answers = goal.F-post g c.args.convert_address.now in
+    let common = c.in_ok-common.common in
+    let read = c.in_ok-read.read in
+    let took = c.in_ok-read.ensures.ok in
+    record {
+      common = common.fields;
+      first = left (reading common.instructions);
+      found = by_place _ _ _ _ _ _ _ _ c.cie_offset.ensures c.in_ok-common.ensures.ok;
+      own = read.fields;
+      more = left (reading read.instructions);
+      says = took.value;
+      cie_big = (reading common.instructions).is_big;
+      cie_end = (reading common.instructions).end;
+      cie = subst (λ (k : ReadCie _ _). IsCie answers (cie_terms reading k) (left (reading k.instructions)) c.in_ok-cie.cie) (c.cie.ensures ∙ c.in_ok-read.ensures.cie) c.in_ok-cie.ensures.ok;
+      fde = fde_so answers _ _ _ _ _ _ _ _ (ap (λ (r : Reading). r.is_big) took.passes.is) (ap (λ (r : Reading). r.end) took.passes.is) (ap (λ (k : ReadCie _ _). k.fields) c.in_ok-read.ensures.cie) _ c.in_ok-fde.ensures.ok;
+    }

@@ -1,0 +1,85 @@
+use Rattle.std.proofs.Common.{◌≡◌, ◌∙◌, sym, ap, refl, inl, inr, ⊎_elim, List, [], ◌∷◌, ◌++◌, Ok, Err, rules, w64, to_z, of_z}
+use Rattle.std.specs.Prelude.{option_to_list}
+use Rattle.dw_read.specs.Reading.{left}
+use Rattle.dw_read_frames.specs.InstructionViews.{instruction_of}
+use Rattle.dw_sources.proofs.Progress.{fewer_left}
+use Rattle.dw_sources.specs.ConvertErrors.{from_read}
+use Rattle.dw_frame.proofs.ConvertLaws.{is_err}
+use Rattle.dw_frame.specs.declared.instruction.CallFrameInstruction.{CallFrameInstruction}
+use Rattle.dw_frame.specs.ConvertPrograms.{Image}
+use Rattle.dw_frame.specs.ConvertViews.{cie_terms}
+use Rattle.dw_frame.proofs.ConvertSteps.{kept_more, by_terms, same_cie_head, passes_one, is_over, stands_first, stands_more, stands_last, stands_missing, stands_failing}
+use Rattle.dw_frame.proofs.convert_cie.convert_cie.Goals as goal
+
+pub instructions-init : goal.instructions-init
+instructions-init g c =
+    record {
+      images = [];
+      stands = stands_first _ _ g.R.Reader.reading _ (cie_terms g.R.Reader.reading c.args.read.now) _ c.args.read.now.instructions c.instructions-instructions.result refl refl refl c.instructions-instructions.ensures;
+      kept = c.in_ok-cie.ensures.instructions;
+      head = c.in_ok-cie.ensures.ok;
+    }
+
+pub instructions-preserved : goal.instructions-preserved
+instructions-preserved g c =
+    let reading = g.R.Reader.reading in
+    let i = c.instructions.invariant in
+    let o = c.in-Some.instruction in
+    let p = passes_one _ _ reading c.instructions.instructions c.next.new.self _ o c.in_ok-instruction.ensures c.in-Some.is in
+    let x : Image = record { read = instruction_of reading o; kept = c.in_ok-kept.kept } in
+    let same : to_z w64 (of_z w64 c.data_alignment_factor-factor.result) ≡ c.data_alignment_factor-factor.result = search rules in
+    record {
+      images = i.images ++ x ∷ [];
+      stands = stands_more _ _ reading _ _ _ c.instructions.instructions c.next.new.self i.images i.stands o p c.in_ok-kept.kept (by_terms _ _ _ _ _ _ _ _ c.encoding-encoding.ensures (same ∙ c.data_alignment_factor-factor.ensures) c.in_ok-kept.ensures.ok);
+      kept = c.in_ok-keep.ensures.ok ∙ ap (λ (l : List CallFrameInstruction). l ++ option_to_list c.in_ok-kept.kept) i.kept ∙ sym (kept_more i.images x);
+      head = same_cie_head _ _ c.instructions.cie c.keep.new.cie c.in_ok-keep.ensures.others i.head;
+    }
+
+pub instructions-smaller : goal.instructions-smaller
+instructions-smaller g c =
+    let reading = g.R.Reader.reading in
+    let is = g.met.R.Reader.is_reading in
+    let p = passes_one _ _ reading c.instructions.instructions c.next.new.self _ c.in-Some.instruction c.in_ok-instruction.ensures c.in-Some.is in
+    fewer_left _ _ (reading c.instructions.instructions.input) (reading c.next.new.self.input) _ (is c.instructions.instructions.input) (is c.next.new.self.input) p.instruction p.progress
+
+pub returns-in_err-instruction-clause-err : goal.returns-in_err-instruction-clause-err
+returns-in_err-instruction-clause-err g c =
+    let reading = g.R.Reader.reading in
+    let i = c.instructions.invariant in
+    let why = c.in_err-instruction.field-0.0 in
+    let e : c.from_residual-in_err-instruction.result ≡ Err (from_read why) = is_err _ _ c.from_residual-in_err-instruction.ensures in
+    rw e (inr (inr (record {
+      images = i.images;
+      rest = left (reading c.instructions.instructions.input);
+      begun = i.stands.begun;
+      cause = inl (stands_missing _ _ reading _ _ _ c.instructions.instructions c.next.new.self i.images i.stands why c.in_err-instruction.ensures);
+    })))
+
+pub returns-in_err-kept-clause-err : goal.returns-in_err-kept-clause-err
+returns-in_err-kept-clause-err g c =
+    let reading = g.R.Reader.reading in
+    let i = c.instructions.invariant in
+    let o = c.in-Some.instruction in
+    let p = passes_one _ _ reading c.instructions.instructions c.next.new.self _ o c.in_ok-instruction.ensures c.in-Some.is in
+    let why = c.in_err-kept.field-0.0 in
+    let same : to_z w64 (of_z w64 c.data_alignment_factor-factor.result) ≡ c.data_alignment_factor-factor.result = search rules in
+    let e : c.from_residual-in_err-kept.result ≡ Err why = is_err _ _ c.from_residual-in_err-kept.ensures in
+    rw e (⊎_elim (λ n. inl n) (λ h. inr (inr (record {
+      images = i.images;
+      rest = left (reading c.instructions.instructions.input);
+      begun = i.stands.begun;
+      cause = inr (stands_failing _ _ reading _ _ _ c.instructions.instructions c.next.new.self i.images i.stands o p why (by_terms _ _ _ _ _ _ _ _ c.encoding-encoding.ensures (same ∙ c.data_alignment_factor-factor.ensures) h));
+    }))) c.in_err-kept.ensures.err)
+
+pub returns-clause-ok : goal.returns-clause-ok
+returns-clause-ok g c =
+    let reading = g.R.Reader.reading in
+    let i = c.instructions.invariant in
+    record {
+      head = i.head;
+      instructions = record {
+        images = i.images;
+        begun = stands_last _ _ reading _ _ _ c.instructions.instructions c.next.new.self i.images i.stands (is_over _ _ reading c.instructions.instructions c.next.new.self _ c.in_ok-instruction.ensures c.in_default.is);
+        is = i.kept;
+      };
+    }
