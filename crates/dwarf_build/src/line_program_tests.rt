@@ -172,7 +172,7 @@ fn writes_line_programs(rt: HostRuntime) -> Result<(), Fail> {
     Ok(())
 }
 
-/// Two units as a compiler of C writes them, but for expressions.
+/// Two units as a compiler of C writes them.
 const COMPILED: &str = "str 676363
 line_str 2f746d70
 line_str 612e63
@@ -197,10 +197,12 @@ set 0 1 DW_AT_decl_line data1 3
 set 0 1 DW_AT_type unit_ref 3
 set 0 1 DW_AT_low_pc address 0x1000
 set 0 1 DW_AT_high_pc data4 16
+set 0 1 DW_AT_frame_base exprloc [ op DW_OP_call_frame_cfa ]
 sibling 0 1 1
 add 0 1 DW_TAG_formal_parameter
 set 0 2 DW_AT_name string 78
 set 0 2 DW_AT_type unit_ref 3
+set 0 2 DW_AT_location exprloc [ fbreg -20 ]
 add 0 0 DW_TAG_base_type
 set 0 3 DW_AT_name string 696e74
 set 0 3 DW_AT_encoding encoding 5
@@ -219,8 +221,8 @@ fn writes_what_a_compiler_writes(rt: HostRuntime) -> Result<(), Fail> {
             ".debug_abbrev",
             "01 11 01 25 0e 13 0f 03 1f 1b 1f 11 01 12 06 10 17 00 00 \
              02 24 00 03 08 3e 0f 0b 0b 00 00 \
-             03 2e 01 01 13 03 08 3f 19 3a 0f 3b 0b 49 13 11 01 12 06 00 00 \
-             04 05 00 03 08 49 13 00 00 00 \
+             03 2e 01 01 13 03 08 3f 19 3a 0f 3b 0b 49 13 11 01 12 06 40 18 00 00 \
+             04 05 00 03 08 49 13 02 18 00 00 00 \
              01 11 01 03 08 00 00 02 34 00 03 08 49 10 00 00 00",
         ),
         (".debug_str", "67636300"),
@@ -233,12 +235,12 @@ fn writes_what_a_compiler_writes(rt: HostRuntime) -> Result<(), Fail> {
         ),
         (
             ".debug_info",
-            "4f000000 0500 01 08 00000000 \
+            "54000000 0500 01 08 00000000 \
              01 00000000 0c 05000000 00000000 0010000000000000 10000000 00000000 \
              02 696e7400 05 04 \
-             03 52000000 6600 00 03 2a000000 0010000000000000 10000000 \
-             04 7800 2a000000 00 00 \
-             13000000 0500 01 08 3d000000 01 6200 02 7900 2a000000 00",
+             03 57000000 6600 00 03 2a000000 0010000000000000 10000000 01 9c \
+             04 7800 2a000000 02 91 6c 00 00 \
+             13000000 0500 01 08 41000000 01 6200 02 7900 2a000000 00",
         ),
     ];
     let (status, text) = build(rt.alloc(), COMPILED.as_bytes())?;
