@@ -8,8 +8,8 @@ use Rattle.dw_read.specs.Reading.{Reading, IsReading, left}
 use Rattle.dw_read.specs.declared.error.ReadError.{ReadError}
 use Rattle.dw_read.proofs.Lefts.{length-left}
 use Rattle.dw_read_frames.specs.Augmentations.{standing}
-use Rattle.dw_read_frames.specs.Entries.{Entry, entry_at, entry_read, cie_at_read}
-use Rattle.dw_read_frames.specs.EntryViews.{BeginsEntries, PassesEntry, EndsEntries, RefusesEntry, ReadsEntry, IsOver, entry_of}
+use Rattle.dw_read_frames.specs.Entries.{Entry, entry_at, entry_read, cie_at_read, end_at_read}
+use Rattle.dw_read_frames.specs.EntryViews.{BeginsEntries, IsRestAt, PassesEntry, EndsEntries, RefusesEntry, ReadsEntry, IsOver, entry_of}
 use Rattle.dw_read_frames.specs.declared.cie.CieFields.{CieFields}
 use Rattle.dw_read_frames.specs.declared.fde.FdeFields.{FdeFields}
 use Rattle.dw_read_frames.specs.declared.cie.CommonInformationEntry.{CommonInformationEntry as ReadCie}
@@ -23,9 +23,10 @@ use Rattle.dw_convert.specs.Lists.{First}
 use Rattle.dw_frame.proofs.ConvertLaws.{first_more}
 use Rattle.dw_frame.specs.declared.cie.CommonInformationEntry.{CommonInformationEntry}
 use Rattle.dw_frame.specs.declared.fde.FrameDescriptionEntry.{FrameDescriptionEntry}
-use Rattle.dw_frame.specs.ConvertEntries.{IsFde, RefusesFde}
+use Rattle.dw_frame.specs.ConvertEntries.{IsCie, RefusesCie, IsFde, RefusesFde}
 use Rattle.dw_frame.specs.ConvertTables.{Source, Frame, Pair, frames_of, next_of, joined, with_cie, cies_of, fdes_of, frames_at, EndsSection, IsFrame, RefusesFrame, AreFrames, BegunTable, MissesEntry, FailsEntry}
 use Rattle.dw_frame.specs.ConvertSections.{frame_in}
+use Rattle.dw_frame.specs.ConvertViews.{cie_terms}
 
 -- where a reader stands, by the bytes that it has left
 place_is : (r : Reading) → IsReading r → r.place ≡ r.end - length (left r)
@@ -167,6 +168,26 @@ module _ (answers : ℕ → Option Address → Type 0) (s : Source) where
 -- a CIE at a place that is another one
 pub by_place : (h b : Bool) (n p q r : ℕ) (bytes : List ℕ) (x : Result (CieFields × List ℕ) ReadError) → q ≡ r → cie_at_read h b n p q bytes ≡ x → cie_at_read h b n p r bytes ≡ x
 by_place h b n p q r bytes x e f = cc
+
+-- a CIE that is another one, read where it stands in a section
+module _ (answers : ℕ → Option Address → Type 0) (R E : Type 0) (reading : R → Reading) (eh : Bool) (size p q : ℕ) (section : Reading) (read common : ReadCie R E) (e : p ≡ q) (same : read ≡ common) (at : IsRestAt eh size p section (reading common.instructions)) where
+  pub ends_by_place : end_at_read eh section.is_big size section.place q section.end (left section) ≡ Ok (reading common.instructions).end
+  ends_by_place = subst (λ (n : ℕ). end_at_read eh section.is_big size section.place n section.end (left section) ≡ Ok (reading common.instructions).end) e at.ends
+
+  order_there : (reading common.instructions).is_big ≡ section.is_big
+  order_there = ap (λ (r : Reading). r.is_big) at.is
+
+  pub cie_so : (x : CommonInformationEntry) → IsCie answers (cie_terms reading read) (left (reading read.instructions)) x
+      → IsCie answers (record { is_big = section.is_big; end = (reading common.instructions).end; cie = common.fields }) (left (reading common.instructions)) x
+  cie_so x h =
+      subst (λ (b : Bool). IsCie answers (record { is_big = b; end = (reading common.instructions).end; cie = common.fields }) (left (reading common.instructions)) x) order_there
+      (subst (λ (k : ReadCie R E). IsCie answers (cie_terms reading k) (left (reading k.instructions)) x) same h)
+
+  pub refuses_cie_so : (why : ConvertError) → RefusesCie answers (cie_terms reading read) (left (reading read.instructions)) why
+      → RefusesCie answers (record { is_big = section.is_big; end = (reading common.instructions).end; cie = common.fields }) (left (reading common.instructions)) why
+  refuses_cie_so why h =
+      subst (λ (b : Bool). RefusesCie answers (record { is_big = b; end = (reading common.instructions).end; cie = common.fields }) (left (reading common.instructions)) why) order_there
+      (subst (λ (k : ReadCie R E). RefusesCie answers (cie_terms reading k) (left (reading k.instructions)) why) same h)
 
 module _ (answers : ℕ → Option Address → Type 0) (b d : Bool) (n m : ℕ) (f k : CieFields) (bytes : List ℕ) (own : FdeFields) (p : b ≡ d) (q : n ≡ m) (e : f ≡ k) where
   -- an FDE by the same terms

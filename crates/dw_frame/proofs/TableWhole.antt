@@ -28,7 +28,7 @@ new_again kind big c None at xs ranged e long = (cie_is_entry kind c at big xs e
 new_again kind big c (Some p) at xs ranged e long = let f : [] ≡ xs = cc in sym f
 
 module _ (kind : FrameKind) (big : Bool) (cies : List CommonInformationEntry) where
-  frames_whole : (fdes : List (CieId × FrameDescriptionEntry)) (places : Places) (at : ℕ) (zs : List ℕ) → AreBefore places at → AreTold kind cies places fdes at →
+  pub frames_whole : (fdes : List (CieId × FrameDescriptionEntry)) (places : Places) (at : ℕ) (zs : List ℕ) → AreBefore places at → AreTold kind cies places fdes at →
       IsText big (frames_from kind cies places fdes at) zs → ReadsFrames kind big cies places fdes at zs
   frames_whole [] places at zs before told e = let f : [] ≡ zs = cc in sym f
   frames_whole (x ∷ xs) places at zs before told e =

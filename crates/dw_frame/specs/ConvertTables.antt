@@ -7,7 +7,7 @@ use Rattle.dw_base.specs.declared.ids.CieId.{CieId}
 use Rattle.dw_read.specs.Reading.{Reading, left}
 use Rattle.dw_read.specs.declared.error.ReadError.{ReadError}
 use Rattle.dw_read_frames.specs.Augmentations.{standing}
-use Rattle.dw_read_frames.specs.Entries.{Entry, Cie, Fde, entry_at, entry_read, cie_at_read}
+use Rattle.dw_read_frames.specs.Entries.{Entry, Cie, Fde, entry_at, entry_read, cie_at_read, end_at_read}
 use Rattle.dw_read_frames.specs.Fdes.{fde_read}
 use Rattle.dw_read_frames.specs.declared.cie.CieFields.{CieFields}
 use Rattle.dw_read_frames.specs.declared.fde.FdeFields.{FdeFields}
@@ -76,6 +76,10 @@ module _ (answers : ℕ → Option Address → Type 0) (s : Source) where
   abbrev pub EndsSection : List ℕ → Type 0
   EndsSection rest = (rest ≡ []) ⊎ ((behind : List ℕ) × (entry_at s.is_eh s.section.is_big s.address_size (standing s.section.end rest) rest ≡ Some (None, behind)))
 
+  -- the CIE to which an FDE leads ends at a place of the section
+  abbrev pub EndsCie : Frame → ℕ → Type 0
+  EndsCie f end = end_at_read s.is_eh s.section.is_big s.address_size s.section.place f.cie s.section.end (left s.section) ≡ Ok end
+
   -- an FDE is read by the CIE to which it leads, and both are converted
   pub record IsFrame (big : Bool) (f : Frame) (x : Pair) : Type 0 where
     pub common : CieFields
@@ -84,10 +88,9 @@ module _ (answers : ℕ → Option Address → Type 0) (s : Source) where
     pub own : FdeFields
     pub more : List ℕ
     pub says : fde_read big common f.end f.body ≡ Ok (own, more)
-    -- how the CIE's instructions are read isn't told by the reader of CIEs
-    pub cie_big : Bool
     pub cie_end : ℕ
-    pub cie : IsCie answers (record { is_big = cie_big; end = cie_end; cie = common }) first x.0
+    pub ends : EndsCie f cie_end
+    pub cie : IsCie answers (record { is_big = s.section.is_big; end = cie_end; cie = common }) first x.0
     pub fde : IsFde answers (record { is_big = big; end = f.end; cie = common }) more own x.1
 
   -- no CIE is there, for this reason
@@ -103,10 +106,10 @@ module _ (answers : ℕ → Option Address → Type 0) (s : Source) where
     pub is : why ≡ from_read error
 
   -- its CIE becomes nothing
-  pub record FailsCie (common : CieFields) (first : List ℕ) (why : ConvertError) : Type 0 where
-    pub cie_big : Bool
+  pub record FailsCie (f : Frame) (common : CieFields) (first : List ℕ) (why : ConvertError) : Type 0 where
     pub cie_end : ℕ
-    pub refused : RefusesCie answers (record { is_big = cie_big; end = cie_end; cie = common }) first why
+    pub ends : EndsCie f cie_end
+    pub refused : RefusesCie answers (record { is_big = s.section.is_big; end = cie_end; cie = common }) first why
 
   -- the FDE becomes nothing
   pub record FailsFde (big : Bool) (f : Frame) (common : CieFields) (why : ConvertError) : Type 0 where
@@ -120,7 +123,7 @@ module _ (answers : ℕ → Option Address → Type 0) (s : Source) where
     pub common : CieFields
     pub first : List ℕ
     pub found : cie_at_read s.is_eh s.section.is_big s.address_size s.section.place f.cie (left s.section) ≡ Ok (common, first)
-    pub cause : MissesFde big f common why ⊎ (FailsCie common first why ⊎ FailsFde big f common why)
+    pub cause : MissesFde big f common why ⊎ (FailsCie f common first why ⊎ FailsFde big f common why)
 
   abbrev pub RefusesFrame : Bool → Frame → ConvertError → Type 0
   RefusesFrame big f why = MissesCie f why ⊎ FailsFrame big f why

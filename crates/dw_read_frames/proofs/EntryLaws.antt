@@ -1,5 +1,5 @@
 -- Entries, from what the calls in them answered.
-use Rattle.std.proofs.Common.{◌≡◌, ◌∙◌, ap, subst, ℕ, ◌+◌, ◌-◌, List, length, Option, Some, None, Ok, Err, Bool, refl, arith}
+use Rattle.std.proofs.Common.{◌≡◌, ◌∙◌, sym, ap, subst, ℕ, ◌+◌, ◌-◌, List, length, Option, Some, None, IfSome, Ok, Err, Bool, refl, arith}
 use Rattle.dw_base.specs.declared.common.Format.{Format}
 use Rattle.dw_read.specs.Reading.{Reading, IsReading, Passes, left, part}
 use Rattle.dw_read.specs.Reasons.{bytes_read}
@@ -10,11 +10,12 @@ use Rattle.dw_read.proofs.Laws.{IsReadOf}
 use Rattle.dw_read.proofs.Chain.{Went, took, went}
 use Rattle.dw_read.proofs.HeaderParts.{bytes_took}
 use Rattle.dw_read.proofs.Lefts.{shorter, same_order}
+use Rattle.dw_read_frames.specs.Augmentations.{standing}
 use Rattle.dw_read_frames.specs.Heads.{Head, head_read}
 use Rattle.dw_read_frames.specs.HeadViews.{IsBody}
 use Rattle.dw_read_frames.specs.Cies.{fields_read}
-use Rattle.dw_read_frames.specs.Entries.{Entry, Cie, Fde, entry_read, entry_at, cie_or, cie_at_read}
-use Rattle.dw_read_frames.specs.EntryViews.{entry_of, held_cie}
+use Rattle.dw_read_frames.specs.Entries.{Entry, Cie, Fde, entry_read, entry_at, cie_or, cie_at_read, end_at_read}
+use Rattle.dw_read_frames.specs.EntryViews.{IsRestAt, entry_of, rest_of, held_cie}
 use Rattle.dw_read_frames.specs.declared.cie.CommonInformationEntry.{CommonInformationEntry}
 use Rattle.dw_read_frames.specs.declared.entries.CieOrFde.{CieOrFde}
 use Rattle.dw_read_frames.specs.declared.entries.CieOrFde.TheVariants as held
@@ -106,14 +107,32 @@ module _ (eh : Bool) (size offset : ℕ) where
     unfolding cie_at_read
     found_by x rest h = rw (skipped, h) refl
 
+    ended_by : (x : Option Entry) (rest : List ℕ) → entry_read eh old.is_big size (old.place + offset) (left mid) ≡ Ok (x, rest) → end_at_read eh old.is_big size old.place offset old.end (left old) ≡ Ok (standing old.end rest)
+    unfolding end_at_read
+    ended_by x rest h = rw (skipped, h) refl
+
     stands : mid.place ≡ old.place + offset
     stands = ap (λ (r : Reading). r.place) p.is
 
     pub at_no_entry : (e : ReadError) → entry_read eh mid.is_big size mid.place (left mid) ≡ Err e → cie_at_read eh old.is_big size old.place offset (left old) ≡ Err e
     at_no_entry e h = lost_by e (subst (λ (b : Bool). entry_read eh b size (old.place + offset) (left mid) ≡ Err e) (same_order offset old mid p) (subst (λ (n : ℕ). entry_read eh mid.is_big size n (left mid) ≡ Err e) stands h))
 
-    pub at_entry : (x : Option Entry) (new : Reading) → Took (Option Entry) (entry_read eh mid.is_big size mid.place) mid new x → cie_at_read eh old.is_big size old.place offset (left old) ≡ cie_or (InvalidCiePointer offset) x
-    at_entry x new h = found_by x (left new) (subst (λ (b : Bool). entry_read eh b size (old.place + offset) (left mid) ≡ Ok (x, left new)) (same_order offset old mid p) (subst (λ (n : ℕ). entry_read eh mid.is_big size n (left mid) ≡ Ok (x, left new)) stands h.value))
+    module _ (x : Option Entry) (new : Reading) (h : Took (Option Entry) (entry_read eh mid.is_big size mid.place) mid new x) where
+      read_there : entry_read eh old.is_big size (old.place + offset) (left mid) ≡ Ok (x, left new)
+      read_there = subst (λ (b : Bool). entry_read eh b size (old.place + offset) (left mid) ≡ Ok (x, left new)) (same_order offset old mid p) (subst (λ (n : ℕ). entry_read eh mid.is_big size n (left mid) ≡ Ok (x, left new)) stands h.value)
+
+      pub at_entry : cie_at_read eh old.is_big size old.place offset (left old) ≡ cie_or (InvalidCiePointer offset) x
+      at_entry = found_by x (left new) read_there
+
+      pub rest_at : (last : Reading) → IsReading new → IsBody mid new last → IsRestAt eh size offset old last
+      rest_at last is b =
+          let e : new.end ≡ old.end = ap (λ (r : Reading). r.end) h.passes.is ∙ ap (λ (r : Reading). r.end) p.is in
+          let q : new.place ≡ standing old.end (left new) = place_is new is ∙ ap (λ (n : ℕ). n - length (left new)) e in
+          let l : last.end ≡ new.place = ap (λ (r : Reading). r.end) b in
+          record {
+            ends = ended_by x (left new) read_there ∙ ap (λ (n : ℕ). Ok n) (sym (l ∙ q));
+            is = b ∙ ap (λ (r : Reading). record r { place = new.place - length (left last); end = new.place }) p.is ∙ ap (λ (n : ℕ). record old { place = n - length (left last); end = n }) (sym l);
+          }
 
 pub no_cie : {R E : Type 0} (reading : R → Reading) (e : ReadError) (o : Option (CieOrFde R E)) → held_cie o ≡ None → cie_or e (option_of (entry_of reading) o) ≡ Err e
 no_cie reading e None h = refl
@@ -124,3 +143,8 @@ pub one_cie : {R E : Type 0} (reading : R → Reading) (e : ReadError) (o : Opti
 one_cie reading e None c h = absurd (cc)
 one_cie {R = R} {E = E} reading e (Some (held.Cie d)) c h = let q : d ≡ c = cc in ap (λ (x : CommonInformationEntry R E). Ok (x.fields, left (reading x.instructions))) q
 one_cie reading e (Some (held.Fde f)) c h = absurd (cc)
+
+pub cie_rest : {R E : Type 0} (reading : R → Reading) (old new : Reading) (o : Option (CieOrFde R E)) (c : CommonInformationEntry R E) → held_cie o ≡ Some c → IfSome o (λ x. IsBody old new (rest_of reading x)) → IsBody old new (reading c.instructions)
+cie_rest reading old new None c h b = absurd (cc)
+cie_rest {R = R} {E = E} reading old new (Some (held.Cie d)) c h b = let q : d ≡ c = cc in subst (λ (x : CommonInformationEntry R E). IsBody old new (reading x.instructions)) q b
+cie_rest reading old new (Some (held.Fde f)) c h b = absurd (cc)

@@ -7,6 +7,7 @@ use Rattle.dw_read.specs.Reading.{Read}
 use Rattle.dw_read.specs.Reasons.{◌=>>◌, bytes_read}
 use Rattle.dw_read.specs.declared.error.ReadError.{ReadError}
 use Rattle.dw_read.specs.declared.error.ReadError.TheVariants.{InvalidCiePointer}
+use Rattle.dw_read_frames.specs.Augmentations.{standing}
 use Rattle.dw_read_frames.specs.Heads.{Head, head_read}
 use Rattle.dw_read_frames.specs.Cies.{fields_read}
 use Rattle.dw_read_frames.specs.declared.cie.CieFields.{CieFields}
@@ -41,3 +42,7 @@ cie_or e x = Err e
 -- the CIE at an offset of a section that begins at a place
 unfoldable pub cie_at_read : Bool → Bool → ℕ → ℕ → ℕ → List ℕ → Result (CieFields × List ℕ) ReadError
 cie_at_read eh big size at offset bytes = bytes_read offset bytes =>> λ b. entry_read eh big size (at + offset) b.1 =>> λ e. cie_or (InvalidCiePointer offset) e.0
+
+-- the place where the entry at an offset ends, in a section that goes on to an end
+unfoldable pub end_at_read : Bool → Bool → ℕ → ℕ → ℕ → ℕ → List ℕ → Result ℕ ReadError
+end_at_read eh big size at offset end bytes = bytes_read offset bytes =>> λ b. entry_read eh big size (at + offset) b.1 =>> λ e. Ok (standing end e.1)

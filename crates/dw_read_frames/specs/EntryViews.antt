@@ -1,8 +1,8 @@
 -- What iteration over the entries of a call frame section answers.
-use Rattle.std.specs.Prelude.{◌≡◌, ◌⊎◌, ℕ, ◌<◌, Bool, length, true, false, Option, Some, None, Result, Ok, Err}
+use Rattle.std.specs.Prelude.{◌≡◌, ◌⊎◌, ℕ, ◌-◌, ◌<◌, Bool, length, true, false, Option, Some, None, Result, Ok, Err}
 use Rattle.dw_read.specs.Reading.{Reading, Reads, Refuses, left}
 use Rattle.dw_read.specs.declared.error.ReadError.{ReadError}
-use Rattle.dw_read_frames.specs.Entries.{Entry, Cie, Fde, entry_at, entry_read}
+use Rattle.dw_read_frames.specs.Entries.{Entry, Cie, Fde, entry_at, entry_read, end_at_read}
 use Rattle.dw_read_frames.specs.HeadViews.{IsBody}
 use Rattle.dw_read_frames.specs.declared.cie.CommonInformationEntry.{CommonInformationEntry}
 use Rattle.dw_read_frames.specs.declared.entries.CieOrFde.{CieOrFde}
@@ -71,3 +71,8 @@ abbrev pub held_cie : {R E : Type 0} → Option (CieOrFde R E) → Option (Commo
 held_cie None = None
 held_cie (Some (held.Cie c)) = Some c
 held_cie (Some (held.Fde f)) = None
+
+-- the instructions of the CIE at an offset are read where they stand in its section, up to the CIE's end, in the section's byte order
+pub record IsRestAt (eh : Bool) (size offset : ℕ) (section rest : Reading) : Type 0 where
+  pub ends : end_at_read eh section.is_big size section.place offset section.end (left section) ≡ Ok rest.end
+  pub is : rest ≡ record section { place = rest.end - length (left rest); end = rest.end }

@@ -3,7 +3,7 @@
 ghost use Rattle.std.specs.Prelude.{◌≡◌, true, false, ℕ, Bool, IfOk, IfErr, Ok, Err};
 ghost use Rattle.dw_read.specs.Reading.{left};
 ghost use Rattle.dw_read_frames.specs.Entries.{cie_at_read};
-ghost use Rattle.dw_read_frames.specs.EntryViews.{BeginsEntries, held_cie};
+ghost use Rattle.dw_read_frames.specs.EntryViews.{BeginsEntries, IsRestAt, held_cie};
 
 use crate::cie::CommonInformationEntry;
 use crate::entries::{CfiEntriesIter, CieOrFde, read_entry};
@@ -46,12 +46,15 @@ pub trait UnwindSection<R: Reader> {
         }
     }
 
-    /// The CIE at an offset of the section, to which an FDE leads.
+    /// The CIE at an offset of the section, to which an FDE leads. Its instructions are read in the
+    /// byte order of the section.
     final fn cie_from_offset(&self, offset: usize) -> ReadResult<CommonInformationEntry<R>>
         ensures ok { IfOk result (λ c. cie_at_read is_eh (R.reading (reader self.now)).is_big
             (size self.now) (R.reading (reader self.now)).place offset
             (left (R.reading (reader self.now)))
             ≡ Ok (c.fields, left (R.reading c.instructions))) }
+        ensures rest { IfOk result (λ c. IsRestAt is_eh (size self.now) offset
+            (R.reading (reader self.now)) (R.reading c.instructions)) }
         ensures err { IfErr result (λ e. cie_at_read is_eh (R.reading (reader self.now)).is_big
             (size self.now) (R.reading (reader self.now)).place offset
             (left (R.reading (reader self.now))) ≡ Err e) }
@@ -150,6 +153,8 @@ fn read_cie_at<R: Reader>(
     ensures ok { IfOk result (λ c. cie_at_read is_eh (R.reading input.old).is_big size
         (R.reading input.old).place offset (left (R.reading input.old))
         ≡ Ok (c.fields, left (R.reading c.instructions))) }
+    ensures rest { IfOk result (λ c. IsRestAt is_eh size offset
+        (R.reading input.old) (R.reading c.instructions)) }
     ensures err { IfErr result (λ e. cie_at_read is_eh (R.reading input.old).is_big size
         (R.reading input.old).place offset (left (R.reading input.old)) ≡ Err e) }
 {

@@ -51,6 +51,9 @@ impl FrameTable {
         // There the entries are read one right behind another, and the last ends with the section.
         ensures whole { OnOk result (HoldsAlone (W.meaning w.old.0) (W.meaning w.new.0)
             (ReadsTable Debug (W.meaning w.old.0).is_big self.now)) }
+        // Numbers have the widths of their types, and entries the sizes of their texts.
+        ensures told { OnOk result (AreTold Debug self.now.cies.keys no_places
+            self.now.fdes.items (W.meaning w.old.0).size) }
     {
         self.write(&mut w.0, FrameKind::Debug)
     }
@@ -71,6 +74,9 @@ impl FrameTable {
         // There the entries are read one right behind another, and the last ends with the section.
         ensures whole { OnOk result (HoldsAlone (W.meaning w.old.0) (W.meaning w.new.0)
             (ReadsTable Eh (W.meaning w.old.0).is_big self.now)) }
+        // Numbers have the widths of their types, and entries the sizes of their texts.
+        ensures told { OnOk result (AreTold Eh self.now.cies.keys no_places
+            self.now.fdes.items (W.meaning w.old.0).size) }
     {
         self.write(&mut w.0, FrameKind::Eh)
     }
@@ -81,6 +87,8 @@ impl FrameTable {
             (ShowsTable kind (W.meaning w.old).is_big self.now)) }
         ensures whole { OnOk result (HoldsAlone (W.meaning w.old) (W.meaning w.new)
             (ReadsTable kind (W.meaning w.old).is_big self.now)) }
+        ensures told { OnOk result (AreTold kind self.now.cies.keys no_places
+            self.now.fdes.items (W.meaning w.old).size) }
     {
         let alloc = *self.fdes.allocator();
         write_frames(alloc, self.cies.as_slice(), self.fdes.as_slice(), w, kind)

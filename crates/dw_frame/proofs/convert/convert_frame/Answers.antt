@@ -3,9 +3,7 @@ use Rattle.dw_read.specs.Reading.{Reading, left}
 use Rattle.dw_read_frames.specs.declared.cie.CommonInformationEntry.{CommonInformationEntry as ReadCie}
 use Rattle.dw_sources.specs.ConvertErrors.{from_read}
 use Rattle.dw_frame.proofs.ConvertLaws.{is_err}
-use Rattle.dw_frame.specs.ConvertEntries.{IsCie, RefusesCie}
-use Rattle.dw_frame.specs.ConvertViews.{cie_terms}
-use Rattle.dw_frame.proofs.ConvertTableSteps.{by_place, fde_so, refuses_fde_so}
+use Rattle.dw_frame.proofs.ConvertTableSteps.{by_place, ends_by_place, cie_so, refuses_cie_so, fde_so, refuses_fde_so}
 use Rattle.dw_frame.proofs.convert.convert_frame.Goals as goal
 
 pub returns-in_err-common-clause-err : goal.returns-in_err-common-clause-err
@@ -40,9 +38,9 @@ returns-in_err-cie-clause-err g c =
       first = left (reading common.instructions);
       found = by_place _ _ _ _ _ _ _ _ c.cie_offset.ensures c.in_ok-common.ensures.ok;
       cause = inr (inl (record {
-        cie_big = (reading common.instructions).is_big;
         cie_end = (reading common.instructions).end;
-        refused = subst (λ (k : ReadCie _ _). RefusesCie answers (cie_terms reading k) (left (reading k.instructions)) why) (c.cie.ensures ∙ c.in_ok-read.ensures.cie) h;
+        ends = ends_by_place answers _ _ reading _ _ _ _ _ _ common c.cie_offset.ensures (c.cie.ensures ∙ c.in_ok-read.ensures.cie) c.in_ok-common.ensures.rest;
+        refused = refuses_cie_so answers _ _ reading _ _ _ _ _ _ common c.cie_offset.ensures (c.cie.ensures ∙ c.in_ok-read.ensures.cie) c.in_ok-common.ensures.rest why h;
       }));
     }))) c.in_err-cie.ensures.err)
 
@@ -81,8 +79,8 @@ returns-clause-ok g c =
       own = read.fields;
       more = left (reading read.instructions);
       says = took.value;
-      cie_big = (reading common.instructions).is_big;
       cie_end = (reading common.instructions).end;
-      cie = subst (λ (k : ReadCie _ _). IsCie answers (cie_terms reading k) (left (reading k.instructions)) c.in_ok-cie.cie) (c.cie.ensures ∙ c.in_ok-read.ensures.cie) c.in_ok-cie.ensures.ok;
+      ends = ends_by_place answers _ _ reading _ _ _ _ _ _ common c.cie_offset.ensures (c.cie.ensures ∙ c.in_ok-read.ensures.cie) c.in_ok-common.ensures.rest;
+      cie = cie_so answers _ _ reading _ _ _ _ _ _ common c.cie_offset.ensures (c.cie.ensures ∙ c.in_ok-read.ensures.cie) c.in_ok-common.ensures.rest _ c.in_ok-cie.ensures.ok;
       fde = fde_so answers _ _ _ _ _ _ _ _ (ap (λ (r : Reading). r.is_big) took.passes.is) (ap (λ (r : Reading). r.end) took.passes.is) (ap (λ (k : ReadCie _ _). k.fields) c.in_ok-read.ensures.cie) _ c.in_ok-fde.ensures.ok;
     }

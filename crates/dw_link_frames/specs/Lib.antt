@@ -1,0 +1,5 @@
+pub mod ErrorName
+pub mod Numbered
+pub mod Placed
+pub mod Written
+pub mod Outcome
