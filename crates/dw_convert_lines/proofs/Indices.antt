@@ -2,7 +2,7 @@
 use Rattle.std.proofs.Common.{◌≡◌, ◌∙◌, sym, subst, ℕ, suc, ◌+◌, get_or, ◌<◌, ◌≤◌, Bool, true, false, ◌||◌, List, [], ◌∷◌, ◌++◌, length, Option, Some, None, refl, arith, true≢false, length-append}
 use Rattle.std.specs.Prelude.{not, if◌then◌else◌, IsSome}
 use Rattle.std.specs.Option.{option_map}
-use Rattle.std.specs.List.{list_any, prefix_len, position_or_len}
+use Rattle.std.specs.List.{list_any, position_or_len}
 use Rattle.std.proofs.lemmas.List.Elements.{All-nil, All-cons, All-append}
 use Rattle.std.proofs.lemmas.List.Sums.{prefix_len-le-length}
 use Rattle.dw_base.specs.declared.ids.DirectoryId.{DirectoryId}
@@ -16,7 +16,7 @@ by_head : (b r : Bool) (m n : ℕ) → (b || r) ≡ true → (r ≡ true → m <
 by_head true r m n h f = omega arith
 by_head false r m n h f = let i : m < n = f h in omega arith
 
-found : {X : Type 0} (p : X → Bool) (xs : List X) → list_any p xs ≡ true → position_or_len p xs < length xs
+pub found : {X : Type 0} (p : X → Bool) (xs : List X) → list_any p xs ≡ true → position_or_len p xs < length xs
 found p [] h = absurd (true≢false (sym h))
 found p (x ∷ xs) h = by_head (p x) (list_any p xs) (position_or_len p xs) (length xs) h (found p xs)
 

@@ -8,3 +8,10 @@ pub mod WorkingLaws
 pub mod Beginnings
 pub mod Headers
 pub mod Told
+pub mod ReadingLaws
+pub mod StepLaws
+pub mod SequenceLaws
+pub mod EffectLaws
+pub mod ReachedLaws
+pub mod NextLaws
+pub mod BegunPrograms

@@ -5,4 +5,10 @@ pub mod Views
 pub mod Walks
 pub mod Entries
 pub mod HeaderImages
+pub mod ReadRows
+pub mod RegisterViews
+pub mod RegisterSteps
+pub mod RowImages
+pub mod RowOutcomes
+pub mod Effects
 pub mod ReadPrograms

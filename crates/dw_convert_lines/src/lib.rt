@@ -1,11 +1,19 @@
-//! Converts line programs that were read into line programs that are written: so far their headers,
-//! with the directories and files, for what converts the rows.
+//! Converts line programs that were read into line programs that are written: their directories and
+//! files, and the sequences that their instructions show.
 #![tactic(auto)]
 
-mod convert_line_program;
 mod entries;
 mod entry;
 mod header;
+mod machine;
 mod name;
 mod number;
+mod program;
+mod registers;
+mod row;
+mod rows;
+mod sequence;
+mod step;
 mod text;
+
+pub use program::{ConvertLineProgram, convert_line_program, read_line_program};

@@ -5,8 +5,8 @@ use Rattle.dw_line.specs.Instructions.{instruction_at}
 use Rattle.dw_read.specs.Reading.{Reading, Reads, Refuses, left}
 use Rattle.dw_read.specs.declared.error.ReadError.{ReadError}
 use Rattle.dw_read_lines.specs.LineHeaderViews.{machine_of}
-use Rattle.dw_read_lines.specs.LineInstructions.{instruction_read}
-use Rattle.dw_read_lines.specs.LineInstructionViews.{instruction_of}
+use Rattle.dw_read_lines.specs.LineInstructions.{instruction_read, extended_code}
+use Rattle.dw_read_lines.specs.LineInstructionViews.{instruction_of, code_of}
 use Rattle.dw_read_lines.specs.declared.header.LineProgramHeader.{LineProgramHeader}
 use Rattle.dw_read_lines.specs.declared.instruction.LineInstruction.{LineInstruction}
 use Rattle.dw_read_lines.specs.declared.instructions.LineInstructions.{LineInstructions}
@@ -24,6 +24,7 @@ module _ {R E : Type 0} (reading : R → Reading) (h : LineProgramHeader R E) (o
   pub record PassesInstruction (i : LineInstruction R E) : Type 0 where
     pub went_on : (old.has_failed ≡ false) × (new.has_failed ≡ false)
     pub instruction : Reads Instruction (instruction_at machine) (reading old.input) (reading new.input) (instruction_of reading i)
+    pub code : extended_code (reading old.input).is_big (left (reading old.input)) ≡ Ok (code_of i)
     pub progress : (reading old.input).place < (reading new.input).place
 
   -- the machine reads no instruction at the place, for this reason, and iteration ends there

@@ -1,6 +1,6 @@
 -- The instructions of the line machine, with the reason where one can't be read (DWARF 5, 6.2.5 and 7.22): a law says that they
 -- are those of the machine.
-use Rattle.std.specs.Prelude.{ℕ, zero, suc, ◌-◌, ◌==◌, nat_le, Bool, List, [], ◌∷◌, length, Result, Ok, Err, slice_index, if◌then◌else◌}
+use Rattle.std.specs.Prelude.{ℕ, zero, suc, ◌-◌, ◌==◌, nat_le, Bool, List, [], ◌∷◌, length, Option, Some, None, Result, Ok, Err, slice_index, if◌then◌else◌}
 use Rattle.dw_base.specs.Numbers.{value_of}
 use Rattle.dw_base.specs.declared.constants.TheConstants.{DW_LNS_copy, DW_LNS_advance_pc, DW_LNS_advance_line, DW_LNS_set_file, DW_LNS_set_column, DW_LNS_negate_stmt, DW_LNS_set_basic_block, DW_LNS_const_add_pc, DW_LNS_fixed_advance_pc, DW_LNS_set_prologue_end, DW_LNS_set_epilogue_begin, DW_LNS_set_isa, DW_LNE_end_sequence, DW_LNE_set_address, DW_LNE_set_discriminator}
 use Rattle.dw_line.specs.LineMachine.{LineHeader, Instruction, Copy, AdvancePc, AdvanceLine, SetFile, SetColumn, NegateStatement, SetBasicBlock, ConstAddPc, FixedAdvancePc, SetPrologueEnd, SetEpilogueBegin, SetIsa, Special, EndSequence, SetAddress, SetDiscriminator, Passed}
@@ -48,6 +48,14 @@ unfoldable pub extended_read : Bool → Read Instruction
 extended_read big bytes =
     uleb_read bytes =>> λ n. bytes_read n.0 n.1 =>> λ body. number_read big 1 body.0 =>> λ code.
     coded_read big code.0 code.1 =>> λ i. Ok (i, body.1)
+
+-- the code of an extended instruction after the zero that marks it
+unfoldable pub marked_code : Bool → List ℕ → Result (Option ℕ) ReadError
+marked_code big bytes = uleb_read bytes =>> λ n. bytes_read n.0 n.1 =>> λ body. number_read big 1 body.0 =>> λ code. Ok (Some code.0)
+
+-- the code of an instruction, where it is an extended one
+unfoldable pub extended_code : Bool → List ℕ → Result (Option ℕ) ReadError
+extended_code big bytes = number_read big 1 bytes =>> λ opcode. if opcode.0 == 0 then marked_code big opcode.1 else Ok None
 
 -- one instruction; from the header's base on, opcodes are special
 unfoldable pub instruction_read : LineHeader → Read Instruction

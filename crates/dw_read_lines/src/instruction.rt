@@ -1,13 +1,13 @@
 //! The instructions of the line machine (DWARF 5, 6.2.5 and 7.22).
 
-ghost use Rattle.std.specs.Prelude.{◌≡◌, ◌-◌, ◌<◌, ◌≤◌, IfOk, IfErr, OnOk, Ok, Err, slice_index};
+ghost use Rattle.std.specs.Prelude.{◌≡◌, ◌-◌, ◌<◌, ◌≤◌, IfOk, IfErr, OnOk, Some, None, Ok, Err, slice_index};
 ghost use Rattle.dw_read.specs.Reading.{left};
 ghost use Rattle.dw_read.specs.Took.{Took};
 ghost use Rattle.dw_line.specs.LineMachine.{Passed};
 ghost use Rattle.dw_read_lines.specs.LineHeaderViews.{machine_of};
-ghost use Rattle.dw_read_lines.specs.LineInstructions.{instruction_read, extended_read};
+ghost use Rattle.dw_read_lines.specs.LineInstructions.{instruction_read, extended_read, extended_code, marked_code};
 ghost use Rattle.dw_read_lines.specs.LineInstructions.{coded_read, standard_read, passed_read};
-ghost use Rattle.dw_read_lines.specs.LineInstructionViews.{instruction_of};
+ghost use Rattle.dw_read_lines.specs.LineInstructionViews.{instruction_of, code_of};
 
 use crate::parameters::Parameters;
 use dw_base::constants::{
@@ -67,6 +67,8 @@ pub(crate) fn read_instruction<R: Reader>(
     ensures ok { IfOk result (λ i. Took _
         (instruction_read (machine_of R.reading (R.reading input.old).is_big parameters.now))
         (R.reading input.old) (R.reading input.new) (instruction_of R.reading i)) }
+    ensures code { IfOk result (λ i. extended_code (R.reading input.old).is_big
+        (left (R.reading input.old)) ≡ Ok (code_of i)) }
     ensures progress { OnOk result
         ((R.reading input.old).place < (R.reading input.new).place) }
     ensures err { IfErr result (λ e. instruction_read
@@ -90,6 +92,8 @@ pub(crate) fn read_instruction<R: Reader>(
 fn read_extended<R: Reader>(input: &mut R) -> ReadResult<LineInstruction<R>>
     ensures ok { IfOk result (λ i. Took _ (extended_read (R.reading input.old).is_big)
         (R.reading input.old) (R.reading input.new) (instruction_of R.reading i)) }
+    ensures code { IfOk result (λ i. marked_code (R.reading input.old).is_big
+        (left (R.reading input.old)) ≡ Ok (code_of i)) }
     ensures err { IfErr result (λ e. extended_read (R.reading input.old).is_big
         (left (R.reading input.old)) ≡ Err e) }
 {
@@ -104,6 +108,7 @@ fn read_extended<R: Reader>(input: &mut R) -> ReadResult<LineInstruction<R>>
 fn read_coded<R: Reader>(body: &mut R, code: DwLne) -> ReadResult<LineInstruction<R>>
     ensures ok { IfOk result (λ i. coded_read (R.reading body.old).is_big code.0
         (left (R.reading body.old)) ≡ Ok (instruction_of R.reading i)) }
+    ensures code { IfOk result (λ i. code_of i ≡ Some code.0) }
     ensures err { IfErr result (λ e. coded_read (R.reading body.old).is_big code.0
         (left (R.reading body.old)) ≡ Err e) }
 {
@@ -127,6 +132,7 @@ fn read_standard<R: Reader>(
     ensures ok { IfOk result (λ i. Took _
         (standard_read (R.reading input.old).is_big count opcode.0)
         (R.reading input.old) (R.reading input.new) (instruction_of R.reading i)) }
+    ensures code { IfOk result (λ i. code_of i ≡ None) }
     ensures err { IfErr result (λ e. standard_read (R.reading input.old).is_big count opcode.0
         (left (R.reading input.old)) ≡ Err e) }
 {

@@ -1,4 +1,4 @@
-use Rattle.std.proofs.Common.{◌∙◌, sym, subst, refl, inl, inr, ℕ, ◌-◌}
+use Rattle.std.proofs.Common.{◌∙◌, sym, subst, refl, inl, inr, ℕ}
 use Rattle.std.specs.Prelude.{nat_le}
 use Rattle.dw_read.specs.Reading.{left}
 use Rattle.dw_read.specs.declared.error.ReadError.{ReadError}

@@ -1,4 +1,4 @@
-use Rattle.std.proofs.Common.{◌≡◌, ◌∙◌, sym, subst, ap, ap₂, inl, inr, ℕ, Bool, List, Result, Ok, Err}
+use Rattle.std.proofs.Common.{◌≡◌, ◌∙◌, subst, ap, ap₂, inl, inr, ℕ, Bool, List, Ok, Err}
 use Rattle.std.specs.Prelude.{nat_le}
 use Rattle.dw_base.specs.declared.ids.DirectoryId.{DirectoryId}
 use Rattle.dw_base.specs.declared.ids.FileId.{FileId}
@@ -11,7 +11,7 @@ use Rattle.dw_sources.specs.ConvertErrors.{from_read}
 use Rattle.dw_sources.specs.declared.convert_error.ConvertError.{ConvertError}
 use Rattle.dw_convert_lines.specs.Entries.{EntriesOutcome}
 use Rattle.dw_convert_lines.specs.EntryImages.{Converting, file_image}
-use Rattle.dw_convert_lines.specs.HeaderImages.{Working, working_image, first_ids}
+use Rattle.dw_convert_lines.specs.HeaderImages.{working_image, first_ids}
 use Rattle.dw_convert_lines.specs.Views.{texts_of, tables, converting}
 use Rattle.dw_convert_lines.proofs.Headers.{no_directories, no_working, no_directory, no_files, no_file, all_files, BeginsHeader, HasWorking, HasDirectories, BeginsFiles, working_at}
 use Rattle.dw_convert_lines.proofs.Reasons.{is_err}

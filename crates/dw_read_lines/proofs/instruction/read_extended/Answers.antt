@@ -7,7 +7,7 @@ use Rattle.dw_read.specs.Reasons.{uleb_read}
 use Rattle.dw_read.proofs.Chain.{took, took_of, went, went_of, went_then, went_order, number_took, number_not}
 use Rattle.dw_read.proofs.Laws.{uleb_law}
 use Rattle.dw_read.proofs.HeaderParts.{bytes_took}
-use Rattle.dw_read_lines.specs.LineInstructions.{coded_read, extended_read}
+use Rattle.dw_read_lines.specs.LineInstructions.{coded_read, extended_read, marked_code}
 use Rattle.dw_read_lines.specs.LineInstructionViews.{instruction_of}
 use Rattle.dw_read_lines.proofs.instruction.read_extended.Goals as goal
 
@@ -63,3 +63,15 @@ returns-clause-ok g c =
     let w = went_order _ _ (went_of 1 _ _ c.in_ok-code.ensures.passes) ∙ o in
     let e = subst (λ (b : Bool). coded_read b c.in_ok-code.code (left (reading c.read_u8.new.self)) ≡ Ok (instruction_of reading c.in_ok-instruction.instruction)) w c.in_ok-instruction.ensures.ok in
     took Instruction (extended_read big) _ _ _ (went_then _ _ _ (went _ _ _ _ _ t) (went_of _ _ _ c.in_ok-body.ensures.ok)) (rw (n1, n2, n3, e) refl)
+
+pub returns-clause-code : goal.returns-clause-code
+unfolding marked_code
+returns-clause-code g c =
+    let reading = g.R.Reader.reading in
+    let big = (reading c.args.input.now).is_big in
+    let t = took_of _ uleb_at uleb_read _ _ _ uleb_law c.in_ok-length.ensures.ok in
+    let n1 = t.value in
+    let n2 = bytes_took _ _ _ _ (g.met.R.Reader.is_reading c.read_uleb128.new.self) c.in_ok-body.ensures.part c.in_ok-body.ensures.ok in
+    let o = ap (λ (r : Reading). r.is_big) c.in_ok-body.ensures.part ∙ went_order _ _ (went _ _ _ _ _ t) in
+    let n3 = number_took big 1 _ _ _ o c.in_ok-code.ensures.ok in
+    rw (n1, n2, n3, c.in_ok-instruction.ensures.code) refl

@@ -7,8 +7,8 @@ use Rattle.dw_read.specs.Reading.{left}
 use Rattle.dw_read.specs.Took.{Took}
 use Rattle.dw_read.proofs.Chain.{took, went, went_of, went_then, went_order, number_took, number_not}
 use Rattle.dw_read_lines.specs.LineHeaderViews.{machine_of}
-use Rattle.dw_read_lines.specs.LineInstructions.{extended_read, standard_read, instruction_read}
-use Rattle.dw_read_lines.specs.LineInstructionViews.{instruction_of}
+use Rattle.dw_read_lines.specs.LineInstructions.{extended_read, standard_read, instruction_read, extended_code, marked_code}
+use Rattle.dw_read_lines.specs.LineInstructionViews.{instruction_of, code_of}
 use Rattle.dw_read_lines.proofs.Orders.{took_in, err_in, further}
 use Rattle.dw_read_lines.proofs.instruction.read_instruction.Goals as goal
 
@@ -73,3 +73,27 @@ returns-clause-ok g c =
     let k = subst (λ (n : ℕ). standard_read big n opcode (left (reading c.read_u8.new.self)) ≡ Ok (instruction_of reading c.in_ok-instruction-2.instruction, left (reading c.read_standard.new.input))) c.operand_count-count.ensures t in
     took Instruction (instruction_read (machine_of reading big c.args.parameters.now)) _ _ _ (went_then _ _ _ w1 (went _ _ _ _ _ s))
     (rw (n1, ne_eqb opcode 0 (omega arith), lt-leb c.args.parameters.now.opcode_base opcode (omega arith), k) refl)
+
+pub returns-then-opcode-eq0-clause-code : goal.returns-then-opcode-eq0-clause-code
+unfolding extended_code
+returns-then-opcode-eq0-clause-code g c =
+    let big = (g.R.Reader.reading c.args.input.now).is_big in
+    let n1 = number_took big 1 _ _ _ refl c.in_ok-opcode.ensures.ok in
+    let w1 = went_of 1 _ _ c.in_ok-opcode.ensures.passes in
+    let z : c.in_ok-opcode.opcode ≡ 0 = omega arith in
+    let k = subst (λ (b : Bool). marked_code b (left (g.R.Reader.reading c.read_u8.new.self)) ≡ Ok (code_of c.in_ok-instruction.instruction)) (went_order _ _ w1) c.in_ok-instruction.ensures.code in
+    rw (n1, z, k) refl
+
+pub returns-then-opcode-parameters-clause-code : goal.returns-then-opcode-parameters-clause-code
+unfolding extended_code
+returns-then-opcode-parameters-clause-code g c =
+    let big = (g.R.Reader.reading c.args.input.now).is_big in
+    let n1 = number_took big 1 _ _ _ refl c.in_ok-opcode.ensures.ok in
+    rw (n1, ne_eqb c.in_ok-opcode.opcode 0 (omega arith)) refl
+
+pub returns-clause-code : goal.returns-clause-code
+unfolding extended_code
+returns-clause-code g c =
+    let big = (g.R.Reader.reading c.args.input.now).is_big in
+    let n1 = number_took big 1 _ _ _ refl c.in_ok-opcode.ensures.ok in
+    rw (n1, ne_eqb c.in_ok-opcode.opcode 0 (omega arith), c.in_ok-instruction-2.ensures.code) refl

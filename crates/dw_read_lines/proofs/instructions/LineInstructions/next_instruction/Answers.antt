@@ -1,4 +1,4 @@
-use Rattle.std.proofs.Common.{◌≡◌, ◌∙◌, sym, ap, subst, ◌<◌, length, true, false, ⊎_elim, Err, refl}
+use Rattle.std.proofs.Common.{◌≡◌, ◌∙◌, sym, ap, subst, ◌<◌, length, true, false, ⊎_elim, Ok, Err, refl}
 use Rattle.dw_line.specs.LineMachine.{LineHeader, Instruction}
 use Rattle.dw_line.specs.Instructions.{instruction_at}
 use Rattle.dw_read.specs.Reading.{Reading, left}
@@ -6,8 +6,8 @@ use Rattle.dw_read.specs.Took.{Took}
 use Rattle.dw_read.proofs.Chain.{reads_of}
 use Rattle.dw_read.proofs.Laws.{refuses}
 use Rattle.dw_read_lines.specs.LineHeaderViews.{machine_of}
-use Rattle.dw_read_lines.specs.LineInstructions.{instruction_read}
-use Rattle.dw_read_lines.specs.LineInstructionViews.{instruction_of}
+use Rattle.dw_read_lines.specs.LineInstructions.{instruction_read, extended_code}
+use Rattle.dw_read_lines.specs.LineInstructionViews.{instruction_of, code_of}
 use Rattle.dw_read_lines.proofs.InstructionLaws.{instruction_law}
 use Rattle.dw_read_lines.proofs.instructions.LineInstructions.next_instruction.Goals as goal
 
@@ -22,6 +22,7 @@ returns-in-Ok g c =
     record {
       went_on = (c.if-self.false, c.if-self.false);
       instruction = reads_of Instruction (instruction_at (m old)) (instruction_read (m old)) old new i (instruction_law (m old)) t;
+      code = subst (λ (r : Reading). extended_code r.is_big (left r) ≡ Ok (code_of c.in-Ok.instruction)) c.duplicate-after.ensures c.in-Ok.ensures.code;
       progress = subst (λ (r : Reading). r.place < new.place) c.duplicate-after.ensures c.in-Ok.ensures.progress;
     }
 

@@ -3,9 +3,10 @@ use Rattle.std.specs.Prelude.{unwrap_or}
 use Rattle.dw_base.specs.declared.common.Encoding.{Encoding}
 use Rattle.dw_sources.specs.declared.convert_error.ConvertError.{ConvertError}
 use Rattle.dw_convert_lines.specs.Views.{texts_of, tables, converting}
+use Rattle.dw_convert_lines.proofs.BegunPrograms.{program_begun}
 use Rattle.dw_convert_lines.proofs.Reasons.{is_err}
 use Rattle.dw_convert_lines.proofs.Told.{told}
-use Rattle.dw_convert_lines.proofs.convert_line_program.begin_program.Goals as goal
+use Rattle.dw_convert_lines.proofs.program.begin_program.Goals as goal
 
 pub returns-in_err-parameters-clause-err : goal.returns-in_err-parameters-clause-err
 returns-in_err-parameters-clause-err g c =
@@ -34,3 +35,11 @@ returns-clause-ok g c =
     told _ _ reading (texts_of reading c.args.dwarf.now) c.args.encoding c.args.line_encoding (tables c.args.strings.now c.args.line_strings.now) (Ok (converting c.in_ok-converted.converted.0 c.in_ok-converted.converted.1.items c.convert_header.new.strings c.convert_header.new.line_strings)) c.args.program.now c.header-header.result.now c.line_encoding.result c.opcode_base.result c.unwrap_or-target.result
     c.header-header.ensures c.line_encoding.ensures c.opcode_base.ensures (c.unwrap_or-target.ensures ∙ ap (λ (x : Encoding). unwrap_or c.args.encoding x) c.encoding.ensures)
     (Ok c.in_ok-parameters.parameters, c.in_ok-parameters.ensures, c.in_ok-converted.ensures.ok)
+
+pub returns-clause-begun : goal.returns-clause-begun
+returns-clause-begun g c =
+    let reading = g.R.Reader.reading in
+    program_begun _ _ reading (texts_of reading c.args.dwarf.now) c.args.program.now c.args.encoding c.args.line_encoding (tables c.args.strings.now c.args.line_strings.now) (converting c.in_ok-converted.converted.0 c.in_ok-converted.converted.1.items c.convert_header.new.strings c.convert_header.new.line_strings)
+    (told _ _ reading (texts_of reading c.args.dwarf.now) c.args.encoding c.args.line_encoding (tables c.args.strings.now c.args.line_strings.now) (Ok (converting c.in_ok-converted.converted.0 c.in_ok-converted.converted.1.items c.convert_header.new.strings c.convert_header.new.line_strings)) c.args.program.now c.header-header.result.now c.line_encoding.result c.opcode_base.result c.unwrap_or-target.result
+    c.header-header.ensures c.line_encoding.ensures c.opcode_base.ensures (c.unwrap_or-target.ensures ∙ ap (λ (x : Encoding). unwrap_or c.args.encoding x) c.encoding.ensures)
+    (Ok c.in_ok-parameters.parameters, c.in_ok-parameters.ensures, c.in_ok-converted.ensures.ok))

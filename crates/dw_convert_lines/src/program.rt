@@ -1,14 +1,18 @@
 //! Line programs while they are converted.
 
-ghost use Rattle.std.specs.Prelude.{◌≡◌, ◌⊎◌, IfOk, IfErr, IfSome, Ok, Err};
+ghost use Rattle.std.specs.Prelude.{◌≡◌, ◌⊎◌, true, IfOk, IfErr, IfSome, Ok, Err};
+ghost use Rattle.dw_line.specs.LinePrograms.{file_count_of};
 ghost use Rattle.dw_sources.specs.declared.convert_error.ConvertError.TheVariants.{NoMemory};
 ghost use Rattle.dw_convert_lines.specs.EntryNames.{Tables};
 ghost use Rattle.dw_convert_lines.specs.HeaderImages.{IsWritable};
-ghost use Rattle.dw_convert_lines.specs.ReadPrograms.{ProgramOutcome};
+ghost use Rattle.dw_convert_lines.specs.ReadPrograms.{ProgramOutcome, RowsOutcome, LinesOutcome};
+ghost use Rattle.dw_convert_lines.specs.RowImages.{AreFiles};
+ghost use Rattle.dw_convert_lines.specs.RowOutcomes.{IsBegun, is_fresh};
 ghost use Rattle.dw_convert_lines.specs.Views.{texts_of, tables, converting};
 
 use crate::header::{convert_header, target_encoding};
-use dw_base::{Encoding, FileId, LineEncoding};
+use crate::rows::convert_rows;
+use dw_base::{Address, Encoding, FileId, LineEncoding};
 use dw_line::LineProgram;
 use dw_read::Reader;
 use dw_read_lines::IncompleteLineProgram;
@@ -26,6 +30,9 @@ pub struct ConvertLineProgram<'a, R: Reader> {
     pub(crate) program: LineProgram,
     /// The ids of the files by the numbers that were read.
     pub(crate) files: Vec<FileId>,
+    ghost fresh: { is_fresh program.program ≡ true },
+    ghost numbered: { AreFiles read.header.encoding.encoding.version files.items
+        (file_count_of program.program) },
 }
 
 /// Begins to convert a program that was read: its parameters, directories and files.
@@ -42,6 +49,8 @@ pub(crate) fn begin_program<R: Reader>(
     ensures ok { IfOk result (λ x. ProgramOutcome R.reading (texts_of R.reading dwarf.now)
         program.now encoding line_encoding (tables strings.old line_strings.old)
         (Ok (converting x.0 x.1.items strings.new line_strings.new))) }
+    ensures begun { IfOk result
+        (λ x. IsBegun program.now.header.encoding.encoding.version x.0 x.1.items) }
     ensures err { IfErr result (λ e. (e ≡ NoMemory) ⊎ ProgramOutcome R.reading
         (texts_of R.reading dwarf.now) program.now encoding line_encoding
         (tables strings.old line_strings.old) (Err e)) }
@@ -72,6 +81,7 @@ pub(crate) fn begin_program<R: Reader>(
 /// ```
 /// let program = IncompleteLineProgram::new(&dwarf, offset, 8)?;
 /// let converting = read_line_program(alloc, &dwarf, program, None, None, lines, strings)?;
+/// let (program, files) = converting.convert(&|address| Some(Address::Constant(address)))?;
 /// ```
 pub fn read_line_program<'a, R: Reader>(
     alloc: Global,
@@ -107,4 +117,83 @@ pub fn read_line_program<'a, R: Reader>(
         program: target,
         files,
     })
+}
+
+impl<R: Reader> ConvertLineProgram<'_, R> {
+    /// Adds the sequences that the line machine reads behind the header, each at what the caller
+    /// makes of the address that is set last before its first row, and answers the program with the
+    /// ids of its files by the numbers that were read; up to version 4 the first of these, of the
+    /// number 0, stands for none. Rows count their offsets from the address that was read.
+    ///
+    /// Refused are an address of which the caller makes nothing as `InvalidAddress`, a row of a
+    /// file that isn't in the list as `InvalidFileIndex`, a sum of the machine that falls below 0
+    /// or passes 64 bits as `IntegerOverflow`, and as `UnsupportedLineProgram` an instruction that
+    /// defines a file, an offset that falls or is no multiple of the target's minimum instruction
+    /// length, and a sequence that isn't ended (DWARF 5, 6.2.5).
+    pub fn convert<F: Fn(u64) -> Option<Address>>(
+        self,
+        convert_address: &F,
+    ) -> ConvertResult<(LineProgram, Vec<FileId>)>
+        requires { F.IsAlwaysCallable convert_address.now }
+        ensures ok { IfOk result (λ x. RowsOutcome R.reading (F.post convert_address.now)
+            self.entry.read.header self.entry.files.items self.entry.program (Ok x.0)) }
+        ensures files { IfOk result (λ x. x.1 ≡ self.entry.files) }
+        ensures err { IfErr result (λ e. (e ≡ NoMemory) ⊎ RowsOutcome R.reading
+            (F.post convert_address.now) self.entry.read.header self.entry.files.items
+            self.entry.program (Err e)) }
+    {
+        let ConvertLineProgram {
+            read,
+            mut program,
+            files,
+            ..
+        } = self;
+        convert_rows(
+            read.header(),
+            files.as_slice(),
+            &mut program,
+            convert_address,
+        )?;
+        Ok((program, files))
+    }
+}
+
+/// Converts a program that was read as a whole, as `read_line_program` and then
+/// `ConvertLineProgram::convert` do, and tells the tables that the names went into.
+pub fn convert_line_program<R: Reader, F: Fn(u64) -> Option<Address>>(
+    alloc: Global,
+    dwarf: &Dwarf<R>,
+    program: &IncompleteLineProgram<R>,
+    encoding: Option<Encoding>,
+    line_encoding: Option<LineEncoding>,
+    line_strings: &mut LineStringTable,
+    strings: &mut StringTable,
+    convert_address: &F,
+) -> ConvertResult<(LineProgram, Vec<FileId>)>
+    requires parameters { IfSome line_encoding IsWritable }
+    requires callable { F.IsAlwaysCallable convert_address.now }
+    ensures ok { IfOk result (λ x. LinesOutcome R.reading (F.post convert_address.now) program.now
+        (texts_of R.reading dwarf.now) encoding line_encoding
+        (tables strings.old line_strings.old)
+        (Ok (converting x.0 x.1.items strings.new line_strings.new))) }
+    ensures err { IfErr result (λ e. (e ≡ NoMemory) ⊎ LinesOutcome R.reading
+        (F.post convert_address.now) program.now (texts_of R.reading dwarf.now) encoding
+        line_encoding (tables strings.old line_strings.old) (Err e)) }
+{
+    let (mut target, files) = begin_program(
+        alloc,
+        dwarf,
+        program,
+        encoding,
+        line_encoding,
+        line_strings,
+        strings,
+    )?;
+    convert_rows(
+        program.header(),
+        files.as_slice(),
+        &mut target,
+        convert_address,
+    )?;
+    Ok((target, files))
 }
