@@ -9,7 +9,7 @@ use Rattle.dw_writer.proofs.NewLemmas.{IsEmptyWriter-from_plain}
 use Rattle.dw_writer.specs.declared.sections.Sections.{Sections}
 use Rattle.dw_line.specs.Parts.{NoCause}
 use Rattle.dw_unit.specs.Built.{Starts, at_begin}
-use Rattle.dw_unit.specs.Elsewhere.{End, end_of}
+use Rattle.dw_unit.specs.Elsewhere.{ends_of}
 use Rattle.dw_unit.specs.Causes.{UnitsFail, UnitsRefused, RefusesAny, ReferencesFail}
 use Rattle.dw_unit.specs.Pending.{Kept, AreInRow, units_draft, info_at, info_of, starts_of}
 use Rattle.dw_unit.specs.UnitFaults.{holes_fail}
@@ -19,10 +19,10 @@ use Rattle.dw_unit.specs.Written.{to_write}
 use Rattle.dw_unit.proofs.Faults.{because-map}
 use Rattle.dw_unit.proofs.PendingSteps.{pending_none}
 use Rattle.dw_unit.proofs.TableLaws.{info_kept, unwritten_keeps, to_write-unwritten, units_unfailing, one_row}
-use Rattle.dw_dwarf.specs.Valid.{AreUnwritten, IsValid, IsValidAt, SomeReferenceFails, DwarfFails, DwarfRefused, found_from, found_in, no_lines, extra_fails, settled_units}
+use Rattle.dw_dwarf.specs.Valid.{AreUnwritten, IsValid, IsValidAt, SomeReferenceFails, DwarfFails, DwarfRefused, found_from, found_in, empty_ends, extra_fails, settled_units}
 use Rattle.dw_dwarf.specs.Written.{AreNewPlain, AreNew}
 use Rattle.dw_dwarf.specs.DwarfValue.{DwarfValue}
-use Rattle.dw_dwarf.proofs.Held.{WritesWhole}
+use Rattle.dw_dwarf.proofs.Held.{WritesWhole, ends_are}
 
 -- plain sections are some of any kind
 pub AreNew-from_plain : {W : Type 0} (meaning : W → Meaning) (s : Sections W) → AreNewPlain meaning s → AreNew meaning s
@@ -30,14 +30,18 @@ AreNew-from_plain meaning s empty = record {
   info = IsEmptyWriter-from_plain (meaning s.debug_info.0) (meaning s.debug_info.0).is_big empty.writers.debug_info;
   abbrevs = IsEmptyWriter-from_plain (meaning s.debug_abbrev.0) (meaning s.debug_abbrev.0).is_big empty.writers.debug_abbrev;
   lines = IsEmptyWriter-from_plain (meaning s.debug_line.0) (meaning s.debug_line.0).is_big empty.writers.debug_line;
+  ranges = IsEmptyWriter-from_plain (meaning s.debug_ranges.0) (meaning s.debug_ranges.0).is_big empty.writers.debug_ranges;
+  range_lists = IsEmptyWriter-from_plain (meaning s.debug_rnglists.0) (meaning s.debug_rnglists.0).is_big empty.writers.debug_rnglists;
   kind = empty.writers.debug_line.plain ∙ sym empty.writers.debug_info.plain;
+  ranges_kind = empty.writers.debug_ranges.plain ∙ sym empty.writers.debug_info.plain;
+  range_lists_kind = empty.writers.debug_rnglists.plain ∙ sym empty.writers.debug_info.plain;
   fixups = empty.fixups;
 }
 
 -- what was written was valid
 pub whole_valid : {W : Type 0} (meaning : W → Meaning) (old new : Sections W) (d : DwarfValue) → AreWritable (meaning old.debug_info.0).is_plain (found_in meaning old d) (meaning old.debug_abbrev.0).size d.units →
-    WritesWhole meaning old new (settled_units (end_of (meaning old.debug_line.0)) d) → NoCause (extra_fails (meaning old.debug_line.0).is_plain d) →
-    IsValidAt (meaning old.debug_info.0).is_plain (starts_of meaning old) (end_of (meaning old.debug_line.0)) d
+    WritesWhole meaning old new (settled_units (ends_of meaning old) d) → NoCause (extra_fails (meaning old.debug_line.0).is_plain d) →
+    IsValidAt (meaning old.debug_info.0).is_plain (starts_of meaning old) (ends_of meaning old) d
 whole_valid meaning old new d units whole extra = record {
   units = units;
   references = record { kept = whole.kept; in_row = whole.adds.units.in_row; lead = whole.lead };
@@ -49,11 +53,11 @@ pub whole_refused : {W : Type 0} (meaning : W → Meaning) (old new : Sections W
     DwarfRefused meaning old new d err
 whole_refused {W} meaning old new d vs err none unwritten any =
     because-map {p = λ e. UnitsFail (meaning old.debug_info.0).is_plain (found_in meaning old d) (meaning old.debug_abbrev.0).size d.units e ⊎ ReferencesFail meaning old d.units vs (found_in meaning old d) [] [] e}
-    {q = DwarfFails (meaning old.debug_info.0).is_plain (starts_of meaning old) (end_of (meaning old.debug_line.0)) d}
+    {q = DwarfFails (meaning old.debug_info.0).is_plain (starts_of meaning old) (ends_of meaning old) d}
     (λ r. r) (λ e h. by_case e h) err (any old [] [] none (pending_none meaning old))
   where
     by_case : (e : Error) → UnitsFail (meaning old.debug_info.0).is_plain (found_in meaning old d) (meaning old.debug_abbrev.0).size d.units e ⊎ ReferencesFail meaning old d.units vs (found_in meaning old d) [] [] e →
-        DwarfFails (meaning old.debug_info.0).is_plain (starts_of meaning old) (end_of (meaning old.debug_line.0)) d e
+        DwarfFails (meaning old.debug_info.0).is_plain (starts_of meaning old) (ends_of meaning old) d e
     by_case e (inl h) = inl h
     by_case e (inr h) =
         let ns = to_write (found_in meaning old d) d.units in
@@ -75,16 +79,16 @@ not_both false t f = absurd (let x : false ≡ true = t in cc)
 
 -- A valid Dwarf has no cause to be refused.
 module _ (plain : Bool) (d : DwarfValue) (valid : IsValid plain d) (err : Error) where
-  references_fail : SomeReferenceFails plain at_begin (settled_units (no_lines plain) d) err → ⊥
+  references_fail : SomeReferenceFails plain at_begin (settled_units (empty_ends plain) d) err → ⊥
   references_fail h =
-      let us = settled_units (no_lines plain) d in
+      let us = settled_units (empty_ends plain) d in
       let own = valid.references in
       let same = one_row at_begin us own.kept h.kept own.in_row h.in_row in
       not_both (holes_fail (info_of us h.kept) plain (units_draft us h.kept).holes err) h.fails
       (subst (λ (ks : List Kept). IsFalse (holes_fail (info_of us ks) plain (units_draft us ks).holes err)) same (own.lead err))
 
-  pub valid_unfailing : DwarfFails plain at_begin (no_lines plain) d err → ⊥
-  valid_unfailing (inl h) = units_unfailing plain (found_from (no_lines plain) d) 0 d.units valid.units err h
+  pub valid_unfailing : DwarfFails plain at_begin (empty_ends plain) d err → ⊥
+  valid_unfailing (inl h) = units_unfailing plain (found_from (empty_ends plain) d) 0 d.units valid.units err h
   valid_unfailing (inr (inl h)) = references_fail h
   valid_unfailing (inr (inr h)) = not_both (extra_fails plain d err) h (valid.extra err)
 
@@ -95,15 +99,14 @@ module _ {W : Type 0} (meaning : W → Meaning) (old new : Sections W) (empty : 
   begins : starts_of meaning old ≡ at_begin
   begins = starts_are (starts_of meaning old) at_begin empty.info.size empty.abbrevs.size
 
-  lines_begin : end_of (meaning old.debug_line.0) ≡ no_lines plain
-  lines_begin =
-      ap (λ n. let e : End = record { size = n; is_plain = (meaning old.debug_line.0).is_plain } in e) empty.lines.size ∙ ap (λ b. let e : End = record { size = 0; is_plain = b } in e) empty.kind
+  ends_begin : ends_of meaning old ≡ empty_ends plain
+  ends_begin = ends_are (meaning old.debug_line.0) (meaning old.debug_ranges.0) (meaning old.debug_rnglists.0) plain empty.lines.size empty.kind empty.ranges.size empty.ranges_kind empty.range_lists.size empty.range_lists_kind
 
-  at_zero : (err : Error) → DwarfFails plain (starts_of meaning old) (end_of (meaning old.debug_line.0)) d err → DwarfFails plain at_begin (no_lines plain) d err
-  at_zero err h = subst (λ e. DwarfFails plain at_begin e d err) lines_begin (subst (λ at. DwarfFails plain at (end_of (meaning old.debug_line.0)) d err) begins h)
+  at_zero : (err : Error) → DwarfFails plain (starts_of meaning old) (ends_of meaning old) d err → DwarfFails plain at_begin (empty_ends plain) d err
+  at_zero err h = subst (λ e. DwarfFails plain at_begin e d err) ends_begin (subst (λ at. DwarfFails plain at (ends_of meaning old) d err) begins h)
 
   -- what a refusal comes to that isn't want of memory
-  pub dwarf_fails : (err : Error) → (err ≡ errors.NoMemory → ⊥) → DwarfRefused meaning old new d err → DwarfFails plain at_begin (no_lines plain) d err
+  pub dwarf_fails : (err : Error) → (err ≡ errors.NoMemory → ⊥) → DwarfRefused meaning old new d err → DwarfFails plain at_begin (empty_ends plain) d err
   dwarf_fails errors.NoMemory some r = absurd (some refl)
   dwarf_fails errors.WriteFault some r = absurd (calm r)
   dwarf_fails err some r = at_zero err r
@@ -114,12 +117,13 @@ module _ {W : Type 0} (meaning : W → Meaning) (old new : Sections W) (empty : 
   dwarf_complete valid err r = absurd (valid_unfailing plain d valid err (at_zero err r))
 
 -- what is valid where new plain sections begin is valid
-pub starts_valid : {W : Type 0} (meaning : W → Meaning) (old : Sections W) (d : DwarfValue) → AreNewPlain meaning old → IsValidAt (meaning old.debug_info.0).is_plain (starts_of meaning old) (end_of (meaning old.debug_line.0)) d → IsValid true d
+pub starts_valid : {W : Type 0} (meaning : W → Meaning) (old : Sections W) (d : DwarfValue) → AreNewPlain meaning old → IsValidAt (meaning old.debug_info.0).is_plain (starts_of meaning old) (ends_of meaning old) d → IsValid true d
 starts_valid meaning old d empty valid =
     let plain = (meaning old.debug_info.0).is_plain in
     let at = starts_are (starts_of meaning old) at_begin empty.writers.debug_info.size empty.writers.debug_abbrev.size in
-    let lines : end_of (meaning old.debug_line.0) ≡ no_lines true =
-    ap (λ n. let e : End = record { size = n; is_plain = (meaning old.debug_line.0).is_plain } in e) empty.writers.debug_line.size ∙ ap (λ b. let e : End = record { size = 0; is_plain = b } in e) empty.writers.debug_line.plain
+    let w = empty.writers in
+    let ends : ends_of meaning old ≡ empty_ends true =
+    ends_are (meaning old.debug_line.0) (meaning old.debug_ranges.0) (meaning old.debug_rnglists.0) true w.debug_line.size w.debug_line.plain w.debug_ranges.size w.debug_ranges.plain w.debug_rnglists.size w.debug_rnglists.plain
     in
-    subst (λ b. IsValidAt b at_begin (no_lines true) d) empty.writers.debug_info.plain
-    (subst (λ e. IsValidAt plain at_begin e d) lines (subst (λ s. IsValidAt plain s (end_of (meaning old.debug_line.0)) d) at valid))
+    subst (λ b. IsValidAt b at_begin (empty_ends true) d) empty.writers.debug_info.plain
+    (subst (λ e. IsValidAt plain at_begin e d) ends (subst (λ s. IsValidAt plain s (ends_of meaning old) d) at valid))

@@ -1,5 +1,5 @@
 -- New sections hold the Dwarf that was written into them.
-use Rattle.std.specs.Prelude.{◌≡◌, ℕ, suc, ◌+◌, Bool, true, List, [], ◌∷◌, ◌++◌, Some, None, All, refl, IsFalse, if◌then◌else◌}
+use Rattle.std.specs.Prelude.{◌≡◌, ℕ, suc, ◌+◌, Bool, true, List, [], ◌∷◌, ◌++◌, Some, None, All, refl, IsFalse, if◌then◌else◌, false}
 use Rattle.std.proofs.lemmas.List.Elements.{All-head, All-tail}
 use Rattle.std.proofs.Common.{sym, ◌∙◌, ap, subst}
 use Rattle.dw_base.specs.declared.error.Error.{Error}
@@ -11,22 +11,26 @@ use Rattle.dw_writer.specs.New.{IsEmptyPlainWriter, IsEmptyWriter, IsNewPlain}
 use Rattle.dw_writer.proofs.NewLemmas.{EachWriter-map, IsEmptyWriter-from_plain}
 use Rattle.dw_writer.specs.declared.sections.Sections.{Sections}
 use Rattle.dw_writer.proofs.Steps.{Adds-appends}
-use Rattle.dw_writer.specs.Meaning.{Model, Adds}
+use Rattle.dw_writer.specs.Meaning.{Model, Adds, Appends}
 use Rattle.dw_strings.specs.Strings.{string_bytes}
 use Rattle.dw_line.specs.Parts.{sizes, texts}
 use Rattle.dw_line.specs.LinePrograms.{line_program_size, line_program_text}
 use Rattle.dw_unit.specs.Built.{Built, Numbered, at_zero, settled_at, numbered_from, whole_file}
-use Rattle.dw_unit.specs.Elsewhere.{End, Elsewhere, end_of, line_size, line_text, new_line_size, new_line_text, AppendsBehind}
+use Rattle.dw_unit.specs.Elsewhere.{End, Ends, Elsewhere, end_of, ends_of, line_size, line_text, range_size, range_text, new_size, new_text, AppendsBehind, AppendsAllRanges}
 use Rattle.dw_unit.specs.Pending.{Kept, units_draft, tables_of, info_at, info_of}
 use Rattle.dw_unit.specs.UnitFaults.{holes_fail}
 use Rattle.dw_unit.specs.UnitValue.{UnitValue}
+use Rattle.dw_unit.specs.Valid.{AreWritable}
 use Rattle.dw_unit.specs.Written.{AppendsUnits, CompletesAny, to_write}
 use Rattle.dw_unit.proofs.Files.{empty_tidy, resolved-empty, resolved-plain, units_held, units_resolved}
 use Rattle.dw_unit.proofs.PendingSteps.{pending_none}
 use Rattle.dw_unit.proofs.TableLaws.{info_kept, unwritten_keeps, to_write-unwritten}
 use Rattle.dw_dwarf.specs.DwarfValue.{DwarfValue}
-use Rattle.dw_dwarf.specs.Valid.{IsUnwritten, AreUnwritten, found_from, found_in, no_lines, settled_units}
-use Rattle.dw_dwarf.specs.Written.{AreNewPlain, AreNew, SectionTexts, dwarf_lines, HoldsDwarf, ResolvesTo, AddsLines, AddsStrings, KeepsOthers}
+use Rattle.dw_dwarf.specs.Lists.{InOrder, FindAllLists}
+use Rattle.dw_dwarf.proofs.RangesThere.{ranges_all_there}
+use Rattle.dw_dwarf.proofs.ListsFound.{all_found}
+use Rattle.dw_dwarf.specs.Valid.{IsUnwritten, AreUnwritten, found_from, found_in, empty_end, empty_ends, settled_units}
+use Rattle.dw_dwarf.specs.Written.{AreNewPlain, AreNew, SectionTexts, dwarf_lines, dwarf_ranges, Orders, one_order, HoldsDwarf, ResolvesTo, AddsLines, AddsStrings, KeepsOthers}
 
 followed_by : (t : Text) → followed (Some []) t ≡ t
 unfolding followed
@@ -40,21 +44,33 @@ told_alone a b xs none p = p.told ∙ ap (λ t. followed t (Some xs)) none ∙ f
 some_is : {A : Type 0} (x y : A) → Some x ≡ Some y → x ≡ y
 some_is x y h = cc
 
+-- Ends
+
+-- where sections end that are empty
+end_is : (m : Meaning) (plain : Bool) → m.size ≡ 0 → m.is_plain ≡ plain → end_of m ≡ empty_end plain
+end_is m plain none kind = ap (λ n. let e : End = record { size = n; is_plain = m.is_plain } in e) none ∙ ap (λ b. let e : End = record { size = 0; is_plain = b } in e) kind
+
+pub ends_are : (a b c : Meaning) (plain : Bool) → a.size ≡ 0 → a.is_plain ≡ plain → b.size ≡ 0 → b.is_plain ≡ plain → c.size ≡ 0 → c.is_plain ≡ plain →
+    ◌≡◌ {A = Ends} (record { lines = end_of a; ranges = end_of b; range_lists = end_of c }) (empty_ends plain)
+ends_are a b c plain a0 ak b0 bk c0 ck =
+    let ends = λ (x y z : End). let e : Ends = record { lines = x; ranges = y; range_lists = z } in e in
+    ap (λ x. ends x (end_of b) (end_of c)) (end_is a plain a0 ak) ∙ ap (λ y. ends (empty_end plain) y (end_of c)) (end_is b plain b0 bk) ∙ ap (ends (empty_end plain) (empty_end plain)) (end_is c plain c0 ck)
+
 -- Line programs
 
 -- what is added to .debug_line
 abbrev pub added_lines : DwarfValue → Model
-added_lines d big l = followed (texts (new_line_text d.line_strings d.strings) d.units big l) (texts (line_program_text d.strings d.line_strings) d.line_programs big l)
+added_lines d big l = followed (texts (new_text (line_text d.line_strings d.strings)) d.units big l) (texts (line_program_text d.strings d.line_strings) d.line_programs big l)
 
--- where no unit was written before, those of all units are
+-- where no unit was written before, what all of them add is what those that weren't do
+pub texts_as : (text : UnitValue → Model) (us : List UnitValue) → All IsUnwritten us → (big : Bool) (l : Layout) → texts text us big l ≡ texts (new_text text) us big l
+texts_as text [] all big l = refl
+texts_as text (u ∷ us) all big l =
+    ap (λ t. followed t (texts text us big l)) (ap (λ (b : Bool). if b then Some [] else text u big l) (sym (All-head IsUnwritten u us all)))
+    ∙ ap (followed (new_text text u big l)) (texts_as text us (All-tail IsUnwritten u us all) big l)
+
 pub lines_as : (d : DwarfValue) → AreUnwritten d → (big : Bool) (l : Layout) → dwarf_lines d big l ≡ added_lines d big l
-lines_as d unwritten big l = ap (λ t. followed t (texts (line_program_text d.strings d.line_strings) d.line_programs big l)) (same d.units unwritten)
-  where
-    same : (us : List UnitValue) → All IsUnwritten us → texts (line_text d.line_strings d.strings) us big l ≡ texts (new_line_text d.line_strings d.strings) us big l
-    same [] all = refl
-    same (u ∷ us) all =
-        ap (λ t. followed t (texts (line_text d.line_strings d.strings) us big l)) (ap (λ (b : Bool). if b then Some [] else line_text d.line_strings d.strings u big l) (sym (All-head IsUnwritten u us all)))
-        ∙ ap (followed (new_line_text d.line_strings d.strings u big l)) (same us (All-tail IsUnwritten u us all))
+lines_as d unwritten big l = ap (λ t. followed t (texts (line_program_text d.strings d.line_strings) d.line_programs big l)) (texts_as (line_text d.line_strings d.strings) d.units unwritten big l)
 
 -- what is told behind nothing is what was added
 pub behind_nothing : (t u : Text) (bytes : List ℕ) → ((ys : List ℕ) → t ≡ Some ys → ys ≡ []) → followed t u ≡ Some bytes → u ≡ Some bytes
@@ -65,7 +81,7 @@ behind_nothing (Some ys) (Some xs) bytes none h = ap (λ zs. Some (zs ++ xs)) (s
 
 -- over an empty plain writer they stand there
 lines_held : (old new : Meaning) (d : DwarfValue) → IsEmptyPlainWriter old old.is_big → (new.is_plain ≡ true → new.records ≡ []) →
-    AppendsBehind old new (sizes new_line_size d.units + sizes line_program_size d.line_programs) (added_lines d) →
+    AppendsBehind old new (sizes (new_size line_size) d.units + sizes line_program_size d.line_programs) (added_lines d) →
     (xs : List ℕ) × (new.bytes ≡ Some xs) × (added_lines d old.is_big at_zero ≡ Some xs)
 lines_held old new d empty law p =
     let tidy = empty_tidy old.is_big old (IsEmptyWriter-from_plain old old.is_big empty) in
@@ -76,18 +92,53 @@ lines_held old new d empty law p =
     let nothing = resolved-plain old empty.plain empty.records ∙ empty.bytes in
     (front.added, told, behind_nothing (resolved at_zero old) (added_lines d old.is_big at_zero) front.added (λ ys is. sym (some_is [] ys (sym nothing ∙ is))) here)
 
--- the numbers of units don't hang on whether writers are plain
-numbered-plain : (n : ℕ) (a b : Bool) (line_strings strings : List (List ℕ)) (at : ℕ) (us : List UnitValue) →
-    numbered_from n (record { line_strings = line_strings; strings = strings; lines = record { size = at; is_plain = a } }) us
-    ≡ numbered_from n (record { line_strings = line_strings; strings = strings; lines = record { size = at; is_plain = b } }) us
-numbered-plain n a b line_strings strings at [] = refl
-numbered-plain n a b line_strings strings at (u ∷ us) =
-    let t : Elsewhere = record { line_strings = line_strings; strings = strings; lines = record { size = at; is_plain = a } } in
-    ap (λ xs. settled_at n t u ∷ xs) (numbered-plain (suc n) a b line_strings strings (at + line_size u) us)
+-- what units find where their own parts begin at these places
+abbrev found_at : List (List ℕ) → List (List ℕ) → ℕ → Bool → ℕ → Bool → ℕ → Bool → Elsewhere
+found_at line_strings strings lines a ranges b range_lists c = record {
+  line_strings = line_strings;
+  strings = strings;
+  ends = record { lines = record { size = lines; is_plain = a }; ranges = record { size = ranges; is_plain = b }; range_lists = record { size = range_lists; is_plain = c } };
+}
 
-pub units_from_begin : (e : End) (d : DwarfValue) → e.size ≡ 0 → settled_units e d ≡ settled_units (no_lines true) d
-units_from_begin e d none =
-    ap (λ n. let x : End = record { size = n; is_plain = e.is_plain } in settled_units x d) none ∙ numbered-plain 0 e.is_plain true d.line_strings d.strings 0 d.units
+-- what is added to an empty section is all that resolves in it
+pub resolved_alone : (old new : Meaning) (n : ℕ) (text : Model) → IsEmptyWriter old old.is_big → Appends old new n text → (l : Layout) (xs : List ℕ) → resolved l new ≡ Some xs → text new.is_big l ≡ Some xs
+resolved_alone old new n text empty p l xs h =
+    ap (λ b. text b l) p.same.order
+    ∙ behind_nothing (resolved l old) (text old.is_big l) xs (λ ys is. resolved-empty old.is_big l old ys empty is) (sym (p.resolves (empty_tidy old.is_big old empty) l) ∙ h)
+
+-- over an empty plain writer a text that is there stands there
+plain_alone : (old new : Meaning) (n : ℕ) (text : Model) (xs : List ℕ) → IsEmptyPlainWriter old old.is_big → (new.is_plain ≡ true → new.records ≡ []) → Appends old new n text → text old.is_big at_zero ≡ Some xs → new.bytes ≡ Some xs
+plain_alone old new n text xs empty law p is =
+    let tidy = empty_tidy old.is_big old (IsEmptyWriter-from_plain old old.is_big empty) in
+    let plain : new.is_plain ≡ true = p.same.kind ∙ empty.plain in
+    sym (resolved-plain new plain (law plain))
+    ∙ p.resolves tidy at_zero
+    ∙ ap (λ t. followed t (text old.is_big at_zero)) (resolved-plain old empty.plain empty.records ∙ empty.bytes)
+    ∙ followed_by (text old.is_big at_zero)
+    ∙ is
+
+-- Range lists over new sections
+module _ {W : Type 0} (meaning : W → Meaning) (old new : Sections W) (d : DwarfValue) (unwritten : AreUnwritten d) (p : AppendsAllRanges meaning old new d.units) where
+  pub ranges_resolved : IsEmptyWriter (meaning old.debug_ranges.0) (meaning old.debug_ranges.0).is_big → (l : Layout) (xs : List ℕ) → resolved l (meaning new.debug_ranges.0) ≡ Some xs → dwarf_ranges false d (meaning new.debug_ranges.0).is_big l ≡ Some xs
+  ranges_resolved empty l xs h = texts_as (range_text false) d.units unwritten (meaning new.debug_ranges.0).is_big l ∙ resolved_alone (meaning old.debug_ranges.0) (meaning new.debug_ranges.0) _ _ empty p.ranges l xs h
+
+  pub range_lists_resolved : IsEmptyWriter (meaning old.debug_rnglists.0) (meaning old.debug_rnglists.0).is_big → (l : Layout) (xs : List ℕ) → resolved l (meaning new.debug_rnglists.0) ≡ Some xs → dwarf_ranges true d (meaning new.debug_rnglists.0).is_big l ≡ Some xs
+  range_lists_resolved empty l xs h =
+      texts_as (range_text true) d.units unwritten (meaning new.debug_rnglists.0).is_big l ∙ resolved_alone (meaning old.debug_rnglists.0) (meaning new.debug_rnglists.0) _ _ empty p.range_lists l xs h
+
+-- the numbers of units don't hang on whether writers are plain
+numbered-plain : (n : ℕ) (line_strings strings : List (List ℕ)) (a b : Bool) (c d e f : Bool) (lines ranges range_lists : ℕ) (us : List UnitValue) →
+    numbered_from n (found_at line_strings strings lines a ranges c range_lists e) us ≡ numbered_from n (found_at line_strings strings lines b ranges d range_lists f) us
+numbered-plain n line_strings strings a b c d e f lines ranges range_lists [] = refl
+numbered-plain n line_strings strings a b c d e f lines ranges range_lists (u ∷ us) =
+    ap (λ xs. settled_at n (found_at line_strings strings lines a ranges c range_lists e) u ∷ xs)
+    (numbered-plain (suc n) line_strings strings a b c d e f (lines + line_size u) (ranges + range_size false u) (range_lists + range_size true u) us)
+
+pub units_from_begin : (e : Ends) (d : DwarfValue) → e.lines.size ≡ 0 → e.ranges.size ≡ 0 → e.range_lists.size ≡ 0 → settled_units e d ≡ settled_units (empty_ends true) d
+units_from_begin e d lines ranges range_lists =
+    let at = λ (x y z : ℕ). numbered_from 0 (found_at d.line_strings d.strings x e.lines.is_plain y e.ranges.is_plain z e.range_lists.is_plain) d.units in
+    ap (λ n. at n e.ranges.size e.range_lists.size) lines ∙ ap (λ n. at 0 n e.range_lists.size) ranges ∙ ap (at 0 0) range_lists
+    ∙ numbered-plain 0 d.line_strings d.strings e.lines.is_plain true e.ranges.is_plain true e.range_lists.is_plain true 0 0 0 d.units
 
 -- What writing a table comes to where none of its units was written before, and no reference was open.
 pub record WritesWhole {W : Type 0} (meaning : W → Meaning) (old new : Sections W) (us : List Numbered) : Type 0 where
@@ -96,7 +147,7 @@ pub record WritesWhole {W : Type 0} (meaning : W → Meaning) (old new : Section
   pub lead : (err : Error) → IsFalse (holes_fail (info_of us kept) (meaning old.debug_info.0).is_plain (units_draft us kept).holes err)
 
 pub writes_whole : {W : Type 0} (meaning : W → Meaning) (old new : Sections W) (d : DwarfValue) (vs : List UnitValue) → old.debug_info_fixups ≡ [] → AreUnwritten d → CompletesAny meaning old new d.units vs (found_in meaning old d) →
-    WritesWhole meaning old new (settled_units (end_of (meaning old.debug_line.0)) d)
+    WritesWhole meaning old new (settled_units (ends_of meaning old) d)
 writes_whole {W} meaning old new d vs none unwritten any =
     let p = any old [] [] none (pending_none meaning old) in
     let info : info_at vs ≡ info_of (to_write (found_in meaning old d) d.units) p.kept = info_kept vs (to_write (found_in meaning old d) d.units) p.kept (p.keeps (unwritten_keeps d.units unwritten)) in
@@ -107,9 +158,9 @@ writes_whole {W} meaning old new d vs none unwritten any =
     } in
     subst (WritesWhole meaning old new) (to_write-unwritten 0 (found_in meaning old d) d.units unwritten) whole
 
-module _ {W : Type 0} (meaning : W → Meaning) (old new : Sections W) (d : DwarfValue) (whole : WritesWhole meaning old new (settled_units (end_of (meaning old.debug_line.0)) d)) where
+module _ {W : Type 0} (meaning : W → Meaning) (old new : Sections W) (d : DwarfValue) (whole : WritesWhole meaning old new (settled_units (ends_of meaning old) d)) where
   abbrev us : List Numbered
-  us = settled_units (end_of (meaning old.debug_line.0)) d
+  us = settled_units (ends_of meaning old) d
 
   abbrev ks : List Kept
   ks = whole.kept
@@ -135,41 +186,54 @@ module _ {W : Type 0} (meaning : W → Meaning) (old new : Sections W) (d : Dwar
           let none = resolved-empty (meaning old.debug_abbrev.0).is_big l (meaning old.debug_abbrev.0) ys empty is in
           ap (λ zs. zs ++ tables_of us) (sym none) ∙ some_is (ys ++ tables_of us) abbrevs k
 
-  -- their places in .debug_line are counted from its begin
-  from_begin : (meaning old.debug_line.0).size ≡ 0 → us ≡ settled_units (no_lines true) d
-  from_begin none = units_from_begin (end_of (meaning old.debug_line.0)) d none
+  -- the places of their own parts are counted from the begins of the sections
+  from_begin : (meaning old.debug_line.0).size ≡ 0 → (meaning old.debug_ranges.0).size ≡ 0 → (meaning old.debug_rnglists.0).size ≡ 0 → us ≡ settled_units (empty_ends true) d
+  from_begin lines ranges range_lists = units_from_begin (ends_of meaning old) d lines ranges range_lists
 
-  pub dwarf_resolved : AreNew meaning old → AreUnwritten d → AddsLines meaning old new d → ResolvesTo meaning new d
-  dwarf_resolved empty unwritten lines = record {
+  pub dwarf_resolved : AreNew meaning old → AreUnwritten d → AddsLines meaning old new d → AppendsAllRanges meaning old new d.units → ResolvesTo meaning new d
+  dwarf_resolved empty unwritten lines ranges = record {
     built = λ l info abbrevs at_info at_abbrevs told_info told_abbrevs.
         let m = meaning old.debug_info.0 in
         let built = units_resolved m.is_big m (meaning new.debug_info.0) (meaning old.debug_abbrev.0).size us ks l empty.info empty.abbrevs.size all_added.units at_info at_abbrevs info told_info in
         let here = subst (λ b. Built (record { units = us; layout = l } ∷ []) b info abbrevs) (sym all_added.units.same.order)
         (subst (Built (record { units = us; layout = l } ∷ []) m.is_big info) (tables_resolved empty.abbrevs l abbrevs told_abbrevs) built)
         in
-        subst (λ ns. Built (record { units = ns; layout = l } ∷ []) (meaning new.debug_info.0).is_big info abbrevs) (from_begin empty.lines.size) here;
+        subst (λ ns. Built (record { units = ns; layout = l } ∷ []) (meaning new.debug_info.0).is_big info abbrevs) (from_begin empty.lines.size empty.ranges.size empty.range_lists.size) here;
     lines = λ l bytes told.
         let m = meaning old.debug_line.0 in
         let adds_text = lines.text_is.resolves (empty_tidy m.is_big m empty.lines) l in
         lines_as d unwritten (meaning new.debug_line.0).is_big l ∙ ap (λ b. added_lines d b l) lines.text_is.same.order
         ∙ behind_nothing (resolved l m) (added_lines d m.is_big l) bytes (λ ys is. resolved-empty m.is_big l m ys empty.lines is) (sym adds_text ∙ told);
+    ranges = ranges_resolved meaning old new d unwritten ranges empty.ranges;
+    range_lists = range_lists_resolved meaning old new d unwritten ranges empty.range_lists;
   }
 
-  pub dwarf_held : ((w : W) → (meaning w).is_plain ≡ true → (meaning w).records ≡ []) → AreNewPlain meaning old → AreUnwritten d → AddsLines meaning old new d → AddsStrings meaning old new d.line_strings d.strings → KeepsOthers old new → HoldsDwarf meaning new d
-  dwarf_held law empty unwritten lines strings others =
+  pub dwarf_held : ((w : W) → (meaning w).is_plain ≡ true → (meaning w).records ≡ []) → AreNewPlain meaning old → AreUnwritten d → AddsLines meaning old new d → AppendsAllRanges meaning old new d.units →
+      AreWritable (meaning old.debug_info.0).is_plain (found_in meaning old d) (meaning old.debug_abbrev.0).size d.units → AddsStrings meaning old new d.line_strings d.strings → KeepsOthers old new → HoldsDwarf meaning new d
+  dwarf_held law empty unwritten lines ranges writable strings others =
       let m = meaning old.debug_info.0 in
       let plain : (meaning new.debug_info.0).is_plain ≡ true = all_added.units.same.kind ∙ empty.writers.debug_info.plain in
       let held = units_held m.is_big m (meaning new.debug_info.0) (meaning old.debug_abbrev.0).size us ks empty.writers.debug_info (law new.debug_info.0 plain) empty.writers.debug_abbrev.size all_added.units in
-      let stays : Sections W = record old { debug_abbrev = new.debug_abbrev; debug_str = new.debug_str; debug_line_str = new.debug_line_str; debug_line = new.debug_line; debug_info = new.debug_info; debug_info_fixups = new.debug_info_fixups; debug_loc_fixups = new.debug_loc_fixups; debug_loclists_fixups = new.debug_loclists_fixups } in
+      let stays : Sections W = record old { debug_abbrev = new.debug_abbrev; debug_str = new.debug_str; debug_line_str = new.debug_line_str; debug_line = new.debug_line; debug_ranges = new.debug_ranges; debug_rnglists = new.debug_rnglists; debug_info = new.debug_info; debug_info_fixups = new.debug_info_fixups; debug_loc_fixups = new.debug_loc_fixups; debug_loclists_fixups = new.debug_loclists_fixups } in
       let kept = λ (f : Sections W → W) (h : (meaning (f stays)).bytes ≡ Some []). let P : Sections W → Type 0 = λ s. (meaning (f s)).bytes ≡ Some [] in subst P (sym others) h in
       let line = lines_held (meaning old.debug_line.0) (meaning new.debug_line.0) d empty.writers.debug_line (law new.debug_line.0) lines in
+      let there = λ (five : Bool) (big : Bool). ranges_all_there five (found_in meaning old d) (meaning old.debug_info.0).is_plain empty.writers.debug_ranges.plain empty.writers.debug_rnglists.plain (meaning old.debug_abbrev.0).size d.units unwritten writable big at_zero in
+      let old_ranges = there false (meaning old.debug_ranges.0).is_big in
+      let new_ranges = there true (meaning old.debug_rnglists.0).is_big in
+      let w = empty.writers in
+      let old_section : InOrder = record { is_big = (meaning new.debug_ranges.0).is_big; bytes = old_ranges.0 } in
+      let new_section : InOrder = record { is_big = (meaning new.debug_rnglists.0).is_big; bytes = new_ranges.0 } in
+      let ends = ends_are (meaning old.debug_line.0) (meaning old.debug_ranges.0) (meaning old.debug_rnglists.0) true w.debug_line.size w.debug_line.plain w.debug_ranges.size w.debug_ranges.plain w.debug_rnglists.size w.debug_rnglists.plain in
+      let found = all_found old_section new_section (found_in meaning old d) (meaning old.debug_info.0).is_plain (meaning old.debug_abbrev.0).size [] old_ranges.0 [] new_ranges.0 d.units w.debug_ranges.plain w.debug_rnglists.plain unwritten ranges.found writable
+      refl (sym w.debug_ranges.size) (ap (λ b. dwarf_ranges false d b at_zero) ranges.ranges.same.order ∙ old_ranges.1)
+      refl (sym w.debug_rnglists.size) (ap (λ b. dwarf_ranges true d b at_zero) ranges.range_lists.same.order ∙ new_ranges.1) in
       let texts : SectionTexts = record {
         debug_abbrev = tables_of us;
         debug_str = string_bytes d.strings;
         debug_line_str = string_bytes d.line_strings;
         debug_line = line.0;
-        debug_ranges = [];
-        debug_rnglists = [];
+        debug_ranges = old_ranges.0;
+        debug_rnglists = new_ranges.0;
         debug_loc = [];
         debug_loclists = [];
         debug_info = held.0;
@@ -180,12 +244,13 @@ module _ {W : Type 0} (meaning : W → Meaning) (old new : Sections W) (d : Dwar
       record {
         texts = texts;
         are = record {
-          units = subst (λ ns. Built (record { units = ns; layout = at_zero } ∷ []) (meaning new.debug_info.0).is_big held.0 (tables_of us)) (from_begin empty.writers.debug_line.size) units;
+          units = subst (λ ns. Built (record { units = ns; layout = at_zero } ∷ []) (meaning new.debug_info.0).is_big held.0 (tables_of us)) (from_begin empty.writers.debug_line.size empty.writers.debug_ranges.size empty.writers.debug_rnglists.size) units;
           strings = refl;
           line_strings = refl;
           lines = lines_as d unwritten (meaning new.debug_line.0).is_big at_zero ∙ ap (λ b. added_lines d b at_zero) lines.text_is.same.order ∙ line.2;
-          ranges = refl;
-          range_lists = refl;
+          ranges = ap (λ b. dwarf_ranges false d b at_zero) ranges.ranges.same.order ∙ old_ranges.1;
+          range_lists = ap (λ b. dwarf_ranges true d b at_zero) ranges.range_lists.same.order ∙ new_ranges.1;
+          lists = subst (λ e. FindAllLists old_section new_section (found_from e d) d.units) ends found;
           locations = refl;
           location_lists = refl;
           frames = refl;
@@ -196,8 +261,8 @@ module _ {W : Type 0} (meaning : W → Meaning) (old new : Sections W) (d : Dwar
           debug_str = told_alone (meaning old.debug_str.0) (meaning new.debug_str.0) (string_bytes d.strings) empty.writers.debug_str.bytes strings.others;
           debug_line_str = told_alone (meaning old.debug_line_str.0) (meaning new.debug_line_str.0) (string_bytes d.line_strings) empty.writers.debug_line_str.bytes strings.lines;
           debug_line = line.1;
-          debug_ranges = kept (λ s. s.debug_ranges.0) empty.writers.debug_ranges.bytes;
-          debug_rnglists = kept (λ s. s.debug_rnglists.0) empty.writers.debug_rnglists.bytes;
+          debug_ranges = plain_alone (meaning old.debug_ranges.0) (meaning new.debug_ranges.0) _ _ old_ranges.0 empty.writers.debug_ranges (law new.debug_ranges.0) ranges.ranges (sym (texts_as (range_text false) d.units unwritten (meaning old.debug_ranges.0).is_big at_zero) ∙ old_ranges.1);
+          debug_rnglists = plain_alone (meaning old.debug_rnglists.0) (meaning new.debug_rnglists.0) _ _ new_ranges.0 empty.writers.debug_rnglists (law new.debug_rnglists.0) ranges.range_lists (sym (texts_as (range_text true) d.units unwritten (meaning old.debug_rnglists.0).is_big at_zero) ∙ new_ranges.1);
           debug_loc = kept (λ s. s.debug_loc.0) empty.writers.debug_loc.bytes;
           debug_loclists = kept (λ s. s.debug_loclists.0) empty.writers.debug_loclists.bytes;
           debug_info = held.1.0;
@@ -217,3 +282,9 @@ AreNewPlain-from meaning big s h = record {
 -- units are written in the byte order of their section
 pub same_order : {W : Type 0} (meaning : W → Meaning) (old new : Sections W) (us vs : List UnitValue) (t : Elsewhere) → old.debug_info_fixups ≡ [] → CompletesAny meaning old new us vs t → (meaning new.debug_info.0).is_big ≡ (meaning old.debug_info.0).is_big
 same_order meaning old new us vs t none any = (any old [] [] none (pending_none meaning old)).appends.units.same.order
+
+-- four orders that are one
+pub orders_are : (o : Orders) (big : Bool) → o.info ≡ big → o.lines ≡ big → o.ranges ≡ big → o.range_lists ≡ big → o ≡ one_order big
+orders_are o big info lines ranges range_lists =
+    let of = λ (a b c d : Bool). let x : Orders = record { info = a; lines = b; ranges = c; range_lists = d } in x in
+    ap (λ a. of a o.lines o.ranges o.range_lists) info ∙ ap (λ b. of big b o.ranges o.range_lists) lines ∙ ap (λ c. of big big c o.range_lists) ranges ∙ ap (of big big big) range_lists

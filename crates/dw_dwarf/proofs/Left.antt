@@ -1,5 +1,5 @@
 -- What a Dwarf leaves in new sections.
-use Rattle.std.specs.Prelude.{◌≡◌, ℕ, Bool, List, [], ◌∷◌, ◌++◌, Some, None, refl}
+use Rattle.std.specs.Prelude.{◌≡◌, ℕ, Bool, List, [], ◌∷◌, ◌++◌, Some, None, refl, true, false}
 use Rattle.std.proofs.Common.{sym, ◌∙◌, ap, subst}
 use Rattle.dw_writer.specs.Drafts.{filled_text}
 use Rattle.dw_writer.specs.Texts.{Text, followed}
@@ -11,14 +11,14 @@ use Rattle.dw_writer.specs.declared.sections.Sections.{Sections}
 use Rattle.dw_writer.proofs.Steps.{Adds-appends}
 use Rattle.dw_strings.specs.Strings.{string_bytes}
 use Rattle.dw_unit.specs.Built.{Numbered, at_begin}
-use Rattle.dw_unit.specs.Elsewhere.{end_of}
+use Rattle.dw_unit.specs.Elsewhere.{ends_of, AppendsAllRanges}
 use Rattle.dw_unit.specs.Pending.{Kept, AreInRow, info_of, units_draft, tables_of}
 use Rattle.dw_unit.proofs.Files.{empty_tidy, resolved-empty, file_written}
 use Rattle.dw_dwarf.specs.DwarfValue.{DwarfValue}
 use Rattle.dw_dwarf.specs.Left.{units_of, IsLeft}
 use Rattle.dw_dwarf.specs.Valid.{AreUnwritten, settled_units}
-use Rattle.dw_dwarf.specs.Written.{AddsLines, AddsStrings}
-use Rattle.dw_dwarf.proofs.Held.{WritesWhole, behind_nothing, added_lines, lines_as, units_from_begin}
+use Rattle.dw_dwarf.specs.Written.{dwarf_ranges, AddsLines, AddsStrings}
+use Rattle.dw_dwarf.proofs.Held.{WritesWhole, behind_nothing, added_lines, lines_as, units_from_begin, ranges_resolved, range_lists_resolved}
 
 some_is : {A : Type 0} (x y : A) → Some x ≡ Some y → x ≡ y
 some_is x y h = cc
@@ -29,13 +29,20 @@ added_alone big old new bytes empty p l xs h =
     let resolves = (Adds-appends p).resolves (empty_tidy big old empty) l in
     some_is bytes xs (behind_nothing (resolved l old) (Some bytes) xs (λ ys is. resolved-empty big l old ys empty is) (sym resolves ∙ h))
 
-module _ {W : Type 0} (meaning : W → Meaning) (big : Bool) (old new : Sections W) (d : DwarfValue) (empty : IsNew meaning big old) where
-  -- the same units, whose places in .debug_line are counted from its begin
-  from_begin : settled_units (end_of (meaning old.debug_line.0)) d ≡ units_of d
-  from_begin = units_from_begin (end_of (meaning old.debug_line.0)) d empty.writers.debug_line.size
+-- an empty writer is one in its own order
+empty_as : {m : Meaning} {big : Bool} → IsEmptyWriter m big → IsEmptyWriter m m.is_big
+empty_as {m} {big} h = subst (IsEmptyWriter m) (sym h.order) h
 
-  whole_left : (us : List Numbered) → (whole : WritesWhole meaning old new us) → AreUnwritten d → AddsLines meaning old new d → AddsStrings meaning old new d.line_strings d.strings → us ≡ units_of d → IsLeft meaning big new d
-  whole_left us whole unwritten lines strings same =
+order : {a b c : Bool} → a ≡ b → b ≡ c → a ≡ c
+order p q = p ∙ q
+
+module _ {W : Type 0} (meaning : W → Meaning) (big : Bool) (old new : Sections W) (d : DwarfValue) (empty : IsNew meaning big old) where
+  -- the same units, the places of whose own parts are counted from the begins of the sections
+  from_begin : settled_units (ends_of meaning old) d ≡ units_of d
+  from_begin = units_from_begin (ends_of meaning old) d empty.writers.debug_line.size empty.writers.debug_ranges.size empty.writers.debug_rnglists.size
+
+  whole_left : (us : List Numbered) → (whole : WritesWhole meaning old new us) → AreUnwritten d → AddsLines meaning old new d → AppendsAllRanges meaning old new d.units → AddsStrings meaning old new d.line_strings d.strings → us ≡ units_of d → IsLeft meaning big new d
+  whole_left us whole unwritten lines ranges strings same =
       let w = subst (WritesWhole meaning old new) same whole in
       let ns = units_of d in
       let m = meaning old.debug_info.0 in
@@ -49,6 +56,8 @@ module _ {W : Type 0} (meaning : W → Meaning) (big : Bool) (old new : Sections
         lines = λ l xs h.
             lines_as d unwritten big l ∙ ap (λ b. added_lines d b l) (sym e.debug_line.order)
             ∙ behind_nothing (resolved l line) (added_lines d line.is_big l) xs (λ ys is. resolved-empty big l line ys e.debug_line is) (sym (lines.text_is.resolves (empty_tidy big line e.debug_line) l) ∙ h);
+        ranges = λ l xs h. subst (λ b. dwarf_ranges false d b l ≡ Some xs) (order ranges.ranges.same.order e.debug_ranges.order) (ranges_resolved meaning old new d unwritten ranges (empty_as e.debug_ranges) l xs h);
+        range_lists = λ l xs h. subst (λ b. dwarf_ranges true d b l ≡ Some xs) (order ranges.range_lists.same.order e.debug_rnglists.order) (range_lists_resolved meaning old new d unwritten ranges (empty_as e.debug_rnglists) l xs h);
         strings = added_alone big (meaning old.debug_str.0) (meaning new.debug_str.0) (string_bytes d.strings) e.debug_str strings.others;
         line_strings = added_alone big (meaning old.debug_line_str.0) (meaning new.debug_line_str.0) (string_bytes d.line_strings) e.debug_line_str strings.lines;
         info_tidy = w.adds.units.tidy (empty_tidy big m e.debug_info);
@@ -60,5 +69,5 @@ module _ {W : Type 0} (meaning : W → Meaning) (big : Bool) (old new : Sections
           subst (λ n. AreInRow (record { info = n; abbrevs = 0 }) (units_of d) w.kept) empty.writers.debug_info.size
           (subst (λ n. AreInRow (record { info = (meaning old.debug_info.0).size; abbrevs = n }) (units_of d) w.kept) empty.writers.debug_abbrev.size w.adds.units.in_row)
 
-  pub dwarf_left : WritesWhole meaning old new (settled_units (end_of (meaning old.debug_line.0)) d) → AreUnwritten d → AddsLines meaning old new d → AddsStrings meaning old new d.line_strings d.strings → IsLeft meaning big new d
-  dwarf_left whole unwritten lines strings = whole_left _ whole unwritten lines strings from_begin
+  pub dwarf_left : WritesWhole meaning old new (settled_units (ends_of meaning old) d) → AreUnwritten d → AddsLines meaning old new d → AppendsAllRanges meaning old new d.units → AddsStrings meaning old new d.line_strings d.strings → IsLeft meaning big new d
+  dwarf_left whole unwritten lines ranges strings = whole_left _ whole unwritten lines ranges strings from_begin

@@ -1,3 +1,5 @@
+pub mod RangesThere
+pub mod ListsFound
 pub mod Held
 pub mod Complete
 pub mod OneUnit

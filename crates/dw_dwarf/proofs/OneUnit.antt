@@ -7,8 +7,10 @@ use Rattle.dw_base.specs.declared.error.Error.TheVariants as errors
 use Rattle.dw_writer.specs.Contents.{Meaning}
 use Rattle.dw_writer.specs.Sections.{SomeHasRisen, NoFixups}
 use Rattle.dw_writer.specs.declared.sections.Sections.{Sections}
-use Rattle.dw_unit.specs.Elsewhere.{Elsewhere, elsewhere, end_of, unit_tables, line_text, AppendsLine}
-use Rattle.dw_unit.proofs.LineSteps.{behind-then, behind-as, lines_none, lines_new}
+use Rattle.dw_unit.specs.Elsewhere.{Elsewhere, elsewhere, ends_of, unit_tables, line_text, AppendsLine, AppendsRanges, AppendsAllRanges}
+use Rattle.dw_unit.proofs.LineSteps.{lines_none, lines_new}
+use Rattle.dw_unit.proofs.RangeSteps.{ranges_none, ranges_new}
+use Rattle.dw_unit.proofs.UnitTexts.{behind-then, behind-as}
 use Rattle.dw_writer.proofs.Parts.{followed-nothing}
 use Rattle.dw_unit.specs.Alone.{has_info_reference, only_unit, AppendsAlone, AloneFails, AloneRefused}
 use Rattle.dw_unit.specs.Pending.{info_of}
@@ -26,7 +28,7 @@ use Rattle.dw_dwarf.proofs.Held.{WritesWhole}
 
 -- a unit that was added alone is a whole Dwarf
 pub alone_whole : {W : Type 0} (meaning : W → Meaning) (old new : Sections W) (line_strings strings : List (List ℕ)) (u : UnitValue) (offsets : Option OffsetsValue) → AppendsAlone meaning old new (settled u) (unit_tables (elsewhere meaning old line_strings strings) u) offsets →
-    WritesWhole meaning old new (settled_units (end_of (meaning old.debug_line.0)) (dwarf_of line_strings strings u))
+    WritesWhole meaning old new (settled_units (ends_of meaning old) (dwarf_of line_strings strings u))
 alone_whole meaning old new line_strings strings u offsets p =
     let us = only_unit (unit_tables (elsewhere meaning old line_strings strings) u) (settled u) in
     let ks = p.kept ∷ [] in
@@ -46,6 +48,10 @@ module _ {W : Type 0} (meaning : W → Meaning) (old mid new : Sections W) (line
   pub line_alone : u.is_written ≡ false → AppendsLine meaning old mid line_strings strings u → AddsPrograms meaning mid new line_strings strings [] → AddsLines meaning old new (dwarf_of line_strings strings u)
   line_alone unwritten p q = behind-then (lines_new line_strings strings meaning old old mid [] u unwritten (lines_none line_strings strings meaning old) p) q
 
+-- its range lists are all that is added to their sections
+pub ranges_alone : {W : Type 0} (meaning : W → Meaning) (old new : Sections W) (u : UnitValue) → u.is_written ≡ false → AppendsRanges meaning old new u → AppendsAllRanges meaning old new (u ∷ [])
+ranges_alone meaning old new u unwritten p = ranges_new meaning old old new [] u unwritten (ranges_none meaning old) p
+
 -- no line program has a fault
 pub no_program : (line_strings strings : List (List ℕ)) (plain : Bool) (e : Error) → IsTrue (programs_fail line_strings strings plain [] e) → ⊥
 no_program line_strings strings plain e h = absurd (let x : false ≡ true = h in cc)
@@ -53,14 +59,14 @@ no_program line_strings strings plain e h = absurd (let x : false ≡ true = h i
 -- the lists of fixups of .debug_loc and .debug_loclists stay, too
 pub others_kept : {W : Type 0} (old mid new : Sections W) → KeepsOtherSections old mid → KeepsAllButRest mid new → KeepsOthers old new
 others_kept {W} old mid new h k =
-    let both : new ≡ record old { debug_abbrev = new.debug_abbrev; debug_str = new.debug_str; debug_line_str = new.debug_line_str; debug_line = new.debug_line; debug_info = new.debug_info; debug_info_fixups = new.debug_info_fixups } =
+    let both : new ≡ record old { debug_abbrev = new.debug_abbrev; debug_str = new.debug_str; debug_line_str = new.debug_line_str; debug_line = new.debug_line; debug_ranges = new.debug_ranges; debug_rnglists = new.debug_rnglists; debug_info = new.debug_info; debug_info_fixups = new.debug_info_fixups } =
     k
     ∙ ap (λ (s : Sections W). let t : Sections W = record s { debug_str = new.debug_str; debug_line_str = new.debug_line_str; debug_line = new.debug_line } in t) h
-    ∙ ap (λ (s : Sections W). let t : Sections W = record old { debug_abbrev = s.debug_abbrev; debug_str = new.debug_str; debug_line_str = new.debug_line_str; debug_line = new.debug_line; debug_info = s.debug_info; debug_info_fixups = s.debug_info_fixups } in t) (sym k)
+    ∙ ap (λ (s : Sections W). let t : Sections W = record old { debug_abbrev = s.debug_abbrev; debug_str = new.debug_str; debug_line_str = new.debug_line_str; debug_line = new.debug_line; debug_ranges = s.debug_ranges; debug_rnglists = s.debug_rnglists; debug_info = s.debug_info; debug_info_fixups = s.debug_info_fixups } in t) (sym k)
     in
     both
-    ∙ ap (λ xs. let s : Sections W = record old { debug_abbrev = new.debug_abbrev; debug_str = new.debug_str; debug_line_str = new.debug_line_str; debug_line = new.debug_line; debug_info = new.debug_info; debug_info_fixups = new.debug_info_fixups; debug_loc_fixups = xs } in s) (sym (ap (λ s. s.debug_loc_fixups) both))
-    ∙ ap (λ xs. let s : Sections W = record old { debug_abbrev = new.debug_abbrev; debug_str = new.debug_str; debug_line_str = new.debug_line_str; debug_line = new.debug_line; debug_info = new.debug_info; debug_info_fixups = new.debug_info_fixups; debug_loc_fixups = new.debug_loc_fixups; debug_loclists_fixups = xs } in s) (sym (ap (λ s. s.debug_loclists_fixups) both))
+    ∙ ap (λ xs. let s : Sections W = record old { debug_abbrev = new.debug_abbrev; debug_str = new.debug_str; debug_line_str = new.debug_line_str; debug_line = new.debug_line; debug_ranges = new.debug_ranges; debug_rnglists = new.debug_rnglists; debug_info = new.debug_info; debug_info_fixups = new.debug_info_fixups; debug_loc_fixups = xs } in s) (sym (ap (λ s. s.debug_loc_fixups) both))
+    ∙ ap (λ xs. let s : Sections W = record old { debug_abbrev = new.debug_abbrev; debug_str = new.debug_str; debug_line_str = new.debug_line_str; debug_line = new.debug_line; debug_ranges = new.debug_ranges; debug_rnglists = new.debug_rnglists; debug_info = new.debug_info; debug_info_fixups = new.debug_info_fixups; debug_loc_fixups = new.debug_loc_fixups; debug_loclists_fixups = xs } in s) (sym (ap (λ s. s.debug_loclists_fixups) both))
 
 pub no_fixups : {W : Type 0} (old new : Sections W) → KeepsOtherSections old new → NoFixups old → new.debug_info_fixups ≡ [] → NoFixups new
 no_fixups old new others none closed = record {

@@ -15,13 +15,13 @@ use Rattle.dw_entries.specs.Targets.{Tables}
 use Rattle.dw_line.specs.Parts.{NoCause, Refused as LinesRefused}
 use Rattle.dw_unit.specs.Alone.{AppendsAlone}
 use Rattle.dw_unit.specs.Causes.{Because, Is, RefusesAny}
-use Rattle.dw_unit.specs.Elsewhere.{Elsewhere, AppendsLines}
+use Rattle.dw_unit.specs.Elsewhere.{Elsewhere, AppendsLines, AppendsRanges, AppendsAllRanges}
 use Rattle.dw_unit.specs.Pending.{starts_of}
 use Rattle.dw_unit.specs.Places.{OffsetsValue}
 use Rattle.dw_unit.specs.UnitValue.{UnitValue}
 use Rattle.dw_unit.specs.Written.{CompletesAny}
 use Rattle.dw_unit.proofs.Faults.{because-map}
-use Rattle.dw_unit.proofs.LineSteps.{behind-then}
+use Rattle.dw_unit.proofs.UnitTexts.{behind-then}
 use Rattle.dw_dwarf.specs.DwarfValue.{DwarfValue}
 use Rattle.dw_dwarf.specs.Valid.{extra_fails}
 use Rattle.dw_dwarf.specs.Written.{AddsPrograms, AddsLines, AddsStrings, RestHasRisen, KeepsAllButRest, KeepsOthers}
@@ -72,6 +72,13 @@ module _ {W : Type 0} (meaning : W → Meaning) where
   pub lines_after : (old mid new : Sections W) (d : DwarfValue) → AppendsLines meaning old mid d.line_strings d.strings d.units → AddsPrograms meaning mid new d.line_strings d.strings d.line_programs → AddsLines meaning old new d
   lines_after old mid new d p q = behind-then p q
 
+  -- range lists stay as they are behind them
+  pub ranges_after : (old mid new : Sections W) (us : List UnitValue) → KeepsAllButRest mid new → AppendsAllRanges meaning old mid us → AppendsAllRanges meaning old new us
+  ranges_after old mid new us same p = subst (λ s. AppendsAllRanges meaning old s us) (sym same) (record { found = p.found; ranges = p.ranges; range_lists = p.range_lists })
+
+  pub unit_ranges_after : (old mid new : Sections W) (u : UnitValue) → KeepsAllButRest mid new → AppendsRanges meaning old mid u → AppendsRanges meaning old new u
+  unit_ranges_after old mid new u same p = subst (λ s. AppendsRanges meaning old s u) (sym same) (record { found = p.found; ranges = p.ranges; range_lists = p.range_lists })
+
   -- a fault in one of these sections is one of the sections
   module _ (old mid new : Sections W) (line_strings : mid.debug_line_str ≡ old.debug_line_str) (strings : mid.debug_str ≡ old.debug_str) (faults : (meaning old.debug_line.0).faults ≤ (meaning mid.debug_line.0).faults) where
     rest_rise : RestHasRisen meaning mid new → SomeHasRisen meaning old new
@@ -103,6 +110,8 @@ module _ {W : Type 0} (meaning : W → Meaning) where
       mid ≡ record old {
         debug_abbrev = mid.debug_abbrev;
         debug_line = mid.debug_line;
+        debug_ranges = mid.debug_ranges;
+        debug_rnglists = mid.debug_rnglists;
         debug_info = mid.debug_info;
         debug_info_fixups = mid.debug_info_fixups;
         debug_loc_fixups = mid.debug_loc_fixups;
@@ -117,6 +126,8 @@ module _ {W : Type 0} (meaning : W → Meaning) where
         debug_str = new.debug_str;
         debug_line_str = new.debug_line_str;
         debug_line = new.debug_line;
+        debug_ranges = s.debug_ranges;
+        debug_rnglists = s.debug_rnglists;
         debug_info = s.debug_info;
         debug_info_fixups = s.debug_info_fixups;
         debug_loc_fixups = s.debug_loc_fixups;

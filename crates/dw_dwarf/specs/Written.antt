@@ -1,5 +1,5 @@
 -- What sections hold once a Dwarf was written into them.
-use Rattle.std.specs.Prelude.{◌≡◌, ◌⊎◌, ℕ, ◌+◌, Bool, true, List, [], ◌∷◌, Some}
+use Rattle.std.specs.Prelude.{◌≡◌, ◌⊎◌, ℕ, ◌+◌, Bool, true, List, [], ◌∷◌, Some, false}
 use Rattle.dw_base.specs.declared.section_id.SectionId.TheVariants.{DebugAbbrev, DebugInfo}
 use Rattle.dw_writer.specs.Causes.{HasRisen}
 use Rattle.dw_writer.specs.Contents.{Meaning}
@@ -13,22 +13,27 @@ use Rattle.dw_writer.specs.declared.sections.Sections.{Sections}
 use Rattle.dw_line.specs.LinePrograms.{LineProgramValue, line_program_size, line_program_text}
 use Rattle.dw_line.specs.Parts.{sizes, texts}
 use Rattle.dw_unit.specs.Built.{Built, at_zero, whole_file}
-use Rattle.dw_unit.specs.Elsewhere.{line_text, new_line_size, new_line_text, AppendsBehind}
+use Rattle.dw_unit.specs.Elsewhere.{line_size, line_text, range_text, new_size, new_text, AppendsBehind}
 use Rattle.dw_strings.specs.Strings.{string_bytes}
-use Rattle.dw_dwarf.specs.Valid.{found_from, no_lines, settled_units}
+use Rattle.dw_dwarf.specs.Valid.{found_from, empty_ends, settled_units}
 use Rattle.dw_dwarf.specs.DwarfValue.{DwarfValue}
+use Rattle.dw_dwarf.specs.Lists.{FindAllLists}
 
 -- nothing was written yet: every writer is empty, and plain, in an order of its own
 pub record AreNewPlain {W : Type 0} (meaning : W → Meaning) (s : Sections W) : Type 0 where
   pub writers : EachWriter (λ w. IsEmptyPlainWriter (meaning w) (meaning w).is_big) s
   pub fixups : NoFixups s
 
--- the same of writers of any kind, of the three sections that units with their line programs are written into
+-- the same of writers of any kind, of the sections that units with their own parts are written into
 pub record AreNew {W : Type 0} (meaning : W → Meaning) (s : Sections W) : Type 0 where
   pub info : IsEmptyWriter (meaning s.debug_info.0) (meaning s.debug_info.0).is_big
   pub abbrevs : IsEmptyWriter (meaning s.debug_abbrev.0) (meaning s.debug_abbrev.0).is_big
   pub lines : IsEmptyWriter (meaning s.debug_line.0) (meaning s.debug_line.0).is_big
+  pub ranges : IsEmptyWriter (meaning s.debug_ranges.0) (meaning s.debug_ranges.0).is_big
+  pub range_lists : IsEmptyWriter (meaning s.debug_rnglists.0) (meaning s.debug_rnglists.0).is_big
   pub kind : (meaning s.debug_line.0).is_plain ≡ (meaning s.debug_info.0).is_plain
+  pub ranges_kind : (meaning s.debug_ranges.0).is_plain ≡ (meaning s.debug_info.0).is_plain
+  pub range_lists_kind : (meaning s.debug_rnglists.0).is_plain ≡ (meaning s.debug_info.0).is_plain
   pub fixups : NoFixups s
 
 -- the bytes of the eleven sections
@@ -50,16 +55,40 @@ abbrev pub dwarf_lines : DwarfValue → Model
 dwarf_lines d big l =
     followed (texts (line_text d.line_strings d.strings) d.units big l) (texts (line_program_text d.strings d.line_strings) d.line_programs big l)
 
+-- the range lists of units in the section of version 5, or in that of those before it
+abbrev pub dwarf_ranges : Bool → DwarfValue → Model
+dwarf_ranges five d = texts (range_text five) d.units
+
+-- The byte orders of sections in which numbers of several bytes stand.
+pub record Orders : Type 0 where
+  pub info : Bool
+  pub lines : Bool
+  pub ranges : Bool
+  pub range_lists : Bool
+
+abbrev pub orders_of : {W : Type 0} → (W → Meaning) → Sections W → Orders
+orders_of meaning s = record {
+  info = (meaning s.debug_info.0).is_big;
+  lines = (meaning s.debug_line.0).is_big;
+  ranges = (meaning s.debug_ranges.0).is_big;
+  range_lists = (meaning s.debug_rnglists.0).is_big;
+}
+
+-- one order for all
+abbrev pub one_order : Bool → Orders
+one_order big = record { info = big; lines = big; ranges = big; range_lists = big }
+
 -- These are the texts of a Dwarf: .debug_info and .debug_abbrev are read, to their last byte, as exactly its units, each of which
--- names the place of its line program, its line programs and its strings stand in their sections, and there is nothing else.
--- The byte orders are those of .debug_info and of .debug_line.
-pub record AreTextsOf (big lines_big : Bool) (d : DwarfValue) (t : SectionTexts) : Type 0 where
-  pub units : Built (whole_file (found_from (no_lines true) d) d.units ∷ []) big t.debug_info t.debug_abbrev
+-- names the places of its line program and of its range lists, its line programs, its range lists and its strings stand in their
+-- sections, and there is nothing else. Where an attribute of a unit leads to, the range list is found that was built.
+pub record AreTextsOf (o : Orders) (d : DwarfValue) (t : SectionTexts) : Type 0 where
+  pub units : Built (whole_file (found_from (empty_ends true) d) d.units ∷ []) o.info t.debug_info t.debug_abbrev
   pub strings : t.debug_str ≡ string_bytes d.strings
   pub line_strings : t.debug_line_str ≡ string_bytes d.line_strings
-  pub lines : dwarf_lines d lines_big at_zero ≡ Some t.debug_line
-  pub ranges : t.debug_ranges ≡ []
-  pub range_lists : t.debug_rnglists ≡ []
+  pub lines : dwarf_lines d o.lines at_zero ≡ Some t.debug_line
+  pub ranges : dwarf_ranges false d o.ranges at_zero ≡ Some t.debug_ranges
+  pub range_lists : dwarf_ranges true d o.range_lists at_zero ≡ Some t.debug_rnglists
+  pub lists : FindAllLists (record { is_big = o.ranges; bytes = t.debug_ranges }) (record { is_big = o.range_lists; bytes = t.debug_rnglists }) (found_from (empty_ends true) d) d.units
   pub locations : t.debug_loc ≡ []
   pub location_lists : t.debug_loclists ≡ []
   pub frames : t.debug_frame ≡ []
@@ -82,18 +111,20 @@ pub record TellTexts {W : Type 0} (meaning : W → Meaning) (s : Sections W) (t 
 -- the sections hold exactly this Dwarf
 pub record HoldsDwarf {W : Type 0} (meaning : W → Meaning) (s : Sections W) (d : DwarfValue) : Type 0 where
   pub texts : SectionTexts
-  pub are : AreTextsOf (meaning s.debug_info.0).is_big (meaning s.debug_line.0).is_big d texts
+  pub are : AreTextsOf (orders_of meaning s) d texts
   pub told : TellTexts meaning s texts
 
 -- Once a linker has put every record's number in, where the two sections start at 0, they are read as exactly the units, with
--- the layout's values in the place of symbols, and .debug_line is the line programs.
+-- the layout's values in the place of symbols, .debug_line is the line programs, and the sections of range lists are these.
 pub record ResolvesTo {W : Type 0} (meaning : W → Meaning) (s : Sections W) (d : DwarfValue) : Type 0 where
   pub built : (l : Layout) (info abbrevs : List ℕ) → start_of l DebugInfo ≡ 0 → start_of l DebugAbbrev ≡ 0 →
       resolved l (meaning s.debug_info.0) ≡ Some info → resolved l (meaning s.debug_abbrev.0) ≡ Some abbrevs →
-      Built (record { units = settled_units (no_lines true) d; layout = l } ∷ []) (meaning s.debug_info.0).is_big info abbrevs
+      Built (record { units = settled_units (empty_ends true) d; layout = l } ∷ []) (meaning s.debug_info.0).is_big info abbrevs
   pub lines : (l : Layout) (bytes : List ℕ) → resolved l (meaning s.debug_line.0) ≡ Some bytes → dwarf_lines d (meaning s.debug_line.0).is_big l ≡ Some bytes
+  pub ranges : (l : Layout) (bytes : List ℕ) → resolved l (meaning s.debug_ranges.0) ≡ Some bytes → dwarf_ranges false d (meaning s.debug_ranges.0).is_big l ≡ Some bytes
+  pub range_lists : (l : Layout) (bytes : List ℕ) → resolved l (meaning s.debug_rnglists.0) ≡ Some bytes → dwarf_ranges true d (meaning s.debug_rnglists.0).is_big l ≡ Some bytes
 
--- all but the sections of units, of line programs and of strings and the lists of fixups is as before
+-- all but the sections of units with their own parts and of strings and the lists of fixups is as before
 abbrev pub KeepsOthers : {W : Type 0} → Sections W → Sections W → Type 0
 KeepsOthers old new =
     new ≡ record old {
@@ -101,6 +132,8 @@ KeepsOthers old new =
       debug_str = new.debug_str;
       debug_line_str = new.debug_line_str;
       debug_line = new.debug_line;
+      debug_ranges = new.debug_ranges;
+      debug_rnglists = new.debug_rnglists;
       debug_info = new.debug_info;
       debug_info_fixups = new.debug_info_fixups;
       debug_loc_fixups = new.debug_loc_fixups;
@@ -120,8 +153,8 @@ AddsPrograms meaning old new line_strings strings programs =
 -- line programs are added, those of units and behind them those of no unit
 abbrev pub AddsLines : {W : Type 0} → (W → Meaning) → Sections W → Sections W → DwarfValue → Type 0
 AddsLines meaning old new d =
-    AppendsBehind (meaning old.debug_line.0) (meaning new.debug_line.0) (sizes new_line_size d.units + sizes line_program_size d.line_programs)
-    (λ big l. followed (texts (new_line_text d.line_strings d.strings) d.units big l) (texts (line_program_text d.strings d.line_strings) d.line_programs big l))
+    AppendsBehind (meaning old.debug_line.0) (meaning new.debug_line.0) (sizes (new_size line_size) d.units + sizes line_program_size d.line_programs)
+    (λ big l. followed (texts (new_text (line_text d.line_strings d.strings)) d.units big l) (texts (line_program_text d.strings d.line_strings) d.line_programs big l))
 
 -- all but the sections of line programs and of strings is as before
 abbrev pub KeepsAllButRest : {W : Type 0} → Sections W → Sections W → Type 0

@@ -6,7 +6,7 @@ ghost use Rattle.dw_writer.specs.New.{IsNew};
 ghost use Rattle.dw_writer.specs.Sections.{SomeHasRisen, fault_sum, NoFixups};
 ghost use Rattle.dw_line.specs.Parts.{NoCause};
 ghost use Rattle.dw_unit.specs.Causes.{RefusesAny};
-ghost use Rattle.dw_unit.specs.Elsewhere.{end_of};
+ghost use Rattle.dw_unit.specs.Elsewhere.{ends_of, AppendsAllRanges};
 ghost use Rattle.dw_unit.specs.Pending.{starts_of};
 ghost use Rattle.dw_unit.specs.Valid.{CanFollow};
 ghost use Rattle.dw_unit.specs.Written.{AreWritten, AreStopped, CompletesAny};
@@ -108,6 +108,10 @@ impl Dwarf {
         // and behind them those of no unit.
         ensures lines { OnOk result
             (AddsLines W.meaning sections.old sections.new (dwarf_in self.old)) }
+        // The range lists of units stand behind what their two sections held, in the order of the
+        // units, and each of them is found there and read as it was built.
+        ensures ranges { OnOk result
+            (AppendsAllRanges W.meaning sections.old sections.new self.old.units) }
         // The strings stand behind what their sections held.
         ensures strings { OnOk result
             (AddsStrings W.meaning sections.old sections.new self.old.line_strings
@@ -122,7 +126,7 @@ impl Dwarf {
         ensures valid { OnOk result
             (sections.old.debug_info_fixups ≡ [] → AreUnwritten (dwarf_in self.old) →
             IsValidAt (W.meaning sections.old.debug_info.0).is_plain
-            (starts_of W.meaning sections.old) (end_of (W.meaning sections.old.debug_line.0))
+            (starts_of W.meaning sections.old) (ends_of W.meaning sections.old)
             (dwarf_in self.old)) }
 
         ensures err { IfErr result

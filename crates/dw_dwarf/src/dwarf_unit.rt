@@ -4,7 +4,7 @@ ghost use Rattle.std.specs.Prelude.{◌≡◌, ◌⊎◌, ◌≤◌, [], true, f
 ghost use Rattle.dw_base.specs.declared.error.Error.TheVariants.{NoMemory};
 ghost use Rattle.dw_writer.specs.Sections.{SomeHasRisen, fault_sum, NoFixups};
 ghost use Rattle.dw_unit.specs.Alone.{has_info_reference, AppendsAlone, AloneRefused};
-ghost use Rattle.dw_unit.specs.Elsewhere.{elsewhere, unit_tables, AppendsLine};
+ghost use Rattle.dw_unit.specs.Elsewhere.{elsewhere, unit_tables, AppendsLine, AppendsRanges};
 ghost use Rattle.dw_line.specs.LinePrograms.{no_line_program};
 ghost use Rattle.dw_unit.specs.UnitValue.{new_unit};
 ghost use Rattle.dw_unit.specs.Valid.{IsWritableAt};
@@ -90,6 +90,9 @@ impl DwarfUnit {
         ensures lines { OnOk result
             (AppendsLine W.meaning sections.old sections.new self.old.line_strings
             self.old.strings self.old.unit) }
+        // Its range lists stand behind what the section of its version held.
+        ensures ranges { OnOk result
+            (AppendsRanges W.meaning sections.old sections.new self.old.unit) }
         // The strings stand behind what their sections held.
         ensures strings { OnOk result
             (AddsStrings W.meaning sections.old sections.new self.old.line_strings

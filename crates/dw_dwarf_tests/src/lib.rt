@@ -7,9 +7,9 @@ mod building;
 #[cfg(test)]
 mod dwarf_unit_tests;
 #[cfg(test)]
-mod expression_tests;
-#[cfg(test)]
 mod line_tests;
+#[cfg(test)]
+mod range_tests;
 #[cfg(test)]
 mod relocation_tests;
 #[cfg(test)]

@@ -1,13 +1,11 @@
-//! Line programs of units and of none. The bytes are put down by hand from the tables of headers
-//! and forms (DWARF 5, 6.2.4, 7.5.1 and 7.5.5).
+//! Line programs of units and of none, and their strings. What they are written as is a matter of
+//! the cases of `dwarf_build`.
 
 ghost use Rattle.std.specs.Prelude.{◌≡◌};
 
-use dw_base::constants::{DW_AT_decl_file, DW_AT_stmt_list};
 use dw_base::{DirectoryId, Encoding, Error, Format, LineEncoding, Result};
 use dw_dwarf::{
-    AttributeValue, Bytes, Dwarf, DwarfUnit, EndianVec, LineProgram, LineString, LittleEndian,
-    Sections, StringId, Unit,
+    Bytes, Dwarf, DwarfUnit, EndianVec, LineProgram, LineString, LittleEndian, Sections, Unit,
 };
 use dw_line::FileInfo;
 use std::alloc::Global;
@@ -25,77 +23,6 @@ fn encoding(version: u16) -> Encoding
 
 fn new_sections(alloc: Global) -> Result<Sections<EndianVec<LittleEndian>>> {
     Sections::new(alloc, EndianVec::new(alloc, LittleEndian))
-}
-
-/// A unit of version 5 whose root names the one file of its line program. The names are strings of
-/// `.debug_line_str`.
-fn naming_unit(alloc: Global, dwarf: &mut Dwarf) -> Result<Unit> {
-    let directory = dwarf.line_strings.add(b"/tmp")?;
-    let name = dwarf.line_strings.add(b"a.c")?;
-    let directory = LineString::LineStringRef(directory);
-    let encoding = encoding(5);
-    let mut program = LineProgram::new(alloc, encoding, LineEncoding::default(), directory)?;
-    let name = LineString::LineStringRef(name);
-    let file = program.add_file(name, DirectoryId::new(0), None)?;
-    let mut unit = Unit::new(alloc, encoding, program)?;
-    let root = unit.root();
-    unit.get_mut(root)
-        .set(DW_AT_decl_file, AttributeValue::FileIndex(Some(file)))?;
-    Ok(unit)
-}
-
-/// The program has no sequence, so it is in use for the file that the root names, and the root
-/// names its place in `DW_AT_stmt_list`.
-#[test]
-fn writes_a_line_program_whose_file_is_named(rt: HostRuntime) -> std::result::Result<(), Fail> {
-    let mut dwarf = Dwarf::new(rt.alloc());
-    let unit = naming_unit(rt.alloc(), &mut dwarf)?;
-    dwarf.units.add(unit)?;
-    let mut sections = new_sections(rt.alloc())?;
-    dwarf.write(&mut sections)?;
-    assert_eq!(rt;
-        sections.debug_info.0.slice(),
-        [14, 0, 0, 0, 5, 0, 1, 8, 0, 0, 0, 0, 1, 0, 0, 0, 0, 0].as_slice()
-    );
-    assert_eq!(rt;
-        sections.debug_abbrev.0.slice(),
-        [1, 0x11, 0, 0x3a, 0x0f, 0x10, 0x17, 0, 0, 0].as_slice()
-    );
-    assert_eq!(rt;
-        sections.debug_line.0.slice(),
-        [
-            45, 0, 0, 0, 5, 0, 8, 0, 37, 0, 0, 0, 1, 1, 1, 0xfb, 14, 13, 0, 1, 1, 1, 1, 0, 0, 0, 1,
-            0, 0, 1, 1, 1, 0x1f, 1, 0, 0, 0, 0, 2, 1, 0x1f, 2, 0x0f, 1, 5, 0, 0, 0, 0,
-        ]
-        .as_slice()
-    );
-    Ok(())
-}
-
-/// A unit with a line program that has neither a sequence nor a file that is named.
-fn with_an_idle_program(alloc: Global) -> Result<Unit> {
-    let directory = LineString::StringRef(StringId::new(0));
-    let program = LineProgram::new(alloc, encoding(5), LineEncoding::default(), directory)?;
-    let mut unit = Unit::new(alloc, encoding(5), program)?;
-    let root = unit.root();
-    unit.get_mut(root)
-        .set(DW_AT_stmt_list, AttributeValue::Udata(7))?;
-    Ok(unit)
-}
-
-/// Nothing of it is written, and nothing names it.
-#[test]
-fn leaves_a_line_program_out_that_is_not_in_use(rt: HostRuntime) -> std::result::Result<(), Fail> {
-    let mut dwarf = Dwarf::new(rt.alloc());
-    dwarf.units.add(with_an_idle_program(rt.alloc())?)?;
-    let mut sections = new_sections(rt.alloc())?;
-    dwarf.write(&mut sections)?;
-    assert_eq!(rt; sections.debug_line.0.slice().len(), 0);
-    assert_eq!(rt;
-        sections.debug_abbrev.0.slice(),
-        [1, 0x11, 0, 0, 0, 0].as_slice()
-    );
-    Ok(())
 }
 
 /// No line program can't be written for no unit.

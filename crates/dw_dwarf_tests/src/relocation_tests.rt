@@ -8,7 +8,7 @@ use dw_base::{
 };
 use dw_dwarf::Dwarf;
 use dw_unit::{AttributeValue, LineProgram, Unit};
-use dw_writer::{EndianVec, RelocVec, Relocation, RelocationTarget, Sections};
+use dw_writer::{RelocVec, Relocation, RelocationTarget, Sections};
 use std::alloc::Global;
 use std::test::Fail;
 
@@ -150,17 +150,6 @@ fn records_a_reference_across_units_once(rt: HostRuntime) -> std::result::Result
         TWO_RELOCATIONS.as_slice()
     );
     assert!(rt; sections.debug_info_fixups.is_empty());
-    Ok(())
-}
-
-/// A plain writer takes no symbol.
-#[test]
-fn refuses_a_symbol(rt: HostRuntime) -> std::result::Result<(), Fail> {
-    let mut dwarf = dwarf_of(rt.alloc(), 0x22)?;
-    let writer = EndianVec::new(rt.alloc(), LittleEndian);
-    let mut sections = Sections::new(rt.alloc(), writer)?;
-    let answer = dwarf.write(&mut sections);
-    assert_eq!(rt; answer, Err(Error::InvalidAddress));
     Ok(())
 }
 

@@ -214,17 +214,6 @@ fn writes_a_changed_encoding(rt: HostRuntime) -> std::result::Result<(), Fail> {
     Ok(())
 }
 
-/// The root, a base type `int` of 300 bytes, a variable of 4 bytes, and the end of the root's
-/// children.
-const TREE: [u8; 23] = [
-    0x13, 0, 0, 0, 5, 0, 1, 8, 0, 0, 0, 0, 1, 2, b'i', b'n', b't', 0, 0xac, 2, 3, 4, 0,
-];
-
-/// The abbreviations of the root, of the base type and of the variable.
-const TREE_TABLE: [u8; 22] = [
-    1, 0x11, 1, 0, 0, 2, 0x24, 0, 3, 8, 0x0b, 0x0f, 0, 0, 3, 0x34, 0, 0x0b, 0x0b, 0, 0, 0,
-];
-
 /// New sections into which a unit was written.
 fn written(alloc: Global, unit: Unit) -> Result<Sections<EndianVec<RunTimeEndian>>> {
     let mut dwarf = Dwarf::new(alloc);
@@ -232,41 +221,6 @@ fn written(alloc: Global, unit: Unit) -> Result<Sections<EndianVec<RunTimeEndian
     let mut sections = new_sections(alloc)?;
     dwarf.write(&mut sections)?;
     Ok(sections)
-}
-
-/// Adds a variable, and behind it a base type.
-fn add_a_base_type(alloc: Global, unit: &mut Unit) -> Result<()> {
-    add(unit, 0, DW_TAG_variable)?;
-    set(unit, 1, DW_AT_byte_size, AttributeValue::Data1(4))?;
-    add(unit, 0, DW_TAG_base_type)?;
-    set(unit, 2, DW_AT_name, string(alloc, b"int")?)?;
-    set(unit, 2, DW_AT_byte_size, AttributeValue::Udata(300))
-}
-
-#[test]
-fn writes_base_types_first(rt: HostRuntime) -> std::result::Result<(), Fail> {
-    let mut unit = Unit::new(rt.alloc(), encoding(5), LineProgram::none())?;
-    add_a_base_type(rt.alloc(), &mut unit)?;
-    let sections = written(rt.alloc(), unit)?;
-    assert_eq!(rt; sections.debug_info.0.slice(), TREE.as_slice());
-    assert_eq!(rt; sections.debug_abbrev.0.slice(), TREE_TABLE.as_slice());
-    Ok(())
-}
-
-#[test]
-fn refuses_a_zero_byte_in_a_string(rt: HostRuntime) -> std::result::Result<(), Fail> {
-    let mut unit = Unit::new(rt.alloc(), encoding(5), LineProgram::none())?;
-    let root = unit.root();
-    let name = Bytes::new(rt.alloc(), &[b'a', 0, b'b'])?;
-    unit.get_mut(root)
-        .set(DW_AT_name, AttributeValue::String(name))?;
-    let mut dwarf = Dwarf::new(rt.alloc());
-    dwarf.units.add(unit)?;
-    let mut sections = new_sections(rt.alloc())?;
-    assert_eq!(rt; dwarf.units.count(), 1);
-    let answer = dwarf.write(&mut sections);
-    assert_eq!(rt; answer, Err(Error::InvalidAttributeValue));
-    Ok(())
 }
 
 /// A unit whose root has one child, with a place past its own child, a name, and the root as its
@@ -318,36 +272,5 @@ fn changes_an_entry_through_its_handle(rt: HostRuntime) -> std::result::Result<(
     let sections = written(rt.alloc(), unit)?;
     assert_eq!(rt; sections.debug_info.0.slice(), CHANGED.as_slice());
     assert_eq!(rt; sections.debug_abbrev.0.slice(), CHANGED_TABLE.as_slice());
-    Ok(())
-}
-
-/// The abbreviations of the root, of a variable with children, and of one without.
-const CHAIN_TABLE: [u8; 16] = [1, 0x11, 1, 0, 0, 2, 0x34, 1, 0, 0, 3, 0x34, 0, 0, 0, 0];
-
-/// Adds entries, each the only child of the one before, up to this number of entries.
-fn add_a_chain(unit: &mut Unit, count: usize) -> Result<()> {
-    for parent in 1..count {
-        add(unit, parent - 1, DW_TAG_variable)?;
-    }
-    Ok(())
-}
-
-#[test]
-fn writes_a_long_chain(rt: HostRuntime) -> std::result::Result<(), Fail> {
-    let mut unit = Unit::new(rt.alloc(), encoding(5), LineProgram::none())?;
-    add_a_chain(&mut unit, 100_000)?;
-    let sections = written(rt.alloc(), unit)?;
-    // The length counts 8 bytes of the header, a code for each entry, and a zero for each that has
-    // children: 200,007, which is 0x30d47.
-    let mut info = vec![in rt.alloc(); 0x47, 0x0d, 3, 0, 5, 0, 1, 8, 0, 0, 0, 0, 1]?;
-    for _ in 2..100_000 {
-        info.push(2)?;
-    }
-    info.push(3)?;
-    for _ in 1..100_000 {
-        info.push(0)?;
-    }
-    assert!(rt; sections.debug_info.0.slice() == info.as_slice());
-    assert_eq!(rt; sections.debug_abbrev.0.slice(), CHAIN_TABLE.as_slice());
     Ok(())
 }

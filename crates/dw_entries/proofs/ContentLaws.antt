@@ -12,14 +12,15 @@ use Rattle.dw_base.specs.Spellable.{IsText, KindFits}
 use Rattle.dw_base.specs.declared.common.Encoding.{Encoding}
 use Rattle.dw_base.specs.declared.common.Format.{Format}
 use Rattle.dw_base.specs.declared.common.Format.TheVariants.{Dwarf32, Dwarf64}
+use Rattle.dw_base.specs.declared.section_id.SectionId.{SectionId}
+use Rattle.dw_base.specs.declared.section_id.SectionId.TheVariants.{DebugRanges, DebugRngLists, DebugLoc, DebugLocLists}
 use Rattle.dw_base.proofs.NumberLaws.{bind_parts, when_same, length-num}
-use Rattle.dw_entries.specs.Content.{Content, Nothing, Plain, Wide, Leb, SignedLeb, Block, Expression, Closed, Target, Offset, InTable, OwnPart, File, EntryPlace, InfoPlace, info_in, number_in, bytes_in, counted, has_zero, address_in, content_operand, content_kind, content_size, IsContentRanged}
+use Rattle.dw_entries.specs.Content.{Content, Nothing, Plain, Wide, Leb, SignedLeb, Block, Expression, Closed, Target, Offset, InTable, TableIndex, OwnPart, File, EntryPlace, InfoPlace, info_in, number_in, bytes_in, counted, has_zero, address_in, content_operand, content_kind, content_size, IsContentRanged}
 use Rattle.dw_writer.specs.Layout.{start_of}
-use Rattle.dw_expr.specs.Trees.{Node}
 use Rattle.dw_expr.specs.Spelling.{expression_draft}
 use Rattle.dw_expr.proofs.ExpressionDrafts.{expression-wide}
 use Rattle.dw_entries.specs.Targets.{Targets}
-use Rattle.dw_entries.specs.Values.{reference_form, supplementary_form, word_form, form_of, content_of}
+use Rattle.dw_entries.specs.Values.{reference_form, supplementary_form, word_form, offset_form, form_of, content_of}
 use Rattle.dw_entries.specs.declared.value.AttributeValue.{AttributeValue}
 use Rattle.dw_entries.specs.declared.value.AttributeValue.TheVariants as values
 
@@ -60,6 +61,12 @@ unfolding kind_of
 kind_of-expression e true = refl
 kind_of-expression e false = refl
 
+-- a list by its index, or by its place
+kind_of-list : (e : Encoding) (form i : ℕ) (table old : SectionId) (b : Bool) → kind_of e form ≡ Some Uleb →
+    kind_of e (if b then form else offset_form e) ≡ Some (content_kind e (if b then TableIndex table i else InTable old i))
+kind_of-list e form i table old true h = h
+kind_of-list e form i table old false h = kind_of-offset e (nat_le 4 e.version)
+
 -- a line for each variant
 pub kind_of-form : (e : Encoding) (v : AttributeValue) → kind_of e (form_of e v) ≡ Some (content_kind e (content_of e v))
 unfolding kind_of
@@ -87,6 +94,10 @@ kind_of-form e (values.StringRef i) = refl
 kind_of-form e (values.LineStringRef i) = refl
 kind_of-form e values.LineProgramRef = kind_of-offset e (nat_le 4 e.version)
 kind_of-form e (values.FileIndex file) = refl
+kind_of-form e (values.RangeListRef i) = kind_of-list e 0x23 i.0 DebugRngLists DebugRanges (e.version == 5) refl
+kind_of-form e values.RangeListsBase = kind_of-offset e (nat_le 4 e.version)
+kind_of-form e values.LocationListsBase = kind_of-offset e (nat_le 4 e.version)
+kind_of-form e (values.LocationListRef i) = kind_of-list e 0x22 i.0 DebugLocLists DebugLoc (e.version == 5) refl
 kind_of-form e (values.String s) = refl
 kind_of-form e (values.Encoding n) = refl
 kind_of-form e (values.DecimalSign n) = refl
@@ -161,6 +172,7 @@ content_fits big e t (Closed s) o r h = text-fits s (not (has_zero s)) o h (no_z
 content_fits big e t (Target a) o r h = bound-fits e.address_size (address_in t a) o h
 content_fits big e t (Offset section n) o r h = number_in-fits (word_of e.format) _ o h
 content_fits big e t (InTable section i) o r h = table-fits (word_of e.format) (t.tables.part section i) (start_of t.layout section) o h
+content_fits big e t (TableIndex section i) o r h = let m = bind_parts (t.tables.part section i) (λ n. Some (Number i)) o h in subst (KindFits Uleb) (same_Some (Number i) o m.2) r
 content_fits big e t (OwnPart section) o r h = table-fits (word_of e.format) (t.tables.own section) (start_of t.layout section) o h
 content_fits big e t (File n) o r h = file-fits n (fits 8 n) o h (fits_64 n)
 content_fits big e t (EntryPlace i) o r h = bound-fits (word_of e.format) (t.place i) o h
@@ -208,6 +220,7 @@ content_long big e t (Closed s) o h = text-long big s (not (has_zero s)) o h
 content_long big e t (Target a) o h = bound-long big e.address_size (address_in t a) o h
 content_long big e t (Offset section n) o h = number_in-long big (word_of e.format) _ o h
 content_long big e t (InTable section i) o h = table-long big (word_of e.format) (t.tables.part section i) (start_of t.layout section) o h
+content_long big e t (TableIndex section i) o h = let m = bind_parts (t.tables.part section i) (λ n. Some (Number i)) o h in told big Uleb (Number i) o m.2
 content_long big e t (OwnPart section) o h = table-long big (word_of e.format) (t.tables.own section) (start_of t.layout section) o h
 content_long big e t (File n) o h = told big Uleb (Number n) o (when_same (fits 8 n) (Some (Number n)) o h)
 content_long big e t (EntryPlace i) o h = bound-long big (word_of e.format) (t.place i) o h
@@ -231,6 +244,10 @@ constant_width : (z : ℤ) (b : Bool) → HasWidth (if b then Nothing else Signe
 constant_width z true = tt
 constant_width z false = tt
 
+list_width : (i : ℕ) (table old : SectionId) (b : Bool) → HasWidth (if b then TableIndex table i else InTable old i)
+list_width i table old true = tt
+list_width i table old false = tt
+
 content_width : (e : Encoding) (v : AttributeValue) → HasWidth (content_of e v)
 content_width e (values.Data1 n) = refl
 content_width e (values.Data2 n) = refl
@@ -242,6 +259,8 @@ content_width e values.FlagPresent = present_width (nat_le 4 e.version)
 content_width e (values.DebugInfoRefSup n) = word_width e.format
 content_width e (values.DebugTypesRef n) = refl
 content_width e (values.DebugStrRefSup n) = word_width e.format
+content_width e (values.RangeListRef i) = list_width i.0 DebugRngLists DebugRanges (e.version == 5)
+content_width e (values.LocationListRef i) = list_width i.0 DebugLocLists DebugLoc (e.version == 5)
 content_width e v = tt
 
 -- the width of a value that is written as a number

@@ -11,6 +11,7 @@ pub mod Replaced
 pub mod Walk
 pub mod Inside
 pub mod TreeLaws
+pub mod SettledAttributes
 pub mod SettledLaws
 pub mod Tagged
 pub mod Distinct

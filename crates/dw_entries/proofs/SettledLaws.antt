@@ -1,21 +1,18 @@
--- Entries with a settled root are linked as before, and have no name twice.
+-- Entries with a settled root are linked as before.
 use Rattle.std.proofs.Common.{◌≡◌, ◌∙◌, sym, ap, subst, ℕ, zero, suc, List, [], ◌∷◌, ◌++◌, Bool, true, false, refl, arith, length, Result, Ok, Err}
 use Rattle.std.specs.Prelude.{◌==◌, ◌||◌, not, if◌then◌else◌, OnOk, OnErr}
 use Rattle.std.specs.List.{list_any, IsDistinct, filter}
-use Rattle.std.proofs.lemmas.Bool.{false≢true, eq-eqb}
+use Rattle.std.proofs.lemmas.Bool.{false≢true}
 use Rattle.std.proofs.lemmas.List.{append-nil}
 use Rattle.std.proofs.lemmas.List.Elements.{filter-append}
 use Rattle.std.proofs.lemmas.List.Folds.{list_any-append}
-use Rattle.dw_entries.specs.declared.attribute.Attribute.{Attribute}
-use Rattle.dw_entries.specs.declared.value.AttributeValue.{AttributeValue}
-use Rattle.dw_entries.specs.declared.value.AttributeValue.TheVariants as values
-use Rattle.dw_entries.specs.Attributes.{is_named, named, set_named, HaveDistinctNames}
+use Rattle.dw_entries.specs.declared.own_parts.OwnParts.{OwnParts}
 use Rattle.dw_entries.specs.Entries.{EntryValue, entry_at, with_attributes}
 use Rattle.dw_entries.specs.Arena.{AreLinked, HasChild, IsArena}
-use Rattle.dw_entries.specs.Settled.{with_children, base_type_tag, is_base, base_children, other_children, bases_first, stmt_list_name, settled_attributes, with_line_program, settled_root, settled_entries}
+use Rattle.dw_entries.specs.Settled.{with_children, base_type_tag, is_base, base_children, other_children, bases_first, with_own_parts, settled_root, settled_entries}
 use Rattle.dw_entries.proofs.Changed.{length-with_changed, seen_kept, numbered_changed}
-use Rattle.dw_entries.proofs.Named.{HaveDistinctNames-set_named, HaveDistinctNames-without}
 use Rattle.dw_entries.proofs.Filtered.{kept, distinct_filter, distinct_append}
+use Rattle.dw_entries.proofs.SettledAttributes.{attributes_again}
 
 pub has-bases_first : (es : List EntryValue) (cs : List ℕ) (c : ℕ) → HasChild (bases_first es cs) c → HasChild cs c
 has-bases_first es cs c h =
@@ -36,23 +33,23 @@ distinct-bases_first es cs h =
         let b = (kept (λ i. not (is_base es i)) x cs k).1 in
         false≢true (ap not (sym a) ∙ b)
 
-module _ (has_line_program : Bool) where
-  pub parent_of-settled : (es : List EntryValue) (i : ℕ) → (entry_at (settled_entries has_line_program es) i).parent ≡ (entry_at es i).parent
-  parent_of-settled es i = seen_kept (λ e. e.parent) 0 (settled_root has_line_program es) es (λ e. refl) i
+module _ (parts : OwnParts) where
+  pub parent_of-settled : (es : List EntryValue) (i : ℕ) → (entry_at (settled_entries parts es) i).parent ≡ (entry_at es i).parent
+  parent_of-settled es i = seen_kept (λ e. e.parent) 0 (settled_root parts es) es (λ e. refl) i
 
-  pub tag_of-settled : (es : List EntryValue) (i : ℕ) → (entry_at (settled_entries has_line_program es) i).tag ≡ (entry_at es i).tag
-  tag_of-settled es i = seen_kept (λ e. e.tag) 0 (settled_root has_line_program es) es (λ e. refl) i
+  pub tag_of-settled : (es : List EntryValue) (i : ℕ) → (entry_at (settled_entries parts es) i).tag ≡ (entry_at es i).tag
+  tag_of-settled es i = seen_kept (λ e. e.tag) 0 (settled_root parts es) es (λ e. refl) i
 
-  pub children_of-settled : (es : List EntryValue) → (entry_at (settled_entries has_line_program es) 0).children ≡ bases_first es (entry_at es 0).children
+  pub children_of-settled : (es : List EntryValue) → (entry_at (settled_entries parts es) 0).children ≡ bases_first es (entry_at es 0).children
   children_of-settled [] = refl
   children_of-settled (e ∷ es) = refl
 
-  pub children_of-settled_other : (es : List EntryValue) (i : ℕ) → (entry_at (settled_entries has_line_program es) (suc i)).children ≡ (entry_at es (suc i)).children
+  pub children_of-settled_other : (es : List EntryValue) (i : ℕ) → (entry_at (settled_entries parts es) (suc i)).children ≡ (entry_at es (suc i)).children
   children_of-settled_other [] i = refl
   children_of-settled_other (e ∷ es) i = refl
 
   -- settling keeps the entries linked
-  pub linked_settled : (es : List EntryValue) → AreLinked es → AreLinked (settled_entries has_line_program es)
+  pub linked_settled : (es : List EntryValue) → AreLinked es → AreLinked (settled_entries parts es)
   linked_settled es links = record {
     own = λ p c h. parent_of-settled es c ∙ links.own p c (was p c h);
     once = once;
@@ -60,46 +57,41 @@ module _ (has_line_program : Bool) where
     unadded = λ i h. parent_of-settled es i ∙ links.unadded i (sym (tag_of-settled es i) ∙ h);
   }
     where
-      was : (p c : ℕ) → HasChild (entry_at (settled_entries has_line_program es) p).children c → HasChild (entry_at es p).children c
+      was : (p c : ℕ) → HasChild (entry_at (settled_entries parts es) p).children c → HasChild (entry_at es p).children c
       was zero c h =
           has-bases_first es (entry_at es 0).children c (ap (list_any (λ x. c == x)) (sym (children_of-settled es)) ∙ h)
       was (suc p) c h = ap (list_any (λ x. c == x)) (sym (children_of-settled_other es p)) ∙ h
 
-      once : (p : ℕ) → IsDistinct ◌==◌ (entry_at (settled_entries has_line_program es) p).children
+      once : (p : ℕ) → IsDistinct ◌==◌ (entry_at (settled_entries parts es) p).children
       once zero =
           subst (IsDistinct ◌==◌) (sym (children_of-settled es)) (distinct-bases_first es (entry_at es 0).children (links.once 0))
       once (suc p) = subst (IsDistinct ◌==◌) (sym (children_of-settled_other es p)) (links.once (suc p))
 
   -- settling keeps what is true of all entries
-  pub arena_settled : (es : List EntryValue) (reserved : ℕ) → IsArena es reserved → IsArena (settled_entries has_line_program es) reserved
+  pub arena_settled : (es : List EntryValue) (reserved : ℕ) → IsArena es reserved → IsArena (settled_entries parts es) reserved
   arena_settled es reserved s =
-      let len = length-with_changed 0 (settled_root has_line_program es) es in record {
+      let len = length-with_changed 0 (settled_root parts es) es in record {
         linked = linked_settled es s.linked;
-        numbered = numbered_changed 0 (settled_root has_line_program es) es (λ e. refl) s.numbered;
+        numbered = numbered_changed 0 (settled_root parts es) es (λ e. refl) s.numbered;
         within = omega (arith, s.within, len);
         tagged = λ some none. s.tagged (omega (arith, some, len)) (sym (tag_of-settled es 0) ∙ none);
       }
 
 -- so does a call that may fail
-module _ {E : Type 0} (r : Result (Unit {0}) E) (b : Bool) (es new : List EntryValue) where
-  pub arena_settled_either : (reserved : ℕ) → OnOk r (new ≡ settled_entries b es) → OnErr r (new ≡ es) → IsArena es reserved → IsArena new reserved
+module _ {E : Type 0} (r : Result (Unit {0}) E) (parts : OwnParts) (es new : List EntryValue) where
+  pub arena_settled_either : (reserved : ℕ) → OnOk r (new ≡ settled_entries parts es) → OnErr r (new ≡ es) → IsArena es reserved → IsArena new reserved
   arena_settled_either reserved ok kept s = go r ok kept
     where
-      go : (r : Result (Unit {0}) E) → OnOk r (new ≡ settled_entries b es) → OnErr r (new ≡ es) → IsArena new reserved
-      go (Ok x) ok kept = subst (λ xs. IsArena xs reserved) (sym ok) (arena_settled b es reserved s)
+      go : (r : Result (Unit {0}) E) → OnOk r (new ≡ settled_entries parts es) → OnErr r (new ≡ es) → IsArena new reserved
+      go (Ok x) ok kept = subst (λ xs. IsArena xs reserved) (sym ok) (arena_settled parts es reserved s)
       go (Err x) ok kept = subst (λ xs. IsArena xs reserved) (sym kept) s
 
-  pub length_settled_either : OnOk r (new ≡ settled_entries b es) → OnErr r (new ≡ es) → length new ≡ length es
+  pub length_settled_either : OnOk r (new ≡ settled_entries parts es) → OnErr r (new ≡ es) → length new ≡ length es
   length_settled_either ok kept = go r ok kept
     where
-      go : (r : Result (Unit {0}) E) → OnOk r (new ≡ settled_entries b es) → OnErr r (new ≡ es) → length new ≡ length es
-      go (Ok x) ok kept = ap length ok ∙ length-with_changed 0 (settled_root b es) es
+      go : (r : Result (Unit {0}) E) → OnOk r (new ≡ settled_entries parts es) → OnErr r (new ≡ es) → length new ≡ length es
+      go (Ok x) ok kept = ap length ok ∙ length-with_changed 0 (settled_root parts es) es
       go (Err x) ok kept = ap length kept
-
--- no name comes twice into attributes that are settled
-pub distinct_settled : (b : Bool) (xs : List Attribute) → HaveDistinctNames xs → HaveDistinctNames (settled_attributes b xs)
-distinct_settled true xs h = HaveDistinctNames-set_named stmt_list_name values.LineProgramRef xs (omega arith) h
-distinct_settled false xs h = HaveDistinctNames-without stmt_list_name xs h
 
 -- Twice is once.
 
@@ -142,23 +134,10 @@ bases_first-same es new cs h =
     ap (λ t. t ++ filter (λ c. not (is_base new c)) cs) (filter_same (is_base new) (is_base es) cs (λ i. ap (λ t. t == base_type_tag) (h i)))
     ∙ ap (λ t. base_children es cs ++ t) (filter_same (λ c. not (is_base new c)) (λ c. not (is_base es c)) cs (λ i. ap (λ t. not (t == base_type_tag)) (h i)))
 
--- what was put under a name is put there once
-set_again : (n : ℕ) (v : AttributeValue) (xs : List Attribute) → set_named n v (set_named n v xs) ≡ set_named n v xs
-set_again n v [] = ap (λ b. if b then named n v ∷ [] else named n v ∷ set_named n v []) (eq-eqb n n refl)
-set_again n v (a ∷ xs) = go (is_named n a) refl (set_again n v xs)
-  where
-    go : (b : Bool) → is_named n a ≡ b → set_named n v (set_named n v xs) ≡ set_named n v xs → set_named n v (if b then named n v ∷ xs else a ∷ set_named n v xs) ≡ (if b then named n v ∷ xs else a ∷ set_named n v xs)
-    go true h e = ap (λ b. if b then named n v ∷ xs else named n v ∷ set_named n v xs) (eq-eqb n n refl)
-    go false h e = ap (λ b. if b then named n v ∷ set_named n v xs else a ∷ set_named n v (set_named n v xs)) h ∙ ap (λ t. a ∷ t) e
-
-attributes_again : (b : Bool) (xs : List Attribute) → settled_attributes b (settled_attributes b xs) ≡ settled_attributes b xs
-attributes_again true xs = set_again stmt_list_name values.LineProgramRef xs
-attributes_again false xs = filter_again (λ a. not (is_named stmt_list_name a)) xs
-
 -- settling twice is settling once
-pub settled-settled : (b : Bool) (es : List EntryValue) → settled_entries b (settled_entries b es) ≡ settled_entries b es
-settled-settled b [] = refl
-settled-settled b (e ∷ es) =
+pub settled-settled : (parts : OwnParts) (es : List EntryValue) → settled_entries parts (settled_entries parts es) ≡ settled_entries parts es
+settled-settled parts [] = refl
+settled-settled parts (e ∷ es) =
     let first = bases_first (e ∷ es) e.children in
-    ap (λ cs. with_children cs (with_line_program b (with_line_program b e)) ∷ es) (bases_first-same (e ∷ es) (settled_entries b (e ∷ es)) first (tag_of-settled b (e ∷ es)) ∙ bases_first-again (e ∷ es) e.children)
-    ∙ ap (λ xs. with_children first (with_attributes xs e) ∷ es) (attributes_again b e.attributes)
+    ap (λ cs. with_children cs (with_own_parts parts (with_own_parts parts e)) ∷ es) (bases_first-same (e ∷ es) (settled_entries parts (e ∷ es)) first (tag_of-settled parts (e ∷ es)) ∙ bases_first-again (e ∷ es) e.children)
+    ∙ ap (λ xs. with_children first (with_attributes xs e) ∷ es) (attributes_again parts e.attributes)

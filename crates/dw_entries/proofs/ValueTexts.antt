@@ -23,7 +23,7 @@ use Rattle.dw_writer.proofs.WriteLaws.{reference-draft}
 use Rattle.dw_expr.specs.Trees.{Node}
 use Rattle.dw_expr.specs.Spelling.{expression_draft}
 use Rattle.dw_expr.proofs.ExpressionDrafts.{bytes-draft, expression-draft}
-use Rattle.dw_entries.specs.Content.{Content, Nothing, Plain, Wide, Leb, SignedLeb, Block, Expression, Closed, Target, Offset, InTable, OwnPart, File, EntryPlace, InfoPlace, number_in, bytes_in, content_operand, content_kind, content_size, content_holes}
+use Rattle.dw_entries.specs.Content.{Content, Nothing, Plain, Wide, Leb, SignedLeb, Block, Expression, Closed, Target, Offset, InTable, TableIndex, OwnPart, File, EntryPlace, InfoPlace, number_in, bytes_in, content_operand, content_kind, content_size, content_holes}
 use Rattle.dw_entries.specs.declared.value.AttributeValue.{AttributeValue}
 use Rattle.dw_entries.specs.Targets.{Targets, UnitTargets, targets_in}
 use Rattle.dw_entries.specs.Values.{reference_form, form_of, content_of, operand_of, operand_size, value_draft, IsRanged}
@@ -164,6 +164,7 @@ content-draft e u (Closed s) k kind width = plain-draft e u (Closed s) k kind (�
 content-draft e u (Target a) k kind width = plain-draft e u (Target a) k kind (λ info big l. refl) refl
 content-draft e u (Offset section n) k kind width = plain-draft e u (Offset section n) k kind (λ info big l. refl) refl
 content-draft e u (InTable section i) k kind width = plain-draft e u (InTable section i) k kind (λ info big l. refl) refl
+content-draft e u (TableIndex section i) k kind width = plain-draft e u (TableIndex section i) k kind (λ info big l. refl) refl
 content-draft e u (OwnPart section) k kind width = plain-draft e u (OwnPart section) k kind (λ info big l. refl) refl
 content-draft e u (File n) k kind width = plain-draft e u (File n) k kind (λ info big l. refl) refl
 content-draft e u (EntryPlace i) k kind width = plain-draft e u (EntryPlace i) k kind (λ info big l. refl) refl

@@ -22,7 +22,7 @@ use Rattle.dw_expr.specs.Spelling.{starts_from, parts_of, expression_draft, expr
 use Rattle.dw_expr.specs.Causes.{nodes_unplaced, nodes_fail, expression_fails}
 use Rattle.dw_expr.proofs.ExpressionDrafts.{expression-wide}
 use Rattle.dw_expr.proofs.ExpressionsThere.{ArePlaced, expression_there}
-use Rattle.dw_entries.specs.Content.{Content, Nothing, Plain, Wide, Leb, SignedLeb, Block, Expression, Closed, Target, Offset, InTable, OwnPart, File, EntryPlace, InfoPlace, number_in, bytes_in, has_zero, address_in, address_fails, table_fails, own_fails, content_operand, content_holes, content_fails}
+use Rattle.dw_entries.specs.Content.{Content, Nothing, Plain, Wide, Leb, SignedLeb, Block, Expression, Closed, Target, Offset, InTable, TableIndex, OwnPart, File, EntryPlace, InfoPlace, number_in, bytes_in, has_zero, address_in, address_fails, table_fails, own_fails, content_operand, content_holes, content_fails}
 use Rattle.dw_entries.specs.Targets.{Targets, UnitTargets, targets_in, HaveInfoPlaces}
 use Rattle.dw_entries.specs.Values.{form_of, content_of, operand_of, operand_holes, value_text, value_fails}
 use Rattle.dw_entries.specs.declared.value.AttributeValue.{AttributeValue}
@@ -67,6 +67,11 @@ table_there : (w start : ℕ) (i : Option ℕ) → start ≡ 0 → ((err : Error
 table_there w start None zero sound = absurd (let k : true ≡ false = sound errors.InvalidReference in cc)
 table_there w start (Some n) zero sound = offset_there w n start zero (sound errors.ValueTooLarge)
 
+-- the index of what a table has
+index_there : (i : Option ℕ) (o : Operand) → IsFalse (is_none i) → IsOperand (i >>= λ n. Some o)
+index_there None o h = absurd (let k : true ≡ false = h in cc)
+index_there (Some n) o h = (o, refl)
+
 -- the unit's own part
 own_there : (w start : ℕ) (i : Option ℕ) → start ≡ 0 → ((err : Error) → IsFalse (own_fails w true i err)) → IsOperand (i >>= λ n. number_in w (n + start))
 own_there w start None zero sound = absurd (let k : true ≡ false = sound errors.InvalidAttributeValue in cc)
@@ -108,6 +113,7 @@ module _ (big : Bool) (e : Encoding) (u : UnitTargets) (l : Layout) (info : Info
   content_there (Target a) zero holes fit sound = address_there e.address_size (targets_in u l info) a sound
   content_there (Offset section n) zero holes fit sound = offset_there (word_of e.format) n (start_of l section) (zero section) (sound errors.ValueTooLarge)
   content_there (InTable section i) zero holes fit sound = table_there (word_of e.format) (start_of l section) (u.tables.part section i) (zero section) sound
+  content_there (TableIndex section i) zero holes fit sound = index_there (u.tables.part section i) (Number i) (sound errors.InvalidReference)
   content_there (OwnPart section) zero holes fit sound = own_there (word_of e.format) (start_of l section) (u.tables.own section) (zero section) sound
   content_there (File n) zero holes fit sound = when_there (fits 8 n) (Number n) (not_false (fits 8 n) (sound errors.ValueTooLarge))
   content_there (EntryPlace i) zero holes fit sound = number_there (word_of e.format) (u.place i) (sound errors.InvalidReference) (fit i)

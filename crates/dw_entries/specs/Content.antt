@@ -43,6 +43,8 @@ pub data Content : Type 0 where
   Offset : SectionId → ℕ → Content
   -- the place in a section of what a table has there under a number
   InTable : SectionId → ℕ → Content
+  -- the index under which a table has something in a section, in unsigned LEB128
+  TableIndex : SectionId → ℕ → Content
   -- the place in a section where the unit's own part of it begins
   OwnPart : SectionId → Content
   -- the number of a file, in unsigned LEB128
@@ -93,6 +95,7 @@ content_operand big e t (Target a) = address_in t a >>= number_in e.address_size
 content_operand big e t (Offset section n) = number_in (word_of e.format) (n + start_of t.layout section)
 content_operand big e t (InTable section i) =
     t.tables.part section i >>= λ n. number_in (word_of e.format) (n + start_of t.layout section)
+content_operand big e t (TableIndex section i) = t.tables.part section i >>= λ n. Some (Number i)
 content_operand big e t (OwnPart section) =
     t.tables.own section >>= λ n. number_in (word_of e.format) (n + start_of t.layout section)
 content_operand big e t (File n) = number_in 8 n
@@ -112,6 +115,7 @@ content_kind e (Closed s) = Zeroed
 content_kind e (Target a) = Fixed e.address_size
 content_kind e (Offset section n) = Fixed (word_of e.format)
 content_kind e (InTable section i) = Fixed (word_of e.format)
+content_kind e (TableIndex section i) = Uleb
 content_kind e (OwnPart section) = Fixed (word_of e.format)
 content_kind e (File n) = Uleb
 content_kind e (EntryPlace i) = Fixed (word_of e.format)
@@ -134,6 +138,7 @@ content_size e place (Closed s) = length s + 1
 content_size e place (Target a) = e.address_size
 content_size e place (Offset section n) = word_of e.format
 content_size e place (InTable section i) = word_of e.format
+content_size e place (TableIndex section i) = length (uleb i)
 content_size e place (OwnPart section) = word_of e.format
 content_size e place (File n) = length (uleb n)
 content_size e place (EntryPlace i) = word_of e.format
@@ -157,6 +162,7 @@ IsContentRanged (Wide n) = n < 2 ^ 128
 IsContentRanged (Leb n) = n < 2 ^ 64
 IsContentRanged (SignedLeb z) = IsTrue (fits_i64 z)
 IsContentRanged (Block xs) = length xs < 2 ^ 64
+IsContentRanged (TableIndex section i) = i < 2 ^ 64
 IsContentRanged c = ⊤
 
 -- Faults, a line for each error
@@ -182,7 +188,7 @@ abbrev pub offset_fails : ℕ → Bool → ℕ → Error → Bool
 offset_fails w is_plain n errors.ValueTooLarge = not (offset_fits is_plain w n)
 offset_fails w is_plain n err = false
 
--- an entry that is named has no place
+-- an entry that is named has no place, or a table has nothing under an index
 abbrev pub reference_fails : Option ℕ → Error → Bool
 reference_fails place errors.InvalidReference = is_none place
 reference_fails place err = false
@@ -212,6 +218,7 @@ content_fails e u is_plain (Closed s) err = text_fails s err
 content_fails e u is_plain (Target a) err = address_fails e.address_size is_plain a err
 content_fails e u is_plain (Offset section n) err = offset_fails (word_of e.format) is_plain n err
 content_fails e u is_plain (InTable section i) err = table_fails (word_of e.format) is_plain (u.tables.part section i) err
+content_fails e u is_plain (TableIndex section i) err = reference_fails (u.tables.part section i) err
 content_fails e u is_plain (OwnPart section) err = own_fails (word_of e.format) is_plain (u.tables.own section) err
 content_fails e u is_plain (File n) err = number_fails 8 n err
 content_fails e u is_plain (EntryPlace i) err = reference_fails (u.place i) err

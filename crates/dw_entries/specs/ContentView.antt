@@ -21,6 +21,7 @@ content_in (held.Closed s) = of.Closed s.now
 content_in (held.Target a) = of.Target a
 content_in (held.Offset n section) = of.Offset section n
 content_in (held.InTable section i) = of.InTable section i
+content_in (held.TableIndex section i) = of.TableIndex section i
 content_in (held.OwnPart section) = of.OwnPart section
 content_in (held.File n) = of.File (number_or_past n)
 content_in (held.EntryPlace i) = of.EntryPlace i.0

@@ -67,6 +67,10 @@ value_key (values.StringRef i) = key_by 34 i.0 (pos 0) []
 value_key (values.LineStringRef i) = key_by 35 i.0 (pos 0) []
 value_key values.LineProgramRef = key_by 36 0 (pos 0) []
 value_key (values.FileIndex file) = file_key file
+value_key (values.RangeListRef i) = key_by 40 i.0 (pos 0) []
+value_key values.RangeListsBase = key_by 41 0 (pos 0) []
+value_key values.LocationListsBase = key_by 42 0 (pos 0) []
+value_key (values.LocationListRef i) = key_by 43 i.0 (pos 0) []
 value_key (values.Encoding n) = key_by 20 n.0 (pos 0) []
 value_key (values.DecimalSign n) = key_by 21 n.0 (pos 0) []
 value_key (values.Endianity n) = key_by 22 n.0 (pos 0) []
@@ -125,6 +129,10 @@ value_by k =
     if k.kind == 37 then values.FileIndex None else
     if k.kind == 38 then values.FileIndex (Some (record { 0 = k.number })) else
     if k.kind == 39 then values.Exprloc (unwrap_or k.expression []) else
+    if k.kind == 40 then values.RangeListRef (record { 0 = k.number }) else
+    if k.kind == 41 then values.RangeListsBase else
+    if k.kind == 42 then values.LocationListsBase else
+    if k.kind == 43 then values.LocationListRef (record { 0 = k.number }) else
     if k.kind == 32 then values.DebugInfoRef (refs.Symbol k.number) else
     values.DebugInfoRef (refs.Entry (record { 0 = k.unit }) (record { 0 = k.number }))
 
@@ -158,6 +166,10 @@ value_by-key (values.LineStringRef i) = refl
 value_by-key values.LineProgramRef = refl
 value_by-key (values.FileIndex None) = refl
 value_by-key (values.FileIndex (Some file)) = refl
+value_by-key (values.RangeListRef i) = refl
+value_by-key values.RangeListsBase = refl
+value_by-key values.LocationListsBase = refl
+value_by-key (values.LocationListRef i) = refl
 value_by-key (values.Encoding n) = refl
 value_by-key (values.DecimalSign n) = refl
 value_by-key (values.Endianity n) = refl

@@ -1,23 +1,24 @@
 -- How values are written: one line for each variant (DWARF 5, 7.5.4 to 7.5.6).
-use Rattle.std.specs.Prelude.{◌≡◌, ℕ, ◌+◌, ◌≤◌, ◌^◌, Bool, true, false, ◌==◌, nat_le, List, [], Option, Some, None, ℤ, IsTrue, if◌then◌else◌}
+use Rattle.std.specs.Prelude.{◌≡◌, ℕ, ◌+◌, ◌≤◌, ◌^◌, Bool, true, false, ◌==◌, nat_le, List, Option, Some, None, ℤ, IsTrue, if◌then◌else◌}
 use Rattle.dw_base.specs.Numbers.{◌>>=◌, word_of}
 use Rattle.dw_base.specs.Forms.{Operand, kind_of}
 use Rattle.dw_base.specs.Spelling.{operand_bytes}
-use Rattle.dw_base.specs.declared.constants.TheConstants.{DW_FORM_addr, DW_FORM_block, DW_FORM_exprloc, DW_FORM_data1, DW_FORM_data2, DW_FORM_data4, DW_FORM_data8, DW_FORM_data16, DW_FORM_sdata, DW_FORM_udata, DW_FORM_implicit_const, DW_FORM_flag, DW_FORM_flag_present, DW_FORM_ref4, DW_FORM_ref8, DW_FORM_ref_addr, DW_FORM_ref_sup4, DW_FORM_ref_sup8, DW_FORM_ref_sig8, DW_FORM_sec_offset, DW_FORM_string, DW_FORM_strp, DW_FORM_strp_sup, DW_FORM_line_strp}
+use Rattle.dw_base.specs.declared.constants.TheConstants.{DW_FORM_addr, DW_FORM_block, DW_FORM_exprloc, DW_FORM_data1, DW_FORM_data2, DW_FORM_data4, DW_FORM_data8, DW_FORM_data16, DW_FORM_sdata, DW_FORM_udata, DW_FORM_implicit_const, DW_FORM_flag, DW_FORM_flag_present, DW_FORM_ref4, DW_FORM_ref8, DW_FORM_ref_addr, DW_FORM_ref_sup4, DW_FORM_ref_sup8, DW_FORM_ref_sig8, DW_FORM_sec_offset, DW_FORM_string, DW_FORM_strp, DW_FORM_strp_sup, DW_FORM_line_strp, DW_FORM_loclistx, DW_FORM_rnglistx}
 use Rattle.dw_base.specs.declared.common.Encoding.{Encoding}
 use Rattle.dw_base.specs.declared.common.Format.{Format}
 use Rattle.dw_base.specs.declared.common.Format.TheVariants.{Dwarf32, Dwarf64}
 use Rattle.dw_base.specs.declared.error.Error.{Error}
 use Rattle.dw_base.specs.declared.error.Error.TheVariants as errors
 use Rattle.dw_base.specs.declared.ids.FileId.{FileId}
-use Rattle.dw_base.specs.declared.section_id.SectionId.TheVariants.{DebugStr, DebugLineStr, DebugLine, DebugMacinfo, DebugMacro}
+use Rattle.dw_base.specs.declared.section_id.SectionId.{SectionId}
+use Rattle.dw_base.specs.declared.section_id.SectionId.TheVariants.{DebugStr, DebugLineStr, DebugLine, DebugMacinfo, DebugMacro, DebugRanges, DebugRngLists, DebugLoc, DebugLocLists}
 use Rattle.dw_writer.specs.Texts.{Text}
 use Rattle.dw_writer.specs.Drafts.{Draft}
 use Rattle.dw_writer.specs.declared.fixup.DebugInfoFixup.{DebugInfoFixup}
 use Rattle.dw_expr.specs.Trees.{Node}
 use Rattle.dw_expr.specs.Spelling.{expression_size}
 use Rattle.dw_expr.specs.Causes.{nodes_unplaced}
-use Rattle.dw_entries.specs.Content.{counted, Content, Nothing, Plain, Wide, Leb, SignedLeb, Block, Expression, Closed, Target, Offset, InTable, OwnPart, File, EntryPlace, InfoPlace, content_operand, content_size, content_holes, content_fails, content_unplaced, IsContentRanged}
+use Rattle.dw_entries.specs.Content.{counted, Content, Nothing, Plain, Wide, Leb, SignedLeb, Block, Expression, Closed, Target, Offset, InTable, TableIndex, OwnPart, File, EntryPlace, InfoPlace, content_operand, content_size, content_holes, content_fails, content_unplaced, IsContentRanged}
 use Rattle.dw_entries.specs.Targets.{Targets, UnitTargets, targets_in}
 use Rattle.dw_entries.specs.declared.value.AttributeValue.{AttributeValue}
 use Rattle.dw_entries.specs.declared.value.AttributeValue.TheVariants as values
@@ -40,6 +41,28 @@ word_form Dwarf64 = DW_FORM_data8.0
 -- the form of an offset into a section, which has a class of its own from version 4 on (DWARF 4, 7.5.4)
 abbrev pub offset_form : Encoding → ℕ
 offset_form e = if nat_le 4 e.version then DW_FORM_sec_offset.0 else word_form e.format
+
+-- A list is found by its place up to version 4, and by its index in the unit's table from version 5 on, which has a form of
+-- its own (DWARF 5, 7.5.5).
+abbrev pub list_form : Encoding → ℕ → ℕ
+list_form e indexed = if e.version == 5 then indexed else offset_form e
+
+abbrev pub list_content : Encoding → SectionId → SectionId → ℕ → Content
+list_content e new old i = if e.version == 5 then TableIndex new i else InTable old i
+
+-- a range list (DWARF 5, 7.28)
+abbrev pub range_list_form : Encoding → ℕ
+range_list_form e = list_form e DW_FORM_rnglistx.0
+
+abbrev pub range_list_content : Encoding → ℕ → Content
+range_list_content e i = list_content e DebugRngLists DebugRanges i
+
+-- a location list (DWARF 5, 7.29)
+abbrev pub location_list_form : Encoding → ℕ
+location_list_form e = list_form e DW_FORM_loclistx.0
+
+abbrev pub location_list_content : Encoding → ℕ → Content
+location_list_content e i = list_content e DebugLocLists DebugLoc i
 
 -- the form of an expression, which has a class of its own from version 4 on (DWARF 4, 7.5.4)
 abbrev pub expression_form : Encoding → ℕ
@@ -95,6 +118,10 @@ form_of e (values.StringRef i) = DW_FORM_strp.0
 form_of e (values.LineStringRef i) = DW_FORM_line_strp.0
 form_of e values.LineProgramRef = offset_form e
 form_of e (values.FileIndex file) = DW_FORM_udata.0
+form_of e (values.RangeListRef i) = range_list_form e
+form_of e values.RangeListsBase = offset_form e
+form_of e values.LocationListsBase = offset_form e
+form_of e (values.LocationListRef i) = location_list_form e
 form_of e (values.Encoding n) = DW_FORM_udata.0
 form_of e (values.DecimalSign n) = DW_FORM_udata.0
 form_of e (values.Endianity n) = DW_FORM_udata.0
@@ -145,6 +172,10 @@ content_of e (values.StringRef i) = InTable DebugStr i.0
 content_of e (values.LineStringRef i) = InTable DebugLineStr i.0
 content_of e values.LineProgramRef = OwnPart DebugLine
 content_of e (values.FileIndex file) = File (file_number e file)
+content_of e (values.RangeListRef i) = range_list_content e i.0
+content_of e values.RangeListsBase = OwnPart DebugRngLists
+content_of e values.LocationListsBase = OwnPart DebugLocLists
+content_of e (values.LocationListRef i) = location_list_content e i.0
 content_of e (values.Encoding n) = Leb n.0
 content_of e (values.DecimalSign n) = Leb n.0
 content_of e (values.Endianity n) = Leb n.0

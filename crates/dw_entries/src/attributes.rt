@@ -1,11 +1,14 @@
 //! The attributes of one entry.
 
-ghost use Rattle.std.specs.Prelude.{◌≡◌, ◌<◌, [], None, position, OnOk, OnErr, IfErr};
+ghost use Rattle.std.specs.Prelude.{◌≡◌, ◌+◌, ◌<◌, ◌≤◌, [], None, position, OnOk, OnErr, IfErr};
+ghost use Rattle.std.specs.Vec.{vec_len, vec_capacity};
 ghost use Rattle.std.specs.Option.{option_copied};
 ghost use Rattle.dw_base.specs.declared.error.Error.TheVariants.{NoMemory};
 ghost use Rattle.dw_entries.specs.Attributes.{IsOwnName, is_named, get_named, set_named, without_name};
+ghost use Rattle.dw_entries.specs.Settled.{settled_attributes};
 
 use crate::attribute::Attribute;
+use crate::own_parts::{OwnParts, settle_in};
 use crate::value::AttributeValue;
 use dw_base::{DwAt, Result};
 use std::alloc::Global;
@@ -52,8 +55,24 @@ fn set_in(attributes: &mut Vec<Attribute>, name: DwAt, value: AttributeValue) ->
     Ok(())
 }
 
-fn delete_in(attributes: &mut Vec<Attribute>, name: DwAt)
-    ensures { attributes.new.items ≡ without_name name.0 attributes.old.items }
+/// Replaces the value under a name in its position, or appends an attribute, for which there is
+/// room.
+pub(crate) fn put_in(attributes: &mut Vec<Attribute>, name: DwAt, value: AttributeValue)
+    requires room { vec_len attributes.old < vec_capacity attributes.old }
+    ensures items { attributes.new.items ≡ set_named name.0 value attributes.old.items }
+    ensures len { vec_len attributes.new ≤ vec_len attributes.old + 1 }
+    ensures capacity { vec_capacity attributes.new ≡ vec_capacity attributes.old }
+{
+    match position_of(attributes, name) {
+        Some(i) => attributes[i] = Attribute { name, value },
+        None => attributes.push_reserved(Attribute { name, value }),
+    }
+}
+
+pub(crate) fn delete_in(attributes: &mut Vec<Attribute>, name: DwAt)
+    ensures items { attributes.new.items ≡ without_name name.0 attributes.old.items }
+    ensures len { vec_len attributes.new ≤ vec_len attributes.old }
+    ensures capacity { vec_capacity attributes.new ≡ vec_capacity attributes.old }
 {
     attributes.retain(|a| a.name.0 != name.0);
 }
@@ -104,6 +123,15 @@ impl Attributes {
         ensures { self.new ≡ without_name name.0 self.old }
     {
         delete_in(&mut self.items, name);
+    }
+
+    /// Leads the attributes of a root to the unit's own parts, or leaves them out.
+    pub(crate) fn settle(&mut self, parts: OwnParts) -> Result<()>
+        ensures ok { OnOk result (self.new ≡ settled_attributes parts self.old) }
+        ensures err { IfErr result (λ e. e ≡ NoMemory) }
+        ensures kept { OnErr result (self.new ≡ self.old) }
+    {
+        settle_in(&mut self.items, parts)
     }
 
     /// Makes room for more attributes, and for no others, since an entry keeps its list.

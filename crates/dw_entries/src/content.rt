@@ -4,10 +4,12 @@ ghost use Rattle.std.specs.Prelude.{◌≡◌};
 ghost use Rattle.dw_base.specs.Numbers.{word_of};
 ghost use Rattle.dw_entries.specs.Content.{Plain, Offset, InTable};
 ghost use Rattle.dw_entries.specs.ContentView.{content_in, number_or_past};
-ghost use Rattle.dw_entries.specs.Values.{content_of, file_number as number_of_file, constant_content as content_of_constant, present_content as content_of_flag};
+ghost use Rattle.dw_entries.specs.Values.{content_of, file_number as number_of_file, constant_content as content_of_constant, present_content as content_of_flag, list_content as content_of_list, range_list_content as content_of_range_list, location_list_content as content_of_location_list};
 
 use crate::value::AttributeValue;
-use dw_base::{Address, DebugInfoRef, Encoding, FileId, SectionId, UnitEntryId};
+use dw_base::{
+    Address, DebugInfoRef, Encoding, FileId, LocationListId, RangeListId, SectionId, UnitEntryId,
+};
 use dw_expr::Expression;
 
 /// What stands for a value in an entry, by how it is laid out (DWARF 5, 7.5.5).
@@ -36,6 +38,8 @@ pub enum Content<'a> {
     /// The place in a section of what a table has there under an index, in a word of the unit's
     /// format.
     InTable { section: SectionId, index: usize },
+    /// The index under which a table has something in a section, in unsigned LEB128.
+    TableIndex { section: SectionId, index: usize },
     /// The place in a section where the unit's own part of it begins, in a word of the unit's
     /// format.
     OwnPart(SectionId),
@@ -83,6 +87,10 @@ impl AttributeValue {
             }
             AttributeValue::LineProgramRef => Content::OwnPart(SectionId::DebugLine),
             AttributeValue::FileIndex(file) => Content::File(file_number(encoding, *file)),
+            AttributeValue::RangeListRef(list) => range_list_content(encoding, *list),
+            AttributeValue::RangeListsBase => Content::OwnPart(SectionId::DebugRngLists),
+            AttributeValue::LocationListsBase => Content::OwnPart(SectionId::DebugLocLists),
+            AttributeValue::LocationListRef(list) => location_list_content(encoding, *list),
             AttributeValue::Encoding(code) => Content::Leb(code.0 as u64),
             AttributeValue::DecimalSign(code) => Content::Leb(code.0 as u64),
             AttributeValue::Endianity(code) => Content::Leb(code.0 as u64),
@@ -125,6 +133,46 @@ fn in_table(section: SectionId, index: usize) -> Content<'static>
     ensures { content_in result ≡ InTable section index }
 {
     Content::InTable { section, index }
+}
+
+/// A list, by its index in a table of a section of version 5, and by its place in one below.
+fn list_content(
+    encoding: Encoding,
+    section: SectionId,
+    old_section: SectionId,
+    index: usize,
+) -> Content<'static>
+    ensures { content_in result ≡ content_of_list encoding section old_section index }
+{
+    if encoding.version == 5 {
+        Content::TableIndex { section, index }
+    } else {
+        in_table(old_section, index)
+    }
+}
+
+/// A range list.
+fn range_list_content(encoding: Encoding, list: RangeListId) -> Content<'static>
+    ensures { content_in result ≡ content_of_range_list encoding list.0 }
+{
+    list_content(
+        encoding,
+        SectionId::DebugRngLists,
+        SectionId::DebugRanges,
+        list.index(),
+    )
+}
+
+/// A location list.
+fn location_list_content(encoding: Encoding, list: LocationListId) -> Content<'static>
+    ensures { content_in result ≡ content_of_location_list encoding list.0 }
+{
+    list_content(
+        encoding,
+        SectionId::DebugLocLists,
+        SectionId::DebugLoc,
+        list.index(),
+    )
 }
 
 /// The number of a file, where 64 bits have room for it: up to version 4 the last index has none.

@@ -11,6 +11,7 @@ use crate::arena::{add_entry, is_unadded};
 use crate::attribute_walk::AttributeWalk;
 use crate::attributes::Attributes;
 use crate::entry::DebuggingInformationEntry;
+use crate::own_parts::OwnParts;
 use crate::settle::{names_file, settle};
 use crate::value::AttributeValue;
 use dw_base::constants::DW_TAG_compile_unit;
@@ -166,18 +167,19 @@ impl Entries {
         Ok(child)
     }
 
-    /// Moves the root's base types before its other children, so that expressions name them by
-    /// short offsets, and puts its `DW_AT_stmt_list` in place where a line program is in use, or
-    /// else leaves it out. Base types further down stay.
-    pub fn settle(&mut self, has_line_program: bool) -> Result<()>
+    /// Puts the root's `DW_AT_stmt_list` in place where a line program is in use, and in version 5
+    /// its `DW_AT_rnglists_base` and `DW_AT_loclists_base` where there are such lists, each in its
+    /// position or else behind the others; those of what there isn't are left out. Then the root's
+    /// base types are moved before its other children, so that expressions name them by short
+    /// offsets. Base types further down stay.
+    pub fn settle(&mut self, parts: OwnParts) -> Result<()>
         ensures ok { OnOk result
-            (self.new ≡ record self.old
-            { entries = settled_entries has_line_program self.old.entries }) }
+            (self.new ≡ record self.old { entries = settled_entries parts self.old.entries }) }
         ensures count { length self.new.entries ≡ length self.old.entries }
         ensures err { IfErr result (λ e. e ≡ NoMemory) }
         ensures kept { OnErr result (self.new ≡ self.old) }
     {
-        settle(&mut self.entries, has_line_program)
+        settle(&mut self.entries, parts)
     }
 
     /// Tells that an attribute of any entry, in the tree or not, names a file: its value is a

@@ -13,8 +13,8 @@ ghost use Rattle.dw_entries.specs.Entries.{index_of, parent_index, blank_entry, 
 use crate::attribute::Attribute;
 use crate::attribute_walk::AttributeWalk;
 use crate::attributes::Attributes;
+use crate::own_parts::OwnParts;
 use crate::value::AttributeValue;
-use dw_base::constants::DW_AT_stmt_list;
 use dw_base::{DwAt, DwTag, Result, UnitEntryId};
 use std::alloc::Global;
 use std::marker::Model;
@@ -217,7 +217,7 @@ impl DebuggingInformationEntry {
 }
 
 impl DebuggingInformationEntry {
-    ghost use Rattle.dw_entries.specs.Settled.{with_children, with_line_program};
+    ghost use Rattle.dw_entries.specs.Settled.{with_children, with_own_parts};
     ghost use Rattle.dw_entries.specs.Entries.{has_sibling as names_past};
 
     /// The children in their order.
@@ -242,17 +242,13 @@ impl DebuggingInformationEntry {
         self.walk.attributes.as_slice()
     }
 
-    /// Leads `DW_AT_stmt_list` to the unit's line program, or leaves the attribute out.
-    pub(crate) fn set_line_program(&mut self, has_line_program: bool) -> Result<()>
-        ensures ok { OnOk result (self.new ≡ with_line_program has_line_program self.old) }
+    /// Leads the attributes of a root to the unit's own parts, or leaves them out.
+    pub(crate) fn settle(&mut self, parts: OwnParts) -> Result<()>
+        ensures ok { OnOk result (self.new ≡ with_own_parts parts self.old) }
         ensures err { IfErr result (λ e. e ≡ NoMemory) }
         ensures kept { OnErr result (self.new ≡ self.old) }
     {
-        if has_line_program {
-            return self.set(DW_AT_stmt_list, AttributeValue::LineProgramRef);
-        }
-        self.delete(DW_AT_stmt_list);
-        Ok(())
+        self.walk.attributes.settle(parts)
     }
 
     /// Puts other children in the place of all.

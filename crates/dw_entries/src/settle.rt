@@ -1,5 +1,5 @@
-//! The root as it is written: its base types first, and `DW_AT_stmt_list` where a line program is
-//! in use.
+//! The root as it is written: its base types first, and attributes that lead to what the unit has
+//! of its own in other sections.
 
 ghost use Rattle.std.specs.Prelude.{◌≡◌, ◌++◌, map, true, IfOk, IfErr, OnOk, OnErr};
 ghost use Rattle.dw_base.specs.declared.error.Error.TheVariants.{NoMemory};
@@ -8,6 +8,7 @@ ghost use Rattle.dw_entries.specs.Settled.{is_base, base_children, other_childre
 
 use crate::attribute::Attribute;
 use crate::entry::DebuggingInformationEntry;
+use crate::own_parts::OwnParts;
 use crate::value::AttributeValue;
 use dw_base::constants::DW_TAG_base_type;
 use dw_base::{Error, UnitEntryId};
@@ -106,14 +107,13 @@ fn settled_children(
     Ok(Some(base_types_first(alloc, entries, children)?))
 }
 
-/// Moves the root's base types before its other children, so that expressions name them by short
-/// offsets, and puts the line program in place. Base types further down stay.
+/// Leads the root's attributes to the unit's own parts, and moves its base types before its other
+/// children, so that expressions name them by short offsets. Base types further down stay.
 pub(crate) fn settle(
     entries: &mut Vec<DebuggingInformationEntry>,
-    has_line_program: bool,
+    parts: OwnParts,
 ) -> Result<(), Error>
-    ensures ok { OnOk result
-        (entries.new.items ≡ settled_entries has_line_program entries.old.items) }
+    ensures ok { OnOk result (entries.new.items ≡ settled_entries parts entries.old.items) }
     ensures err { IfErr result (λ e. e ≡ NoMemory) }
     ensures kept { OnErr result (entries.new.items ≡ entries.old.items) }
 {
@@ -123,7 +123,7 @@ pub(crate) fn settle(
     let alloc = *entries.allocator();
     let ordered = settled_children(alloc, entries)?;
     let root = &mut entries[0];
-    root.set_line_program(has_line_program)?;
+    root.settle(parts)?;
     if let Some(children) = ordered {
         root.set_children(children);
     }

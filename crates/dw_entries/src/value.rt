@@ -2,11 +2,11 @@
 
 ghost use Rattle.std.specs.Prelude.{◌≡◌, ◌↔◌, ◌≤◌, ◌^◌, ℕ, Option, Some, Ok, IsTrue, IsFalse, IfOk, IfErr, OnOk, length as len};
 ghost use Rattle.dw_base.specs.declared.error.Error.{Error as AnError};
-ghost use Rattle.dw_base.specs.declared.error.Error.TheVariants.{NoMemory, ValueTooLarge};
+ghost use Rattle.dw_base.specs.declared.error.Error.TheVariants.{ValueTooLarge};
 ghost use Rattle.dw_expr.specs.Causes.{nodes_unplaced};
 ghost use Rattle.dw_expr.specs.Spelling.{expression_size as size_of_expression};
 ghost use Rattle.dw_entries.specs.Content.{counted};
-ghost use Rattle.dw_entries.specs.Values.{form_of, constant_of, operand_size, KeepsPlaces, value_unplaced, SizeRefused, ExpressionUnsized, constant_form, declared_constant, reference_form as form_of_reference, present_form as form_of_present, expression_form as form_of_expression, offset_form as form_of_offset, supplementary_form as form_of_supplementary};
+ghost use Rattle.dw_entries.specs.Values.{form_of, constant_of, operand_size, KeepsPlaces, value_unplaced, SizeRefused, ExpressionUnsized, constant_form, declared_constant, reference_form as form_of_reference, present_form as form_of_present, expression_form as form_of_expression, offset_form as form_of_offset, list_form as form_of_list, supplementary_form as form_of_supplementary};
 ghost use Rattle.dw_entries.specs.ContentView.{number_or_past};
 ghost use Rattle.dw_base.specs.Leb128.{uleb};
 ghost use Rattle.dw_base.specs.Forms.{info_place_of};
@@ -16,22 +16,22 @@ use crate::size::sum;
 use dw_base::constants::{
     DW_FORM_addr, DW_FORM_block, DW_FORM_data1, DW_FORM_data2, DW_FORM_data4, DW_FORM_data8,
     DW_FORM_data16, DW_FORM_exprloc, DW_FORM_flag, DW_FORM_flag_present, DW_FORM_implicit_const,
-    DW_FORM_line_strp, DW_FORM_ref_addr, DW_FORM_ref_sig8, DW_FORM_ref_sup4, DW_FORM_ref_sup8,
-    DW_FORM_ref4, DW_FORM_ref8, DW_FORM_sdata, DW_FORM_sec_offset, DW_FORM_string, DW_FORM_strp,
-    DW_FORM_strp_sup, DW_FORM_udata,
+    DW_FORM_line_strp, DW_FORM_loclistx, DW_FORM_ref_addr, DW_FORM_ref_sig8, DW_FORM_ref_sup4,
+    DW_FORM_ref_sup8, DW_FORM_ref4, DW_FORM_ref8, DW_FORM_rnglistx, DW_FORM_sdata,
+    DW_FORM_sec_offset, DW_FORM_string, DW_FORM_strp, DW_FORM_strp_sup, DW_FORM_udata,
 };
 use dw_base::{
     Address, DebugInfoOffset, DebugInfoRef, DebugMacinfoOffset, DebugMacroOffset, DebugStrOffset,
     DebugTypeSignature, DwAccess, DwAddr, DwAte, DwCc, DwDs, DwEnd, DwForm, DwId, DwInl, DwLang,
-    DwOrd, DwVirtuality, DwVis, Encoding, FileId, Format, LineStringId, Result, StringId,
-    UnitEntryId, sleb128_size, uleb128_size,
+    DwOrd, DwVirtuality, DwVis, Encoding, FileId, Format, LineStringId, LocationListId,
+    RangeListId, Result, StringId, UnitEntryId, sleb128_size, uleb128_size,
 };
 use dw_expr::{EntryPlaces, Expression};
 use dw_writer::Bytes;
 
 /// The value of an attribute. The form in which it is written follows from it and from the unit's
 /// encoding.
-#[derive(Clone, Debug, Drop)]
+#[derive(Debug, Drop)]
 pub enum AttributeValue {
     /// An address of the target, in as many bytes as the unit's addresses have.
     Address(Address),
@@ -90,6 +90,20 @@ pub enum AttributeValue {
     /// A file of the unit's line program, by its number there in unsigned LEB128: counted from 0 in
     /// version 5, and from 1 below (6.2.4). No file is written as 0.
     FileIndex(Option<FileId>),
+    /// A range list of the unit: up to version 4 by its place in `.debug_ranges`, in a word of the
+    /// unit's format, and in version 5 by its index in the unit's table, in unsigned LEB128
+    /// (7.5.5).
+    RangeListRef(RangeListId),
+    /// The place in `.debug_rnglists` of the first offset entry of the unit's range lists, in a
+    /// word of the unit's format (7.28). Only units of version 5 with a range list have one.
+    RangeListsBase,
+    /// The place in `.debug_loclists` of the first offset entry of the unit's location lists, in a
+    /// word of the unit's format (7.29). Only units of version 5 with a location list have one.
+    LocationListsBase,
+    /// A location list of the unit: up to version 4 by its place in `.debug_loc`, in a word of the
+    /// unit's format, and in version 5 by its index in the unit's table, in unsigned LEB128
+    /// (7.5.5).
+    LocationListRef(LocationListId),
     /// How a base type is encoded (DWARF 5, 7.8). This and the codes below are unsigned LEB128.
     Encoding(DwAte),
     /// The sign of a decimal type (7.8).
@@ -117,14 +131,6 @@ pub enum AttributeValue {
 }
 
 impl AttributeValue {
-    /// A second value that equals this one.
-    pub fn try_clone(&self) -> Result<AttributeValue>
-        ensures ok { IfOk result (λ v. v ≡ self.now) }
-        ensures err { IfErr result (λ e. e ≡ NoMemory) }
-    {
-        Ok(self.clone()?)
-    }
-
     /// Tells that another value is the same.
     #[tactic(auto, using(crate::specs::Equality::value_decides))]
     pub fn is_same(&self, other: &AttributeValue) -> bool
@@ -163,6 +169,10 @@ impl AttributeValue {
             AttributeValue::StringRef(_) => DW_FORM_strp,
             AttributeValue::LineStringRef(_) => DW_FORM_line_strp,
             AttributeValue::LineProgramRef => offset_form(encoding),
+            AttributeValue::RangeListRef(_) => list_form(encoding, DW_FORM_rnglistx),
+            AttributeValue::RangeListsBase => offset_form(encoding),
+            AttributeValue::LocationListsBase => offset_form(encoding),
+            AttributeValue::LocationListRef(_) => list_form(encoding, DW_FORM_loclistx),
             AttributeValue::Udata(_)
             | AttributeValue::FileIndex(_)
             | AttributeValue::Encoding(_)
@@ -205,6 +215,7 @@ impl AttributeValue {
             Content::Target(_) => Ok(encoding.address_size as u64),
             Content::Offset { .. } => Ok(encoding.format.word_size() as u64),
             Content::InTable { .. } => Ok(encoding.format.word_size() as u64),
+            Content::TableIndex { index, .. } => Ok(uleb128_size(index as u64) as u64),
             Content::OwnPart(_) => Ok(encoding.format.word_size() as u64),
             Content::File(number) => Ok(file_size(number)),
             Content::EntryPlace(_) => Ok(encoding.format.word_size() as u64),
@@ -304,6 +315,17 @@ fn offset_form(encoding: Encoding) -> DwForm
     match encoding.format {
         Format::Dwarf32 => DW_FORM_data4,
         Format::Dwarf64 => DW_FORM_data8,
+    }
+}
+
+/// The form of a list, whose index has a form of its own in version 5.
+fn list_form(encoding: Encoding, index_form: DwForm) -> DwForm
+    ensures { result.0 ≡ form_of_list encoding index_form.0 }
+{
+    if encoding.version == 5 {
+        index_form
+    } else {
+        offset_form(encoding)
     }
 }
 

@@ -5,10 +5,10 @@ use Rattle.std.proofs.Common.{sym, ◌∙◌, ap, subst, arith, length-append, a
 use Rattle.std.proofs.Math.Seq.{take-append_seam}
 use Rattle.std.proofs.lemmas.Option.{none-some, same_Some}
 use Rattle.dw_base.specs.declared.section_id.SectionId.{SectionId}
-use Rattle.dw_base.specs.declared.section_id.SectionId.TheVariants.{DebugAbbrev, DebugStr, DebugLineStr, DebugLine, DebugInfo}
+use Rattle.dw_base.specs.declared.section_id.SectionId.TheVariants.{DebugAbbrev, DebugStr, DebugLineStr, DebugLine, DebugRanges, DebugRngLists, DebugInfo}
 use Rattle.dw_writer.specs.Texts.{Text, followed}
 use Rattle.dw_writer.specs.Layout.{Layout, is_at_zero}
-use Rattle.dw_writer.specs.Meaning.{Meaning, IsTidy, spelled_text}
+use Rattle.dw_writer.specs.Meaning.{Meaning, Model, IsTidy, spelled_text}
 use Rattle.dw_writer.specs.Resolved.{put_record, put_records, resolved}
 use Rattle.dw_writer.specs.declared.relocate.Relocation.{Relocation}
 use Rattle.dw_writer.specs.declared.sections.Sections.{Sections}
@@ -20,8 +20,8 @@ use Rattle.dw_unit.proofs.Files.{WrittenFile, AreWritten, joined, joined_tables,
 use Rattle.dw_unit.proofs.ReadUnits.{parted}
 use Rattle.dw_dwarf.specs.DwarfValue.{DwarfValue}
 use Rattle.dw_dwarf.specs.Left.{units_of, IsLeft}
-use Rattle.dw_dwarf.specs.Written.{dwarf_lines}
-use Rattle.dw_link.specs.Linked.{AreLeft, files_from, lines_from, LinksDwarfs}
+use Rattle.dw_dwarf.specs.Written.{dwarf_lines, dwarf_ranges}
+use Rattle.dw_link.specs.Linked.{AreLeft, files_from, texts_from, lines_from, ranges_from, range_lists_from, LinksDwarfs}
 use Rattle.dw_link.specs.Outcome.{JoinsParts}
 use Rattle.dw_link.specs.Sets.{Parts, parts_of, sets_of, bytes_of, concatenated, start_in, layout_in, linked_from, linked_parts}
 
@@ -116,15 +116,30 @@ module _ {W : Type 0} (from : W → Meaning) (big : Bool) (all : List Parts) (sy
 
   -- Other sections
 
+  -- what each set has in a section of its own text
+  module _ (id : SectionId) (w : Sections W → W) (text : DwarfValue → Model)
+      (begins : (n : ℕ) → linked_from all symbols id n (sets_of from []) ≡ Some [])
+      (goes_on : (n : ℕ) (s : Sections W) (ss : List (Sections W)) → linked_from all symbols id n (sets_of from (s ∷ ss)) ≡ followed (resolved (layout_in all symbols n id) (from (w s))) (linked_from all symbols id (n + 1) (sets_of from ss)))
+      (leaves : (s : Sections W) (d : DwarfValue) → IsLeft from big s d → (l : Layout) (xs : List ℕ) → resolved l (from (w s)) ≡ Some xs → text d big l ≡ Some xs) where
+    text_left : (n : ℕ) (sets : List (Sections W)) (ds : List DwarfValue) (bytes : List ℕ) → AreLeft from big sets ds → linked_from all symbols id n (sets_of from sets) ≡ Some bytes → texts_from all symbols id text big n ds ≡ Some bytes
+    text_left n [] [] bytes left told = sym (begins n) ∙ told
+    text_left n [] (d ∷ ds) bytes left told = absurd left
+    text_left n (s ∷ sets) [] bytes left told = absurd left
+    text_left n (s ∷ sets) (d ∷ ds) bytes left told =
+        let l = layout_in all symbols n id in
+        let here = sym (goes_on n s sets) ∙ told in
+        let p = parted (resolved l (from (w s))) (linked_from all symbols id (n + 1) (sets_of from sets)) bytes here in
+        let more = text_left (n + 1) sets ds p.rest left.1 p.rest_is in
+        ap (λ t. followed t (texts_from all symbols id text big (n + 1) ds)) (leaves s d left.0 l p.first p.first_is ∙ sym p.first_is) ∙ ap (followed (resolved l (from (w s)))) (more ∙ sym p.rest_is) ∙ here
+
   lines_left : (n : ℕ) (sets : List (Sections W)) (ds : List DwarfValue) (bytes : List ℕ) → AreLeft from big sets ds → linked_from all symbols DebugLine n (sets_of from sets) ≡ Some bytes → lines_from all symbols big n ds ≡ Some bytes
-  lines_left n [] [] bytes left told = told
-  lines_left n [] (d ∷ ds) bytes left told = absurd left
-  lines_left n (s ∷ sets) [] bytes left told = absurd left
-  lines_left n (s ∷ sets) (d ∷ ds) bytes left told =
-      let l = layout_in all symbols n DebugLine in
-      let p = parted (resolved l (from s.debug_line.0)) (linked_from all symbols DebugLine (n + 1) (sets_of from sets)) bytes told in
-      let more = lines_left (n + 1) sets ds p.rest left.1 p.rest_is in
-      ap (λ t. followed t (lines_from all symbols big (n + 1) ds)) (left.0.lines l p.first p.first_is ∙ sym p.first_is) ∙ ap (followed (resolved l (from s.debug_line.0))) (more ∙ sym p.rest_is) ∙ told
+  lines_left = text_left DebugLine (λ s. s.debug_line.0) dwarf_lines (λ n. refl) (λ n s ss. refl) (λ s d left. left.lines)
+
+  ranges_left : (n : ℕ) (sets : List (Sections W)) (ds : List DwarfValue) (bytes : List ℕ) → AreLeft from big sets ds → linked_from all symbols DebugRanges n (sets_of from sets) ≡ Some bytes → ranges_from all symbols big n ds ≡ Some bytes
+  ranges_left = text_left DebugRanges (λ s. s.debug_ranges.0) (dwarf_ranges false) (λ n. refl) (λ n s ss. refl) (λ s d left. left.ranges)
+
+  range_lists_left : (n : ℕ) (sets : List (Sections W)) (ds : List DwarfValue) (bytes : List ℕ) → AreLeft from big sets ds → linked_from all symbols DebugRngLists n (sets_of from sets) ≡ Some bytes → range_lists_from all symbols big n ds ≡ Some bytes
+  range_lists_left = text_left DebugRngLists (λ s. s.debug_rnglists.0) (dwarf_ranges true) (λ n. refl) (λ n s ss. refl) (λ s d left. left.range_lists)
 
   strings_left : (n : ℕ) (sets : List (Sections W)) (ds : List DwarfValue) (bytes : List ℕ) → AreLeft from big sets ds → linked_from all symbols DebugStr n (sets_of from sets) ≡ Some bytes → flat_map (λ d. string_bytes d.strings) ds ≡ bytes
   strings_left n [] [] bytes left told = same_Some [] bytes told
@@ -156,6 +171,8 @@ dwarfs_linked from to big sets symbols ds out parts left =
           let built = files_built big f.files f.texts f.written in
           subst (λ fs. Built fs big info abbrevs) f.files_are (subst (λ xs. Built (map file_of f.files) big info xs) f.abbrevs_is (subst (λ xs. Built (map file_of f.files) big xs (joined_tables f.files)) f.info_is built));
       lines = λ bytes told. lines_left from big all symbols 0 sets ds bytes left (sym (parts DebugLine out.debug_line.0 refl) ∙ told);
+      ranges = λ bytes told. ranges_left from big all symbols 0 sets ds bytes left (sym (parts DebugRanges out.debug_ranges.0 refl) ∙ told);
+      range_lists = λ bytes told. range_lists_left from big all symbols 0 sets ds bytes left (sym (parts DebugRngLists out.debug_rnglists.0 refl) ∙ told);
       strings = λ bytes told. strings_left from big all symbols 0 sets ds bytes left (sym (parts DebugStr out.debug_str.0 refl) ∙ told);
       line_strings = λ bytes told. line_strings_left from big all symbols 0 sets ds bytes left (sym (parts DebugLineStr out.debug_line_str.0 refl) ∙ told);
     }

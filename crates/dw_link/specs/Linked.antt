@@ -1,15 +1,16 @@
 -- Sets that writing a Dwarf left, each of its own, once they are joined.
-use Rattle.std.specs.Prelude.{◌≡◌, ℕ, ◌+◌, Bool, List, [], ◌∷◌, Some}
+use Rattle.std.specs.Prelude.{◌≡◌, ℕ, ◌+◌, Bool, true, false, List, [], ◌∷◌, Some}
 use Rattle.std.specs.List.{flat_map}
-use Rattle.dw_base.specs.declared.section_id.SectionId.TheVariants.{DebugInfo, DebugLine}
+use Rattle.dw_base.specs.declared.section_id.SectionId.{SectionId}
+use Rattle.dw_base.specs.declared.section_id.SectionId.TheVariants.{DebugInfo, DebugLine, DebugRanges, DebugRngLists}
 use Rattle.dw_writer.specs.Texts.{Text, followed}
-use Rattle.dw_writer.specs.Meaning.{Meaning}
+use Rattle.dw_writer.specs.Meaning.{Meaning, Model}
 use Rattle.dw_writer.specs.declared.sections.Sections.{Sections}
 use Rattle.dw_strings.specs.Strings.{string_bytes}
 use Rattle.dw_unit.specs.Built.{File, Built}
 use Rattle.dw_dwarf.specs.DwarfValue.{DwarfValue}
 use Rattle.dw_dwarf.specs.Left.{units_of, IsLeft}
-use Rattle.dw_dwarf.specs.Written.{dwarf_lines}
+use Rattle.dw_dwarf.specs.Written.{dwarf_lines, dwarf_ranges}
 use Rattle.dw_link.specs.Sets.{Parts, sets_of, layout_in}
 
 -- each set is as writing a Dwarf over new sections left it
@@ -25,16 +26,29 @@ module _ (sets : List Parts) (symbols : List ℕ) where
   files_from n [] = []
   files_from n (d ∷ ds) = record { units = units_of d; layout = layout_in sets symbols n DebugInfo } ∷ files_from (n + 1) ds
 
+  -- what each has in a section, where its parts stand
+  abbrev pub texts_from : SectionId → (DwarfValue → Model) → Bool → ℕ → List DwarfValue → Text
+  texts_from id text big n [] = Some []
+  texts_from id text big n (d ∷ ds) = followed (text d big (layout_in sets symbols n id)) (texts_from id text big (n + 1) ds)
+
   -- their line programs
   abbrev pub lines_from : Bool → ℕ → List DwarfValue → Text
-  lines_from big n [] = Some []
-  lines_from big n (d ∷ ds) = followed (dwarf_lines d big (layout_in sets symbols n DebugLine)) (lines_from big (n + 1) ds)
+  lines_from big n ds = texts_from DebugLine dwarf_lines big n ds
+
+  -- their range lists up to version 4, and those of version 5
+  abbrev pub ranges_from : Bool → ℕ → List DwarfValue → Text
+  ranges_from big n ds = texts_from DebugRanges (dwarf_ranges false) big n ds
+
+  abbrev pub range_lists_from : Bool → ℕ → List DwarfValue → Text
+  range_lists_from big n ds = texts_from DebugRngLists (dwarf_ranges true) big n ds
 
 -- The joined sections are those of all: .debug_info and .debug_abbrev are read, to their last byte, as exactly the units of
--- all sets in order, each reference leading to an entry of its own set, and strings and line programs named in the set's own
--- parts; and these parts hold what each set has.
+-- all sets in order, each reference leading to an entry of its own set, and strings, line programs and range lists named in the
+-- set's own parts; and these parts hold what each set has.
 pub record LinksDwarfs {W X : Type 0} (from : W → Meaning) (to : X → Meaning) (big : Bool) (sets : List (Sections W)) (symbols : List ℕ) (ds : List DwarfValue) (joined : Sections X) : Type 0 where
   pub built : (info abbrevs : List ℕ) → (to joined.debug_info.0).bytes ≡ Some info → (to joined.debug_abbrev.0).bytes ≡ Some abbrevs → Built (files_from (sets_of from sets) symbols 0 ds) big info abbrevs
   pub lines : (bytes : List ℕ) → (to joined.debug_line.0).bytes ≡ Some bytes → lines_from (sets_of from sets) symbols big 0 ds ≡ Some bytes
+  pub ranges : (bytes : List ℕ) → (to joined.debug_ranges.0).bytes ≡ Some bytes → ranges_from (sets_of from sets) symbols big 0 ds ≡ Some bytes
+  pub range_lists : (bytes : List ℕ) → (to joined.debug_rnglists.0).bytes ≡ Some bytes → range_lists_from (sets_of from sets) symbols big 0 ds ≡ Some bytes
   pub strings : (bytes : List ℕ) → (to joined.debug_str.0).bytes ≡ Some bytes → flat_map (λ d. string_bytes d.strings) ds ≡ bytes
   pub line_strings : (bytes : List ℕ) → (to joined.debug_line_str.0).bytes ≡ Some bytes → flat_map (λ d. string_bytes d.line_strings) ds ≡ bytes

@@ -13,3 +13,5 @@ pub mod TableAgain
 pub mod Versions
 pub mod Numbered
 pub mod Chosen
+pub mod There
+pub mod SameSize

@@ -10,6 +10,7 @@ use Rattle.dw_base.specs.Abbreviations.{Shape}
 use Rattle.dw_base.specs.declared.address.DebugInfoRef.TheVariants as refs
 use Rattle.dw_base.specs.declared.common.Encoding.{Encoding}
 use Rattle.dw_base.specs.declared.error.Error.{Error}
+use Rattle.dw_base.specs.declared.section_id.SectionId.TheVariants.{DebugRanges, DebugRngLists, DebugLoc, DebugLocLists}
 use Rattle.dw_writer.specs.Drafts.{Draft, no_draft, whole, then_draft, shifted}
 use Rattle.dw_writer.specs.Meaning.{Meaning}
 use Rattle.dw_writer.specs.declared.fixup.DebugInfoFixup.{DebugInfoFixup}
@@ -18,7 +19,7 @@ use Rattle.dw_expr.specs.Trees.{Node}
 use Rattle.dw_expr.specs.References.{nodes_refer}
 use Rattle.dw_expr.specs.Spelling.{expression_draft}
 use Rattle.dw_expr.proofs.OpenPlaces.{no_hole, no_hole-shifted, no_hole-then, not_or, expression_holes}
-use Rattle.dw_entries.specs.Content.{Nothing, Plain, SignedLeb, Expression, content_holes}
+use Rattle.dw_entries.specs.Content.{Nothing, Plain, SignedLeb, Expression, InTable, TableIndex, content_holes}
 use Rattle.dw_entries.specs.declared.attribute.Attribute.{Attribute}
 use Rattle.dw_entries.specs.declared.value.AttributeValue.{AttributeValue}
 use Rattle.dw_entries.specs.declared.value.AttributeValue.TheVariants as values
@@ -64,6 +65,16 @@ value_holes e place values.FlagPresent = by_test (nat_le 4 e.version)
     by_test : (b : Bool) → no_hole (content_holes e place (if b then Nothing else Plain 1 1)) ≡ true
     by_test true = refl
     by_test false = refl
+value_holes e place (values.RangeListRef i) = by_version (e.version == 5)
+  where
+    by_version : (b : Bool) → no_hole (content_holes e place (if b then TableIndex DebugRngLists i.0 else InTable DebugRanges i.0)) ≡ true
+    by_version true = refl
+    by_version false = refl
+value_holes e place (values.LocationListRef i) = by_version (e.version == 5)
+  where
+    by_version : (b : Bool) → no_hole (content_holes e place (if b then TableIndex DebugLocLists i.0 else InTable DebugLoc i.0)) ≡ true
+    by_version true = refl
+    by_version false = refl
 value_holes e place (values.DebugInfoRef (refs.Symbol s)) = refl
 value_holes e place (values.DebugInfoRef (refs.Entry u i)) = refl
 value_holes e place (values.Exprloc x) = no_hole-counted e place x

@@ -1,5 +1,5 @@
 -- What is written of values, as drafts: a lemma for each layout.
-use Rattle.std.specs.Prelude.{◌≡◌, ℕ, ◌+◌, ◌<◌, ◌^◌, Bool, true, false, not, ◌&&◌, nat_le, List, [], ◌∷◌, ◌++◌, length, Option, Some, None, ℤ, pos, negsuc, ◌+ℤ◌, slice_get, IsTrue, IsFalse, refl, if◌then◌else◌}
+use Rattle.std.specs.Prelude.{◌≡◌, ℕ, ◌+◌, ◌<◌, ◌^◌, Bool, true, false, not, ◌&&◌, nat_le, List, [], ◌∷◌, ◌++◌, length, Option, Some, None, ℤ, pos, negsuc, ◌+ℤ◌, slice_get, is_none, IsTrue, IsFalse, refl, if◌then◌else◌}
 use Rattle.std.proofs.Common.{sym, ◌∙◌, ap, subst, arith, length-append}
 use Rattle.std.proofs.lemmas.Bool.{or_parts}
 use Rattle.std.proofs.lemmas.Bool.Decides.{nat_tests}
@@ -27,7 +27,7 @@ use Rattle.dw_writer.proofs.DraftLaws.{draft_is}
 use Rattle.dw_writer.proofs.Plain.{Adds-number, num-byte}
 use Rattle.dw_writer.proofs.Steps.{Adds-appends}
 use Rattle.dw_writer.proofs.WriteLaws.{Drafts-is, Drafts-whole}
-use Rattle.dw_entries.specs.Content.{Content, Nothing, Plain, Wide, Leb, SignedLeb, Block, Expression, Closed, Target, Offset, InTable, OwnPart, File, EntryPlace, counted, number_in, has_zero, natural, content_operand, content_kind, content_size, content_holes, InfoPlace}
+use Rattle.dw_entries.specs.Content.{Content, Nothing, Plain, Wide, Leb, SignedLeb, Block, Expression, Closed, Target, Offset, InTable, TableIndex, OwnPart, File, EntryPlace, counted, number_in, has_zero, natural, content_operand, content_kind, content_size, content_holes, InfoPlace}
 use Rattle.dw_entries.specs.Targets.{UnitTargets, targets_in}
 use Rattle.dw_entries.specs.Values.{content_of, operand_size, operand_holes, value_text, value_draft}
 use Rattle.dw_entries.specs.declared.value.AttributeValue.{AttributeValue}
@@ -202,6 +202,14 @@ module _ (e : Encoding) (u : UnitTargets) (v : AttributeValue) where
   pub file_is : (n : ℕ) → content_of e v ≡ File n → IsTrue (fits 8 n) → whole (length (uleb n)) (bytes_text (uleb n)) ≡ value_draft e u v
   unfolding bytes_text
   file_is n is fit = value_is (File n) (length (uleb n)) (bytes_text (uleb n)) is refl refl (λ info big l. filed big n (fits 8 n) fit)
+
+  indexed : (big : Bool) (i : ℕ) (o : Option ℕ) → IsFalse (is_none o) → ◌≡◌ {A = texts.Text} (Some (uleb i)) ((o >>= λ n. Some (Number i)) >>= λ x. Some (kind_bytes big Uleb x))
+  indexed big i None h = absurd (let x : true ≡ false = h in cc)
+  indexed big i (Some n) h = refl
+
+  pub table_index_is : (section : SectionId) (i : ℕ) → content_of e v ≡ TableIndex section i → IsFalse (is_none (u.tables.part section i)) → whole (length (uleb i)) (bytes_text (uleb i)) ≡ value_draft e u v
+  unfolding bytes_text
+  table_index_is section i is there = value_is (TableIndex section i) (length (uleb i)) (bytes_text (uleb i)) is refl refl (λ info big l. indexed big i (u.tables.part section i) there)
 
   pub entry_place_is : (i n : ℕ) → content_of e v ≡ EntryPlace i → u.place i ≡ Some n → IsTrue (fits (word_of e.format) n) → whole (word_of e.format) (number_text (word_of e.format) n) ≡ value_draft e u v
   unfolding number_text

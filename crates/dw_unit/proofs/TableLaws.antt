@@ -5,7 +5,7 @@ use Rattle.std.proofs.Math.Path.{fun_ext}
 use Rattle.std.proofs.lemmas.List.Elements.{All-head, All-tail}
 use Rattle.std.specs.Option.{option_map}
 use Rattle.dw_base.specs.declared.error.Error.{Error}
-use Rattle.dw_unit.specs.Elsewhere.{Elsewhere, past_lines, past_elsewhere}
+use Rattle.dw_unit.specs.Elsewhere.{Elsewhere, past_parts, past_elsewhere}
 use Rattle.dw_unit.specs.Built.{Numbered, Starts, settled_at, numbered_from}
 use Rattle.dw_unit.specs.Causes.{UnitsFail}
 use Rattle.dw_unit.specs.Pending.{Kept, past_kept, info_at, info_of, KeepPlaces, StandsAt, AreInRow}
@@ -31,8 +31,8 @@ unwritten_keeps (u ∷ us) all (suc n) = unwritten_keeps us (All-tail (λ v. v.i
 pub to_write-unwritten : (n : ℕ) (t : Elsewhere) (us : List UnitValue) → All (λ u. u.is_written ≡ false) us → to_write_from n t us ≡ numbered_from n t us
 to_write-unwritten n t [] all = refl
 to_write-unwritten n t (u ∷ us) all =
-    ap (λ (b : Bool). if b then to_write_from (suc n) t us else settled_at n t u ∷ to_write_from (suc n) (past_lines t u) us) (All-head (λ v. v.is_written ≡ false) u us all)
-    ∙ ap (λ xs. settled_at n t u ∷ xs) (to_write-unwritten (suc n) (past_lines t u) us (All-tail (λ v. v.is_written ≡ false) u us all))
+    ap (λ (b : Bool). if b then to_write_from (suc n) t us else settled_at n t u ∷ to_write_from (suc n) (past_parts t u) us) (All-head (λ v. v.is_written ≡ false) u us all)
+    ∙ ap (λ xs. settled_at n t u ∷ xs) (to_write-unwritten (suc n) (past_parts t u) us (All-tail (λ v. v.is_written ≡ false) u us all))
 
 -- Units that can be written have no cause to be refused.
 pub units_unfailing : (plain : Bool) (t : Elsewhere) (at : ℕ) (us : List UnitValue) → AreWritable plain t at us → (err : Error) → UnitsFail plain t at us err → ⊥

@@ -6,7 +6,7 @@ use Rattle.std.proofs.lemmas.List.Elements.{All-head, All-tail}
 use Rattle.dw_base.specs.Numbers.{◌>>=◌}
 use Rattle.dw_base.specs.declared.error.Error.{Error}
 use Rattle.dw_entries.specs.Targets.{Tables}
-use Rattle.dw_unit.specs.Elsewhere.{Elsewhere, past_lines, past_elsewhere}
+use Rattle.dw_unit.specs.Elsewhere.{Elsewhere, past_parts, past_elsewhere}
 use Rattle.dw_unit.specs.Built.{Numbered, Starts, table_size, settled_at}
 use Rattle.dw_unit.specs.Causes.{UnitFails, UnitsFail}
 use Rattle.dw_unit.specs.Pending.{Kept, kept_offsets, kept_at, offsets_at, KeepPlaces}
@@ -16,7 +16,7 @@ use Rattle.dw_unit.specs.UnitValue.{UnitValue, offsets_of}
 use Rattle.dw_unit.specs.Valid.{IsWritableAt, AreWritable}
 use Rattle.dw_unit.specs.Whole.{settled, marked_written, IsRefused}
 use Rattle.dw_unit.specs.Written.{to_write_from, past_table, IsPassedOver, IsWrittenAt, past_written, AreWritten, AreStopped}
-use Rattle.dw_unit.proofs.LineSteps.{past_all, past-old, past-new}
+use Rattle.dw_unit.proofs.UnitTexts.{past_all, past-old, past-new}
 use Rattle.dw_unit.proofs.PendingSteps.{kept_other, kept_last}
 
 -- A table of which some units were gone through: what they were, what they are, and the others.
@@ -76,7 +76,7 @@ passed_more at end t [] [] u v h k = inl (k, h)
 passed_more at end t [] (y ∷ ys) u v h k = absurd h
 passed_more at end t (x ∷ xs) [] u v h k = absurd h
 passed_more at end t (x ∷ xs) (y ∷ ys) u v (inl h) k = inl (h.0, passed_more at end t xs ys u v h.1 k)
-passed_more at end t (x ∷ xs) (y ∷ ys) u v (inr h) k = inr (h.0, passed_more (past_written at t x y h.0) end (past_lines t x) xs ys u v h.1 k)
+passed_more at end t (x ∷ xs) (y ∷ ys) u v (inr h) k = inr (h.0, passed_more (past_written at t x y h.0) end (past_parts t x) xs ys u v h.1 k)
 
 pub written_more : (at end : Starts) (t : Elsewhere) (xs ys : List UnitValue) (u v : UnitValue) → AreWritten at end t xs ys → (w : IsWrittenAt end (past_all t xs) u v) →
     AreWritten at (past_written end (past_all t xs) u v w) t (xs ++ u ∷ []) (ys ++ v ∷ [])
@@ -89,8 +89,8 @@ written_more at end t (x ∷ xs) (y ∷ ys) u v (inl h) w =
     inl (h.0, more w)
 written_more at end t (x ∷ xs) (y ∷ ys) u v (inr h) w =
     let from = past_written at t x y h.0 in
-    let more = subst (λ s. (w : IsWrittenAt end (past_all s xs) u v) → AreWritten from (past_written end (past_all s xs) u v w) (past_lines t x) (xs ++ u ∷ []) (ys ++ v ∷ []))
-    (sym (past-new t x h.0.unwritten)) (written_more from end (past_lines t x) xs ys u v h.1) in
+    let more = subst (λ s. (w : IsWrittenAt end (past_all s xs) u v) → AreWritten from (past_written end (past_all s xs) u v w) (past_parts t x) (xs ++ u ∷ []) (ys ++ v ∷ []))
+    (sym (past-new t x h.0.unwritten)) (written_more from end (past_parts t x) xs ys u v h.1) in
     inr (h.0, more w)
 
 pub stopped_at : (at end : Starts) (t : Elsewhere) (xs ys : List UnitValue) (u v : UnitValue) (rest : List UnitValue) → AreWritten at end t xs ys → IsRefused u v → AreStopped at t (xs ++ u ∷ rest) (ys ++ v ∷ rest)
@@ -98,7 +98,7 @@ stopped_at at end t [] [] u v rest h k = inr (inr (k, refl))
 stopped_at at end t [] (y ∷ ys) u v rest h k = absurd h
 stopped_at at end t (x ∷ xs) [] u v rest h k = absurd h
 stopped_at at end t (x ∷ xs) (y ∷ ys) u v rest (inl h) k = inl (h.0, stopped_at at end t xs ys u v rest h.1 k)
-stopped_at at end t (x ∷ xs) (y ∷ ys) u v rest (inr h) k = inr (inl (h.0, stopped_at (past_written at t x y h.0) end (past_lines t x) xs ys u v rest h.1 k))
+stopped_at at end t (x ∷ xs) (y ∷ ys) u v rest (inr h) k = inr (inl (h.0, stopped_at (past_written at t x y h.0) end (past_parts t x) xs ys u v rest h.1 k))
 
 -- where none was refused
 pub stopped_after : (at end : Starts) (t : Elsewhere) (us vs : List UnitValue) → AreWritten at end t us vs → AreStopped at t us vs
@@ -106,7 +106,7 @@ stopped_after at end t [] [] h = tt
 stopped_after at end t [] (v ∷ vs) h = absurd h
 stopped_after at end t (u ∷ us) [] h = absurd h
 stopped_after at end t (u ∷ us) (v ∷ vs) (inl h) = inl (h.0, stopped_after at end t us vs h.1)
-stopped_after at end t (u ∷ us) (v ∷ vs) (inr h) = inr (inl (h.0, stopped_after (past_written at t u v h.0) end (past_lines t u) us vs h.1))
+stopped_after at end t (u ∷ us) (v ∷ vs) (inr h) = inr (inl (h.0, stopped_after (past_written at t u v h.0) end (past_parts t u) us vs h.1))
 
 -- Where their tables stand
 
@@ -137,26 +137,26 @@ past_new at u h = ap (λ (b : Bool). if b then at else at + table_size (settled 
 -- What is to be written
 
 by_mark : (n : ℕ) (t : Elsewhere) (u : UnitValue) (us : List UnitValue) (b : Bool) → u.is_written ≡ b →
-    to_write_from n t (u ∷ us) ≡ (if b then to_write_from (suc n) t us else settled_at n t u ∷ to_write_from (suc n) (past_lines t u) us)
-by_mark n t u us b h = ap (λ (b : Bool). if b then to_write_from (suc n) t us else settled_at n t u ∷ to_write_from (suc n) (past_lines t u) us) h
+    to_write_from n t (u ∷ us) ≡ (if b then to_write_from (suc n) t us else settled_at n t u ∷ to_write_from (suc n) (past_parts t u) us)
+by_mark n t u us b h = ap (λ (b : Bool). if b then to_write_from (suc n) t us else settled_at n t u ∷ to_write_from (suc n) (past_parts t u) us) h
 
 pub to_write-old : (n : ℕ) (t : Elsewhere) (xs : List UnitValue) (u : UnitValue) → u.is_written ≡ true → to_write_from n t (xs ++ u ∷ []) ≡ to_write_from n t xs
 to_write-old n t [] u h = by_mark n t u [] true h
-to_write-old n t (x ∷ xs) u h = step x.is_written (to_write-old (suc n) t xs u h) (to_write-old (suc n) (past_lines t x) xs u h)
+to_write-old n t (x ∷ xs) u h = step x.is_written (to_write-old (suc n) t xs u h) (to_write-old (suc n) (past_parts t x) xs u h)
   where
-    step : (b : Bool) → to_write_from (suc n) t (xs ++ u ∷ []) ≡ to_write_from (suc n) t xs → to_write_from (suc n) (past_lines t x) (xs ++ u ∷ []) ≡ to_write_from (suc n) (past_lines t x) xs →
-        (if b then to_write_from (suc n) t (xs ++ u ∷ []) else settled_at n t x ∷ to_write_from (suc n) (past_lines t x) (xs ++ u ∷ []))
-        ≡ (if b then to_write_from (suc n) t xs else settled_at n t x ∷ to_write_from (suc n) (past_lines t x) xs)
+    step : (b : Bool) → to_write_from (suc n) t (xs ++ u ∷ []) ≡ to_write_from (suc n) t xs → to_write_from (suc n) (past_parts t x) (xs ++ u ∷ []) ≡ to_write_from (suc n) (past_parts t x) xs →
+        (if b then to_write_from (suc n) t (xs ++ u ∷ []) else settled_at n t x ∷ to_write_from (suc n) (past_parts t x) (xs ++ u ∷ []))
+        ≡ (if b then to_write_from (suc n) t xs else settled_at n t x ∷ to_write_from (suc n) (past_parts t x) xs)
     step true here behind = here
     step false here behind = ap (λ ys. settled_at n t x ∷ ys) behind
 
 pub to_write-new : (n m : ℕ) (t : Elsewhere) (xs : List UnitValue) (u : UnitValue) → m ≡ n + length xs → u.is_written ≡ false → to_write_from n t (xs ++ u ∷ []) ≡ to_write_from n t xs ++ settled_at m (past_all t xs) u ∷ []
 to_write-new n m t [] u e h = by_mark n t u [] false h ∙ ap (λ k. settled_at k t u ∷ []) (let k : n ≡ m = omega (arith, e) in k)
-to_write-new n m t (x ∷ xs) u e h = step x.is_written refl (to_write-new (suc n) m t xs u (omega (arith, e)) h) (to_write-new (suc n) m (past_lines t x) xs u (omega (arith, e)) h)
+to_write-new n m t (x ∷ xs) u e h = step x.is_written refl (to_write-new (suc n) m t xs u (omega (arith, e)) h) (to_write-new (suc n) m (past_parts t x) xs u (omega (arith, e)) h)
   where
     step : (b : Bool) → x.is_written ≡ b →
         to_write_from (suc n) t (xs ++ u ∷ []) ≡ to_write_from (suc n) t xs ++ settled_at m (past_all t xs) u ∷ [] →
-        to_write_from (suc n) (past_lines t x) (xs ++ u ∷ []) ≡ to_write_from (suc n) (past_lines t x) xs ++ settled_at m (past_all (past_lines t x) xs) u ∷ [] →
+        to_write_from (suc n) (past_parts t x) (xs ++ u ∷ []) ≡ to_write_from (suc n) (past_parts t x) xs ++ settled_at m (past_all (past_parts t x) xs) u ∷ [] →
         to_write_from n t (x ∷ xs ++ u ∷ []) ≡ to_write_from n t (x ∷ xs) ++ settled_at m (past_all (past_elsewhere t x) xs) u ∷ []
     step true is here behind =
         by_mark n t x (xs ++ u ∷ []) true is
@@ -166,7 +166,7 @@ to_write-new n m t (x ∷ xs) u e h = step x.is_written refl (to_write-new (suc 
     step false is here behind =
         by_mark n t x (xs ++ u ∷ []) false is
         ∙ ap (λ ys. settled_at n t x ∷ ys) behind
-        ∙ ap (λ s. settled_at n t x ∷ (to_write_from (suc n) (past_lines t x) xs ++ settled_at m (past_all s xs) u ∷ [])) (sym (past-new t x is))
+        ∙ ap (λ s. settled_at n t x ∷ (to_write_from (suc n) (past_parts t x) xs ++ settled_at m (past_all s xs) u ∷ [])) (sym (past-new t x is))
         ∙ ap (λ ys. ys ++ settled_at m (past_all (past_elsewhere t x) xs) u ∷ []) (sym (by_mark n t x xs false is))
 
 -- where all are written, there is nothing to write

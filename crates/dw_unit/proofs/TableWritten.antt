@@ -3,7 +3,7 @@ use Rattle.std.specs.Prelude.{◌≡◌, ◌⊎◌, ℕ, ◌+◌, ◌≤◌, ◌
 use Rattle.std.proofs.Common.{sym, ◌∙◌, ap, subst, arith, append-nil, append_assoc, length-append, inl, inr}
 use Rattle.dw_base.specs.declared.error.Error.{Error}
 use Rattle.dw_base.specs.declared.section_id.SectionId.{SectionId}
-use Rattle.dw_base.specs.declared.section_id.SectionId.TheVariants.{DebugAbbrev, DebugLine, DebugInfo}
+use Rattle.dw_base.specs.declared.section_id.SectionId.TheVariants.{DebugAbbrev, DebugLine, DebugRanges, DebugRngLists, DebugInfo}
 use Rattle.dw_writer.specs.Causes.{HasRisen}
 use Rattle.dw_writer.specs.Meaning.{Meaning}
 use Rattle.dw_writer.specs.Sections.{SomeHasRisen, section_of, fault_sum}
@@ -11,7 +11,7 @@ use Rattle.dw_writer.proofs.FaultLaws.{HasRisen-from, SomeHasRisen-info}
 use Rattle.dw_writer.specs.Meaning.{Adds}
 use Rattle.dw_writer.specs.declared.sections.Sections.{Sections}
 use Rattle.dw_entries.specs.Targets.{Tables}
-use Rattle.dw_unit.specs.Elsewhere.{Elsewhere, elsewhere, unit_tables, past_lines, past_elsewhere, AppendsLine, AppendsLines}
+use Rattle.dw_unit.specs.Elsewhere.{Elsewhere, elsewhere, unit_tables, past_parts, past_elsewhere, AppendsLine, AppendsLines, AppendsRanges, AppendsAllRanges}
 use Rattle.dw_unit.specs.Built.{Numbered, Starts, table_size, settled_at}
 use Rattle.dw_unit.specs.Causes.{Because, Refused, Is, UnitRefused, UnitFails, UnitsFail, ReferencesFail, UnitsRefused, RefusesAny}
 use Rattle.dw_unit.specs.Filled.{Fills, AreFillable}
@@ -22,19 +22,30 @@ use Rattle.dw_unit.specs.Valid.{IsWritableAt, AreWritable}
 use Rattle.dw_unit.specs.Whole.{settled, marked_written, IsRefused}
 use Rattle.dw_unit.specs.Written.{to_write, IsWrittenAt, AreWritten, AreStopped, PendsUnits, CompletesPending, WritesIfNew, KeepsOtherSections}
 use Rattle.dw_unit.proofs.Faults.{because-map}
-use Rattle.dw_unit.proofs.LineSteps.{past_all, past_all-more, past-old, past-new, lines_none, lines_new, lines_old, elsewhere-new}
+use Rattle.dw_unit.proofs.LineSteps.{lines_none, lines_new, lines_old}
+use Rattle.dw_unit.proofs.RangeSteps.{ranges_none, ranges_new, ranges_old, elsewhere-new}
+use Rattle.dw_unit.proofs.UnitTexts.{past_all, past_all-more, past-old, past-new}
 use Rattle.dw_unit.proofs.PendingSteps.{pending_none, pending_one, pending_then, pending_between, pending_widths, pending_lead, row_length, units_added}
 use Rattle.dw_unit.proofs.TableSteps.{IsAt, next_is, none_gone, one_gone, all_gone, passed_more, written_more, stopped_at, past_tables, past_more, past_old, past_new, writable_more, fails_at, to_write-old, to_write-new, keeps_more, offsets_new, offsets_marked}
 
 -- what stays in two calls
 pub front_others : {W : Type 0} (old now new : Sections W) → KeepsOtherSections old now → KeepsOtherSections now new → KeepsOtherSections old new
 front_others {W} old now new h k =
-    k ∙ ap (λ (s : Sections W). let t : Sections W = record s { debug_abbrev = new.debug_abbrev; debug_line = new.debug_line; debug_info = new.debug_info; debug_info_fixups = new.debug_info_fixups } in t) h
+    k ∙ ap (λ (s : Sections W). let t : Sections W = record s {
+      debug_abbrev = new.debug_abbrev;
+      debug_line = new.debug_line;
+      debug_ranges = new.debug_ranges;
+      debug_rnglists = new.debug_rnglists;
+      debug_info = new.debug_info;
+      debug_info_fixups = new.debug_info_fixups;
+    } in t) h
 
 -- a fault since some units were written is one since before them
 rises_from : {W : Type 0} (meaning : W → Meaning) (old now new : Sections W) → KeepsOtherSections old now → (meaning old.debug_abbrev.0).faults ≤ (meaning now.debug_abbrev.0).faults →
-    (meaning old.debug_line.0).faults ≤ (meaning now.debug_line.0).faults → (meaning old.debug_info.0).faults ≤ (meaning now.debug_info.0).faults → SomeHasRisen meaning now new → SomeHasRisen meaning old new
-rises_from {W} meaning old now new others abbrevs lines info h = by_id h.id h.before h.after h.was h.is h.risen
+    (meaning old.debug_line.0).faults ≤ (meaning now.debug_line.0).faults →
+    (meaning old.debug_ranges.0).faults ≤ (meaning now.debug_ranges.0).faults → (meaning old.debug_rnglists.0).faults ≤ (meaning now.debug_rnglists.0).faults →
+    (meaning old.debug_info.0).faults ≤ (meaning now.debug_info.0).faults → SomeHasRisen meaning now new → SomeHasRisen meaning old new
+rises_from {W} meaning old now new others abbrevs lines ranges range_lists info h = by_id h.id h.before h.after h.was h.is h.risen
   where
     by_id : (id : SectionId) (before after : W) → section_of now id ≡ Some before → section_of new id ≡ Some after → HasRisen (meaning before) (meaning after) → SomeHasRisen meaning old new
     by_id DebugAbbrev b a was is r =
@@ -43,6 +54,12 @@ rises_from {W} meaning old now new others abbrevs lines info h = by_id h.id h.be
     by_id DebugLine b a was is r =
         let same : now.debug_line.0 ≡ b = cc in
         record { id = DebugLine; before = old.debug_line.0; after = a; was = refl; is = is; risen = HasRisen-from (meaning old.debug_line.0) (meaning now.debug_line.0) (meaning a) lines (subst (λ w. HasRisen (meaning w) (meaning a)) (sym same) r) }
+    by_id DebugRanges b a was is r =
+        let same : now.debug_ranges.0 ≡ b = cc in
+        record { id = DebugRanges; before = old.debug_ranges.0; after = a; was = refl; is = is; risen = HasRisen-from (meaning old.debug_ranges.0) (meaning now.debug_ranges.0) (meaning a) ranges (subst (λ w. HasRisen (meaning w) (meaning a)) (sym same) r) }
+    by_id DebugRngLists b a was is r =
+        let same : now.debug_rnglists.0 ≡ b = cc in
+        record { id = DebugRngLists; before = old.debug_rnglists.0; after = a; was = refl; is = is; risen = HasRisen-from (meaning old.debug_rnglists.0) (meaning now.debug_rnglists.0) (meaning a) range_lists (subst (λ w. HasRisen (meaning w) (meaning a)) (sym same) r) }
     by_id DebugInfo b a was is r =
         let same : now.debug_info.0 ≡ b = cc in
         record { id = DebugInfo; before = old.debug_info.0; after = a; was = refl; is = is; risen = HasRisen-from (meaning old.debug_info.0) (meaning now.debug_info.0) (meaning a) info (subst (λ w. HasRisen (meaning w) (meaning a)) (sym same) r) }
@@ -61,6 +78,7 @@ pub record WritesFront {W : Type 0} (meaning : W → Meaning) (old now : Section
   pub keeps : (ws : List Numbered) (ks : List Kept) → length ws ≡ length ks → KeepPlaces us ws ks → KeepPlaces vs (ws ++ to_write t before) (ks ++ kept)
   pub place : (meaning now.debug_abbrev.0).size ≡ past_tables (meaning old.debug_abbrev.0).size before
   pub lines : AppendsLines meaning old now t.line_strings t.strings before
+  pub ranges : AppendsAllRanges meaning old now before
   pub elsewhere_is : elsewhere meaning now t.line_strings t.strings ≡ past_all t before
   pub others : KeepsOtherSections old now
   pub faults : fault_sum meaning old ≤ fault_sum meaning now
@@ -86,6 +104,7 @@ front_none meaning line_strings strings s us = record {
   keeps = λ ws ks same h. subst (λ xs. KeepPlaces us xs (ks ++ [])) (sym (append-nil ws)) (subst (KeepPlaces us ws) (sym (append-nil ks)) h);
   place = refl;
   lines = lines_none line_strings strings meaning s;
+  ranges = ranges_none meaning s;
   elsewhere_is = refl;
   others = refl;
   faults = omega arith;
@@ -139,6 +158,7 @@ module _ {W : Type 0} (meaning : W → Meaning) (t : Elsewhere) where
               subst (λ x. KeepPlaces x (ws ++ to_write t (f.before ++ u ∷ [])) (ks ++ f.kept)) (sym table)
               (subst (λ xs. KeepPlaces vs (ws ++ xs) (ks ++ f.kept)) (sym none) (f.keeps ws ks equal h));
           lines = subst (λ s. AppendsLines meaning old s t.line_strings t.strings (f.before ++ u ∷ [])) (sym kept) (lines_old t.line_strings t.strings meaning old now f.before u old_mark f.lines);
+          ranges = subst (λ s. AppendsAllRanges meaning old s (f.before ++ u ∷ [])) (sym kept) (ranges_old meaning old now f.before u old_mark f.ranges);
           elsewhere_is = ap here_in kept ∙ f.elsewhere_is ∙ sym (past_all-more t f.before u ∙ past-old (past_all t f.before) u old_mark);
           place = ap (λ (s : Sections W). (meaning s.debug_abbrev.0).size) kept ∙ f.place ∙ sym (past_more (meaning old.debug_abbrev.0).size f.before u ∙ past_old (past_tables (meaning old.debug_abbrev.0).size f.before) u old_mark);
           others = others_then;
@@ -147,8 +167,8 @@ module _ {W : Type 0} (meaning : W → Meaning) (t : Elsewhere) where
 
     -- a new one is pending behind the others
     front_new : u.is_written ≡ false → v ≡ marked_written v.offsets (settled u) → PendsUnit meaning now new (settled u) (unit_tables (past_all t f.before) u) v.offsets → AppendsLine meaning now new t.line_strings t.strings u →
-        IsWritableAt (meaning now.debug_info.0).is_plain (here_in now) (meaning now.debug_abbrev.0).size u → WritesFront meaning old new t us (slice_set vs i v) (i + 1)
-    front_new new_mark marked p line can =
+        AppendsRanges meaning now new u → IsWritableAt (meaning now.debug_info.0).is_plain (here_in now) (meaning now.debug_abbrev.0).size u → WritesFront meaning old new t us (slice_set vs i v) (i + 1)
+    front_new new_mark marked p line ranges can =
         let gone = one_gone us vs i f.before f.after u v rest_is.0 here in
         let found = past_all t f.before in
         let w : Numbered = settled_at i found u in
@@ -175,7 +195,8 @@ module _ {W : Type 0} (meaning : W → Meaning) (t : Elsewhere) where
               subst (λ x. KeepPlaces x (ws ++ to_write t (f.before ++ u ∷ [])) (ks ++ (f.kept ++ p.kept ∷ []))) (sym table)
               (subst (KeepPlaces (f.after ++ v ∷ rest_is.0) (ws ++ to_write t (f.before ++ u ∷ []))) places (subst (λ xs. KeepPlaces (f.after ++ v ∷ rest_is.0) xs ((ks ++ f.kept) ++ p.kept ∷ [])) units more));
           lines = lines_new t.line_strings t.strings meaning old now new f.before u new_mark f.lines line;
-          elsewhere_is = elsewhere-new t.line_strings t.strings meaning now new u line ∙ ap (λ s. past_lines s u) f.elsewhere_is ∙ sym (past_all-more t f.before u ∙ past-new found u new_mark);
+          ranges = ranges_new meaning old now new f.before u new_mark f.ranges ranges;
+          elsewhere_is = elsewhere-new meaning now new t.line_strings t.strings u line ranges ∙ ap (λ s. past_parts s u) f.elsewhere_is ∙ sym (past_all-more t f.before u ∙ past-new found u new_mark);
           place = p.tree.table.size ∙ ap (λ n. n + table_size (settled u)) f.place ∙ sym (past_more (meaning old.debug_abbrev.0).size f.before u ∙ past_new (past_tables (meaning old.debug_abbrev.0).size f.before) u new_mark);
           others = others_then;
           faults = faults_then;
@@ -184,7 +205,7 @@ module _ {W : Type 0} (meaning : W → Meaning) (t : Elsewhere) where
     pub front_more : WritesIfNew meaning now new u v (here_in now) → (u.is_written ≡ true) ⊎ IsWritableAt (meaning now.debug_info.0).is_plain (here_in now) (meaning now.debug_abbrev.0).size u → WritesFront meaning old new t us (slice_set vs i v) (i + 1)
     front_more (inl h) can = front_old h.0 h.1 h.2
     front_more (inr h) (inl k) = absurd (let x : true ≡ false = sym k ∙ h.0 in cc)
-    front_more (inr h) (inr can) = front_new h.0 h.1 (subst (λ s. PendsUnit meaning now new (settled u) (unit_tables s u) v.offsets) f.elsewhere_is h.2) h.3 can
+    front_more (inr h) (inr can) = front_new h.0 h.1 (subst (λ s. PendsUnit meaning now new (settled u) (unit_tables s u) v.offsets) f.elsewhere_is h.2) h.3 h.4 can
 
     -- a unit that is refused
     pub front_stopped : IsRefused u v → AreStopped (starts_of meaning old) t us (slice_set vs i v)
@@ -199,7 +220,7 @@ module _ {W : Type 0} (meaning : W → Meaning) (t : Elsewhere) where
         let plain = (meaning old.debug_info.0).is_plain in
         let table = (meaning old.debug_abbrev.0).size in
         because-map {p = UnitFails u (here_in now) (meaning now.debug_abbrev.0).size (meaning now.debug_info.0).is_plain} {q = UnitsFail plain t table us}
-        (rises_from meaning old now new f.others f.pending.tables.same.faults f.lines.text_is.same.faults f.pending.units.text.same.faults)
+        (rises_from meaning old now new f.others f.pending.tables.same.faults f.lines.text_is.same.faults f.ranges.ranges.same.faults f.ranges.range_lists.same.faults f.pending.units.text.same.faults)
         (λ e k.
         let place = (meaning now.debug_abbrev.0).size in
         let kind = subst (λ b. UnitFails u (here_in now) place b e) f.pending.units.text.same.kind k in
@@ -210,6 +231,7 @@ module _ {W : Type 0} (meaning : W → Meaning) (t : Elsewhere) where
 -- where all were gone through
 pub front_all : {W : Type 0} (meaning : W → Meaning) (t : Elsewhere) (old now : Sections W) (us vs : List UnitValue) (i : ℕ) → WritesFront meaning old now t us vs i → length vs ≤ i →
     PendsUnits meaning old now us vs t × AreWritten (starts_of meaning old) (starts_of meaning now) t us vs × AreWritable (meaning old.debug_info.0).is_plain t (meaning old.debug_abbrev.0).size us × AppendsLines meaning old now t.line_strings t.strings us
+    × AppendsAllRanges meaning old now us
 front_all meaning t old now us vs i f le =
     let all = all_gone us vs i f.before f.after f.rest f.at le in
     let pends : PendsUnits meaning old now f.before vs t = record { kept = f.kept; pending = f.pending; keeps = λ ws ks equal h. f.keeps ws ks equal (subst (λ xs. KeepPlaces xs ws ks) all.0 h) } in (
@@ -217,6 +239,7 @@ front_all meaning t old now us vs i f le =
       subst (λ xs. AreWritten (starts_of meaning old) (starts_of meaning now) t xs vs) all.0 (subst (AreWritten (starts_of meaning old) (starts_of meaning now) t f.before) all.1 f.written),
       subst (AreWritable (meaning old.debug_info.0).is_plain t (meaning old.debug_abbrev.0).size) all.0 f.writable,
       subst (AppendsLines meaning old now t.line_strings t.strings) all.0 f.lines,
+      subst (AppendsAllRanges meaning old now) all.0 f.ranges,
     )
 
 -- Units behind those that are pending
@@ -246,10 +269,10 @@ module _ {W : Type 0} (meaning : W → Meaning) (before old now : Sections W) (t
       }
 
   -- or one of them is refused
-  pub all_refused : (new : Sections W) → KeepsOtherSections old now → (meaning old.debug_line.0).faults ≤ (meaning now.debug_line.0).faults → (err : Error) →
+  pub all_refused : (new : Sections W) → KeepsOtherSections old now → AppendsLines meaning old now t.line_strings t.strings us → AppendsAllRanges meaning old now us → (err : Error) →
       (AreFillable (meaning now.debug_info.0) now.debug_info_fixups → Refused (meaning now.debug_info.0) (meaning new.debug_info.0) (Is (holes_fail (info_at vs) (meaning now.debug_info.0).is_plain now.debug_info_fixups)) err) →
       UnitsRefused meaning before old new us vs t ws ks err
-  all_refused new others line_faults err h =
+  all_refused new others lines ranges err h =
       let units = ws ++ to_write t us in
       let kept = ks ++ p.kept in
       let plain : (meaning now.debug_info.0).is_plain ≡ (meaning before.debug_info.0).is_plain = all_pending.units.text.same.kind in
@@ -259,7 +282,7 @@ module _ {W : Type 0} (meaning : W → Meaning) (before old now : Sections W) (t
       } in
       because-map {p = Is (holes_fail (info_at vs) (meaning now.debug_info.0).is_plain now.debug_info_fixups)}
       {q = λ e. UnitsFail (meaning old.debug_info.0).is_plain t (meaning old.debug_abbrev.0).size us e ⊎ ReferencesFail meaning before us vs t ws ks e}
-      (λ r. rises_from meaning old now new others p.pending.tables.same.faults line_faults p.pending.units.text.same.faults (SomeHasRisen-info meaning now new r))
+      (λ r. rises_from meaning old now new others p.pending.tables.same.faults lines.text_is.same.faults ranges.ranges.same.faults ranges.range_lists.same.faults p.pending.units.text.same.faults (SomeHasRisen-info meaning now new r))
       (λ e k. inr (record {
         kept = p.kept;
         in_row = all_pending.in_row;

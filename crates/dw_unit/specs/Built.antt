@@ -10,7 +10,7 @@ use Rattle.dw_entries.specs.Tree.{preorder}
 use Rattle.dw_unit.specs.Places.{Placement, Offsets, found, targets_of, info_from}
 use Rattle.dw_unit.specs.Read.{read_tree}
 use Rattle.dw_unit.specs.UnitValue.{UnitValue}
-use Rattle.dw_unit.specs.Elsewhere.{Elsewhere, unit_tables, past_lines}
+use Rattle.dw_unit.specs.Elsewhere.{Elsewhere, unit_tables, past_parts}
 use Rattle.dw_unit.specs.Whole.{tree_declared, tree_size, tree_table, settled}
 
 -- where the row is read that has the same number in preorder as an entry
@@ -47,7 +47,7 @@ settled_at n t u = record { id = n; unit = settled u; tables = unit_tables t u }
 -- units in the order of their numbers, the first of which has this one, as they are written
 abbrev pub numbered_from : ℕ → Elsewhere → List UnitValue → List Numbered
 numbered_from n t [] = []
-numbered_from n t (u ∷ us) = settled_at n t u ∷ numbered_from (suc n) (past_lines t u) us
+numbered_from n t (u ∷ us) = settled_at n t u ∷ numbered_from (suc n) (past_parts t u) us
 
 abbrev pub numbered : Elsewhere → List UnitValue → List Numbered
 numbered t us = numbered_from 0 t us

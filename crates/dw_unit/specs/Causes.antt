@@ -9,7 +9,7 @@ use Rattle.dw_writer.specs.Sections.{SomeHasRisen}
 use Rattle.dw_writer.specs.declared.sections.Sections.{Sections}
 use Rattle.dw_entries.specs.Entries.{EntryValue}
 use Rattle.dw_entries.specs.Targets.{Tables}
-use Rattle.dw_unit.specs.Elsewhere.{Elsewhere, unit_tables, line_fails, past_elsewhere}
+use Rattle.dw_unit.specs.Elsewhere.{Elsewhere, unit_tables, parts_fail, past_elsewhere}
 use Rattle.dw_unit.specs.Places.{Placement, targets_of}
 use Rattle.dw_unit.specs.Built.{Numbered}
 use Rattle.dw_unit.specs.Early.{tree_is_forward}
@@ -56,10 +56,11 @@ abbrev pub TreeFails : Encoding → List EntryValue → Tables → ℕ → Bool 
 TreeFails e es t table is_plain err =
     ((err ≡ errors.ValueTooLarge) × TreeHasNoRoom e es) ⊎ (Is (tree_is_forward e es) err ⊎ IsFaulty e es t table is_plain err)
 
--- a unit's version or address size has no spelling, or its line program, where it is in use, or its settled tree has a fault
+-- a unit's version or address size has no spelling, or its line program, where it is in use, its range lists or its settled
+-- tree have a fault
 abbrev pub UnitFails : UnitValue → Elsewhere → ℕ → Bool → Error → Type 0
 UnitFails u t table is_plain err =
-    Is (encoding_fails u.encoding) err ⊎ (Is (line_fails t u) err ⊎ TreeFails u.encoding (settled u).entries (unit_tables t u) table is_plain err)
+    Is (encoding_fails u.encoding) err ⊎ (Is (parts_fail t u) err ⊎ TreeFails u.encoding (settled u).entries (unit_tables t u) table is_plain err)
 
 -- why a unit is refused, which is to stand at the end of the sections
 abbrev pub UnitRefused : {W : Type 0} → (W → Meaning) → Sections W → Sections W → UnitValue → Elsewhere → Error → Type 0

@@ -1,14 +1,24 @@
 -- What units find and leave in other sections than .debug_info and .debug_abbrev: strings, which stand in the end, and line
--- programs, each of which stands where those before it end (DWARF 5, 6.2 and 7.5.5).
-use Rattle.std.specs.Prelude.{◌≡◌, ℕ, ◌+◌, Bool, true, false, ◌&&◌, ◌||◌, List, [], ◌∷◌, Option, Some, None, IsFalse, length, nat_lt, if◌then◌else◌}
+-- programs and range lists, each of which stand where those before them end (DWARF 5, 2.17.3, 6.2 and 7.5.5).
+use Rattle.std.specs.Prelude.{◌≡◌, ℕ, ◌+◌, Bool, true, false, not, ◌==◌, ◌&&◌, ◌||◌, List, [], ◌∷◌, All, Option, Some, None, IsFalse, length, nat_lt, slice_get, if◌then◌else◌}
 use Rattle.std.specs.Option.{is_some}
 use Rattle.dw_base.specs.Numbers.{when}
+use Rattle.dw_base.specs.declared.address.Address.TheVariants.{Constant}
+use Rattle.dw_base.specs.declared.common.Encoding.{Encoding}
+use Rattle.dw_base.specs.declared.constants.TheConstants.{DW_AT_low_pc}
 use Rattle.dw_base.specs.declared.error.Error.{Error}
 use Rattle.dw_base.specs.declared.section_id.SectionId.{SectionId}
-use Rattle.dw_base.specs.declared.section_id.SectionId.TheVariants.{DebugStr, DebugLineStr, DebugLine}
+use Rattle.dw_base.specs.declared.section_id.SectionId.TheVariants.{DebugStr, DebugLineStr, DebugLine, DebugRanges, DebugRngLists}
+use Rattle.dw_writer.specs.Drafts.{Draft, open_text}
 use Rattle.dw_writer.specs.Meaning.{Meaning, Model, IsTidy, Appends}
 use Rattle.dw_writer.specs.declared.sections.Sections.{Sections}
+use Rattle.dw_lists.specs.Causes.{table_fails}
+use Rattle.dw_lists.specs.Items.{is_five}
+use Rattle.dw_lists.specs.Tables.{Offsets as ListOffsets, IsReadAgain, table_draft, offsets_from, no_place, ranges_in}
 use Rattle.dw_strings.specs.Strings.{string_place}
+use Rattle.dw_entries.specs.declared.value.AttributeValue.{AttributeValue}
+use Rattle.dw_entries.specs.declared.value.AttributeValue.TheVariants as values
+use Rattle.dw_entries.specs.Entries.{EntryValue, value_of}
 use Rattle.dw_entries.specs.Settled.{some_file}
 use Rattle.dw_entries.specs.Targets.{Tables}
 use Rattle.dw_line.specs.LinePrograms.{LineProgramValue, sequences_of, line_program_size, line_program_text, line_program_fails}
@@ -20,20 +30,28 @@ use Rattle.dw_unit.specs.UnitValue.{UnitValue}
 abbrev pub string_there : List (List ℕ) → ℕ → Option ℕ
 string_there strings i = when (nat_lt i (length strings)) (Some (string_place strings i))
 
--- the strings of line programs, and the others
-abbrev pub strings_in : List (List ℕ) → List (List ℕ) → SectionId → ℕ → Option ℕ
-strings_in line_strings strings DebugStr i = string_there strings i
-strings_in line_strings strings DebugLineStr i = string_there line_strings i
-strings_in line_strings strings section i = None
+-- Where what a unit leaves elsewhere stands: its line program, if it has one, and its range lists.
+pub record OwnPlaces : Type 0 where
+  pub line_program : Option ℕ
+  pub ranges : ListOffsets
 
--- the unit's own line program, if it has a place
-abbrev pub own_in : Option ℕ → SectionId → Option ℕ
-own_in line_program DebugLine = line_program
-own_in line_program section = None
+-- the strings of line programs, the others, and the range lists of the unit, in the section of its version
+abbrev pub part_in : OwnPlaces → List (List ℕ) → List (List ℕ) → SectionId → ℕ → Option ℕ
+part_in own line_strings strings DebugStr i = string_there strings i
+part_in own line_strings strings DebugLineStr i = string_there line_strings i
+part_in own line_strings strings DebugRanges i = slice_get own.ranges.places i
+part_in own line_strings strings DebugRngLists i = slice_get own.ranges.places i
+part_in own line_strings strings section i = None
 
--- what operands lead to, where the unit's line program stands there
-abbrev pub tables_in : Option ℕ → List (List ℕ) → List (List ℕ) → Tables
-tables_in line_program line_strings strings = record { part = strings_in line_strings strings; own = own_in line_program }
+-- the unit's own line program, and the first offset entry of its range lists, which they have in version 5
+abbrev pub own_in : OwnPlaces → SectionId → Option ℕ
+own_in own DebugLine = own.line_program
+own_in own DebugRngLists = own.ranges.base
+own_in own section = None
+
+-- what operands lead to, where the unit's own parts stand there
+abbrev pub tables_in : OwnPlaces → List (List ℕ) → List (List ℕ) → Tables
+tables_in own line_strings strings = record { part = part_in own line_strings strings; own = own_in own }
 
 -- a sequence was begun
 abbrev pub is_some_sequence : List BuiltSequence → Bool
@@ -52,22 +70,29 @@ pub record End : Type 0 where
 abbrev pub end_of : Meaning → End
 end_of m = record { size = m.size; is_plain = m.is_plain }
 
--- What a unit finds elsewhere: the strings of its file, and where the next line program is to stand.
+-- The same of the sections of line programs, of range lists up to version 4, and of those of version 5.
+pub record Ends : Type 0 where
+  pub lines : End
+  pub ranges : End
+  pub range_lists : End
+
+abbrev pub ends_of : {W : Type 0} → (W → Meaning) → Sections W → Ends
+ends_of meaning s = record { lines = end_of (meaning s.debug_line.0); ranges = end_of (meaning s.debug_ranges.0); range_lists = end_of (meaning s.debug_rnglists.0) }
+
+-- What a unit finds elsewhere: the strings of its file, and where its own parts of other sections are to stand.
 pub record Elsewhere : Type 0 where
   pub line_strings : List (List ℕ)
   pub strings : List (List ℕ)
-  pub lines : End
+  pub ends : Ends
 
 abbrev pub elsewhere : {W : Type 0} → (W → Meaning) → Sections W → List (List ℕ) → List (List ℕ) → Elsewhere
-elsewhere meaning s line_strings strings = record { line_strings = line_strings; strings = strings; lines = end_of (meaning s.debug_line.0) }
+elsewhere meaning s line_strings strings = record { line_strings = line_strings; strings = strings; ends = ends_of meaning s }
+
+-- Line programs
 
 -- the place of the unit's line program, where it is in use
 abbrev pub line_place : Elsewhere → UnitValue → Option ℕ
-line_place t u = when (lines_in_use u) (Some t.lines.size)
-
--- what the operands of a unit lead to
-abbrev pub unit_tables : Elsewhere → UnitValue → Tables
-unit_tables t u = tables_in (line_place t u) t.line_strings t.strings
+line_place t u = when (lines_in_use u) (Some t.ends.lines.size)
 
 -- the unit's line program, where it is in use
 abbrev pub line_size : UnitValue → ℕ
@@ -77,25 +102,108 @@ abbrev pub line_text : List (List ℕ) → List (List ℕ) → UnitValue → Mod
 line_text line_strings strings u big l = if lines_in_use u then line_program_text strings line_strings u.line_program big l else Some []
 
 abbrev pub line_fails : Elsewhere → UnitValue → Error → Bool
-line_fails t u err = lines_in_use u && line_program_fails t.strings t.line_strings t.lines.is_plain u.encoding u.line_program err
+line_fails t u err = lines_in_use u && line_program_fails t.strings t.line_strings t.ends.lines.is_plain u.encoding u.line_program err
 
 -- it has no fault
 abbrev pub LinesAreSound : Elsewhere → UnitValue → Type 0
 LinesAreSound t u = (err : Error) → IsFalse (line_fails t u err)
 
+-- Range lists
+
+-- A root's address puts a base in force, unless it is a constant 0 (DWARF 4, 2.17.3).
+abbrev pub is_base_address : Option AttributeValue → Bool
+is_base_address None = false
+is_base_address (Some (values.Address (Constant n))) = not (n == 0)
+is_base_address (Some v) = true
+
+-- the root of these entries has such an address
+abbrev pub has_base_address : List EntryValue → Bool
+has_base_address es = is_base_address (value_of es 0 DW_AT_low_pc.0)
+
+-- where they are to begin in the section of their version
+abbrev pub ranges_at : Elsewhere → UnitValue → ℕ
+ranges_at t u = if is_five u.encoding then t.ends.range_lists.size else t.ends.ranges.size
+
+-- whether its writer is plain
+abbrev pub ranges_plain : Elsewhere → UnitValue → Bool
+ranges_plain t u = if is_five u.encoding then t.ends.range_lists.is_plain else t.ends.ranges.is_plain
+
+-- where they stand behind so many bytes
+abbrev pub range_places_at : ℕ → UnitValue → ListOffsets
+range_places_at at u = offsets_from false u.encoding no_place at (ranges_in u.ranges)
+
+abbrev pub range_places : Elsewhere → UnitValue → ListOffsets
+range_places t u = range_places_at (ranges_at t u) u
+
+-- their table
+abbrev pub range_draft : UnitValue → Draft
+range_draft u = table_draft false u.encoding no_place (ranges_in u.ranges)
+
+-- it stands in the section of version 5, or in that of those before it
+abbrev pub stands_in : Bool → UnitValue → Bool
+stands_in true u = is_five u.encoding
+stands_in false u = not (is_five u.encoding)
+
+-- the part of it there
+abbrev pub range_size : Bool → UnitValue → ℕ
+range_size five u = if stands_in five u then (range_draft u).size else 0
+
+abbrev pub range_text : Bool → UnitValue → Model
+range_text five u big l = if stands_in five u then open_text (range_draft u) big l else Some []
+
+-- they have this fault in a writer that is plain or not
+abbrev pub ranges_fail_in : Bool → UnitValue → Error → Bool
+ranges_fail_in is_plain u err = table_fails false u.encoding None (has_base_address u.entries) is_plain (ranges_in u.ranges) err
+
+abbrev pub ranges_fail : Elsewhere → UnitValue → Error → Bool
+ranges_fail t u err = ranges_fail_in (ranges_plain t u) u err
+
+-- they have no fault
+abbrev pub RangesAreSound : Elsewhere → UnitValue → Type 0
+RangesAreSound t u = (err : Error) → IsFalse (ranges_fail t u err)
+
+-- Both
+
+-- where they stand
+abbrev pub own_places : Elsewhere → UnitValue → OwnPlaces
+own_places t u = record { line_program = line_place t u; ranges = range_places t u }
+
+-- what the operands of a unit lead to
+abbrev pub unit_tables : Elsewhere → UnitValue → Tables
+unit_tables t u = tables_in (own_places t u) t.line_strings t.strings
+
+-- one of them has this fault
+abbrev pub parts_fail : Elsewhere → UnitValue → Error → Bool
+parts_fail t u err = line_fails t u err || ranges_fail t u err
+
+-- none has
+abbrev pub PartsAreSound : Elsewhere → UnitValue → Type 0
+PartsAreSound t u = (err : Error) → IsFalse (parts_fail t u err)
+
+abbrev pub past_end : End → ℕ → End
+past_end e n = record e { size = e.size + n }
+
+-- where the sections end behind the unit's parts
+abbrev pub past_ends : Ends → UnitValue → Ends
+past_ends e u = record {
+  lines = past_end e.lines (line_size u);
+  ranges = past_end e.ranges (range_size false u);
+  range_lists = past_end e.range_lists (range_size true u);
+}
+
 -- what the unit behind this one finds
-abbrev pub past_lines : Elsewhere → UnitValue → Elsewhere
-past_lines t u = record t { lines = record t.lines { size = t.lines.size + line_size u } }
+abbrev pub past_parts : Elsewhere → UnitValue → Elsewhere
+past_parts t u = record t { ends = past_ends t.ends u }
 
 -- a unit that was written before adds nothing
-abbrev pub new_line_size : UnitValue → ℕ
-new_line_size u = if u.is_written then 0 else line_size u
+abbrev pub new_size : (UnitValue → ℕ) → UnitValue → ℕ
+new_size size u = if u.is_written then 0 else size u
 
-abbrev pub new_line_text : List (List ℕ) → List (List ℕ) → UnitValue → Model
-new_line_text line_strings strings u big l = if u.is_written then Some [] else line_text line_strings strings u big l
+abbrev pub new_text : (UnitValue → Model) → UnitValue → Model
+new_text text u big l = if u.is_written then Some [] else text u big l
 
 abbrev pub past_elsewhere : Elsewhere → UnitValue → Elsewhere
-past_elsewhere t u = if u.is_written then t else past_lines t u
+past_elsewhere t u = if u.is_written then t else past_parts t u
 
 -- A text is added behind what a writer holds, which stays in front of it, byte for byte.
 pub record AppendsBehind (old new : Meaning) (size : ℕ) (text : Model) : Type 0 where
@@ -110,4 +218,29 @@ AppendsLine meaning old new line_strings strings u =
 -- So are those of units that weren't written before, in the order of the units.
 abbrev pub AppendsLines : {W : Type 0} → (W → Meaning) → Sections W → Sections W → List (List ℕ) → List (List ℕ) → List UnitValue → Type 0
 AppendsLines meaning old new line_strings strings us =
-    AppendsBehind (meaning old.debug_line.0) (meaning new.debug_line.0) (sizes new_line_size us) (texts (new_line_text line_strings strings) us)
+    AppendsBehind (meaning old.debug_line.0) (meaning new.debug_line.0) (sizes (new_size line_size) us) (texts (new_text (line_text line_strings strings)) us)
+
+-- Wherever the text of a unit's range lists stands, each of them is found, in version 5 by its offset entry, and read as it was
+-- built.
+abbrev pub AreFound : UnitValue → Type 0
+AreFound u = IsReadAgain false u.encoding no_place (ranges_in u.ranges)
+
+-- so are those of units that weren't written before
+abbrev pub AreAllFound : List UnitValue → Type 0
+AreAllFound us = All (λ u. u.is_written ≡ false → AreFound u) us
+
+-- The range lists of a unit are added to the section of its version, and nothing to the other one. They are found there.
+pub record AppendsRanges {W : Type 0} (meaning : W → Meaning) (old new : Sections W) (u : UnitValue) : Type 0 where
+  pub found : AreFound u
+  pub ranges : Appends (meaning old.debug_ranges.0) (meaning new.debug_ranges.0) (range_size false u) (range_text false u)
+  pub range_lists : Appends (meaning old.debug_rnglists.0) (meaning new.debug_rnglists.0) (range_size true u) (range_text true u)
+
+-- So are those of units that weren't written before, in the order of the units.
+pub record AppendsAllRanges {W : Type 0} (meaning : W → Meaning) (old new : Sections W) (us : List UnitValue) : Type 0 where
+  pub found : AreAllFound us
+  pub ranges : Appends (meaning old.debug_ranges.0) (meaning new.debug_ranges.0) (sizes (new_size (range_size false)) us) (texts (new_text (range_text false)) us)
+  pub range_lists : Appends (meaning old.debug_rnglists.0) (meaning new.debug_rnglists.0) (sizes (new_size (range_size true)) us) (texts (new_text (range_text true)) us)
+
+-- what units with their line programs and range lists are written into stays but for these
+abbrev pub KeepsAllButParts : {W : Type 0} → Sections W → Sections W → Type 0
+KeepsAllButParts old new = new ≡ record old { debug_line = new.debug_line; debug_ranges = new.debug_ranges; debug_rnglists = new.debug_rnglists }

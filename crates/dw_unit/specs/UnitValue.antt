@@ -2,6 +2,7 @@
 use Rattle.std.specs.Prelude.{◌≡◌, ◌≢◌, ℕ, ◌<◌, Option, None, List, [], ◌∷◌, length, Bool, true, false, IsTrue, if◌then◌else◌}
 use Rattle.dw_base.specs.declared.common.Encoding.{Encoding}
 use Rattle.dw_line.specs.LinePrograms.{LineProgramValue, no_line_program}
+use Rattle.dw_lists.specs.declared.range.Range.{Range}
 use Rattle.dw_entries.specs.declared.value.AttributeValue.{AttributeValue}
 use Rattle.dw_entries.specs.Entries.{EntryValue, new_root, with_changed, value_of}
 use Rattle.std.specs.Option.{option_map}
@@ -12,6 +13,7 @@ use Rattle.dw_entries.specs.Arena.{EntriesValue, IsArena, is_reserved as is_rese
 pub record UnitValue : Type 0 where
   pub encoding : Encoding
   pub line_program : LineProgramValue
+  pub ranges : List (List Range)
   pub entries : List EntryValue
   pub reserved : ℕ
   pub is_written : Bool
@@ -21,7 +23,16 @@ pub record UnitValue : Type 0 where
 -- as it is made
 abbrev pub new_unit : Encoding → LineProgramValue → UnitValue
 new_unit encoding line_program =
-    record { encoding = encoding; line_program = line_program; entries = new_root ∷ []; reserved = 1; is_written = false; is_freed = false; offsets = None }
+    record {
+      encoding = encoding;
+      line_program = line_program;
+      ranges = [];
+      entries = new_root ∷ [];
+      reserved = 1;
+      is_written = false;
+      is_freed = false;
+      offsets = None;
+    }
 
 -- the entries, and how many ids were handed out
 abbrev pub entries_of : UnitValue → EntriesValue
@@ -61,6 +72,6 @@ value_in u i n = value_of u.entries i n
 abbrev pub KeepsOtherValues : UnitValue → UnitValue → ℕ → ℕ → Type 0
 KeepsOtherValues old new i n = (m : ℕ) → m ≢ n → value_in new i m ≡ value_in old i m
 
--- a unit that gave its line program and its entries up
+-- a unit that gave its line program, its lists and its entries up
 abbrev pub freed : UnitValue → UnitValue
-freed u = record u { line_program = no_line_program; entries = []; is_freed = true }
+freed u = record u { line_program = no_line_program; ranges = []; entries = []; is_freed = true }

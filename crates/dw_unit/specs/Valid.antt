@@ -9,7 +9,7 @@ use Rattle.dw_writer.specs.Meaning.{Meaning}
 use Rattle.dw_writer.specs.declared.sections.Sections.{Sections}
 use Rattle.dw_entries.specs.Entries.{EntryValue}
 use Rattle.dw_entries.specs.Targets.{Tables}
-use Rattle.dw_unit.specs.Elsewhere.{Elsewhere, unit_tables, LinesAreSound, past_elsewhere}
+use Rattle.dw_unit.specs.Elsewhere.{Elsewhere, unit_tables, PartsAreSound, past_elsewhere}
 use Rattle.dw_entries.specs.Tree.{preorder}
 use Rattle.dw_unit.specs.Built.{Numbered, Starts}
 use Rattle.dw_unit.specs.Early.{tree_is_forward}
@@ -32,16 +32,16 @@ pub record IsWritableTree (is_plain : Bool) (e : Encoding) (es : List EntryValue
   pub early : (err : Error) → IsFalse (tree_is_forward e es err)
   pub sound : (err : Error) → IsFalse (marks_fail e es (targets_of t places) is_plain (preorder es) err)
 
--- the same of a unit, settled, with its line program, where that is in use
+-- the same of a unit, settled, with its line program, where that is in use, and its range lists
 abbrev pub IsWritable : Bool → Elsewhere → UnitValue → Type 0
-IsWritable is_plain t u = LinesAreSound t u × IsWritableTree is_plain u.encoding (settled u).entries (unit_tables t u)
+IsWritable is_plain t u = PartsAreSound t u × IsWritableTree is_plain u.encoding (settled u).entries (unit_tables t u)
 
 -- the same of a unit whose table is to stand at a place
 abbrev pub IsWritableAt : Bool → Elsewhere → ℕ → UnitValue → Type 0
 IsWritableAt is_plain t table u = IsWritable is_plain t u × IsTrue (offset_fits is_plain (word_of u.encoding.format) table)
 
--- Each unit of a table that isn't written yet can be written where its abbreviations and its line program stand behind those
--- of the units before it.
+-- Each unit of a table that isn't written yet can be written where its abbreviations, its line program and its range lists
+-- stand behind those of the units before it.
 abbrev pub AreWritable : Bool → Elsewhere → ℕ → List UnitValue → Type 0
 AreWritable is_plain t at [] = Unit {0}
 AreWritable is_plain t at (u ∷ us) = ((u.is_written ≡ true) ⊎ IsWritableAt is_plain t at u) × AreWritable is_plain (past_elsewhere t u) (past_table at u) us

@@ -1,5 +1,5 @@
 -- A unit as it is written: settled, in preorder, with codes.
-use Rattle.std.specs.Prelude.{◌≡◌, ◌⊎◌, ℕ, true, false, Option, List}
+use Rattle.std.specs.Prelude.{◌≡◌, ◌⊎◌, ℕ, Bool, true, false, Option, Some, None, List, [], ◌∷◌, if◌then◌else◌}
 use Rattle.dw_base.specs.Abbreviations.{Shape, Declaration}
 use Rattle.dw_base.specs.Spelling.{header_size, table_bytes}
 use Rattle.dw_base.specs.declared.common.Encoding.{Encoding}
@@ -10,6 +10,9 @@ use Rattle.dw_unit.specs.DistinctShapes.{entry_shapes, distinct_shapes}
 use Rattle.dw_unit.specs.Laid.{sized, sizes_of, IsPlacement, HasNoRoom}
 use Rattle.dw_unit.specs.Places.{Placement, OffsetsValue}
 use Rattle.dw_entries.specs.Settled.{settled_entries}
+use Rattle.dw_entries.specs.declared.own_parts.OwnParts.{OwnParts}
+use Rattle.dw_lists.specs.Items.{is_five}
+use Rattle.dw_lists.specs.declared.range.Range.{Range}
 use Rattle.dw_unit.specs.Elsewhere.{lines_in_use}
 use Rattle.dw_unit.specs.UnitValue.{UnitValue}
 
@@ -36,9 +39,22 @@ IsTreePlacement e es p = IsPlacement (sized e es (tree_shapes e es)) es (header_
 abbrev pub TreeHasNoRoom : Encoding → List EntryValue → Type 0
 TreeHasNoRoom e es = HasNoRoom (sized e es (tree_shapes e es)) es (header_size e) (preorder es)
 
--- a unit whose root names its line program, where that is in use, and has its base types first
+-- there is a range list
+abbrev pub is_some_list : List (List Range) → Bool
+is_some_list [] = false
+is_some_list (x ∷ xs) = true
+
+-- What the root of a unit names of its own parts of other sections: its line program, where that is in use, and in version 5
+-- its range lists. There are no location lists.
+abbrev pub parts_with : Bool → UnitValue → OwnParts
+parts_with line_program u = record {
+  line_program = line_program;
+  lists = if is_five u.encoding then Some (record { ranges = is_some_list u.ranges; locations = false }) else None;
+}
+
+-- a unit whose root names these parts, and has its base types first
 abbrev pub settled : UnitValue → UnitValue
-settled u = record u { entries = settled_entries (lines_in_use u) u.entries }
+settled u = record u { entries = settled_entries (parts_with (lines_in_use u) u) u.entries }
 
 -- as it is once it was written, with the places that it keeps
 abbrev pub marked_written : Option OffsetsValue → UnitValue → UnitValue

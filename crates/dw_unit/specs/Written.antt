@@ -5,7 +5,7 @@ use Rattle.dw_writer.specs.Meaning.{Meaning, Adds}
 use Rattle.dw_writer.specs.Drafts.{Info}
 use Rattle.dw_base.specs.declared.error.Error.{Error}
 use Rattle.dw_writer.specs.declared.sections.Sections.{Sections}
-use Rattle.dw_unit.specs.Elsewhere.{Elsewhere, unit_tables, past_lines, AppendsLine}
+use Rattle.dw_unit.specs.Elsewhere.{Elsewhere, unit_tables, past_parts, AppendsLine, AppendsRanges}
 use Rattle.dw_unit.specs.Built.{Numbered, Starts, table_size, settled_at}
 use Rattle.dw_unit.specs.Pending.{Kept, units_draft, past_kept, tables_of, info_at, kept_offsets, KeepPlaces, Stands, PendsUnit, Pending, AddsUnits}
 use Rattle.dw_unit.specs.Places.{offsets_in}
@@ -17,7 +17,7 @@ use Rattle.dw_unit.specs.Whole.{settled, marked_written, IsRefused}
 abbrev pub to_write_from : ℕ → Elsewhere → List UnitValue → List Numbered
 to_write_from n t [] = []
 to_write_from n t (u ∷ us) =
-    if u.is_written then to_write_from (suc n) t us else settled_at n t u ∷ to_write_from (suc n) (past_lines t u) us
+    if u.is_written then to_write_from (suc n) t us else settled_at n t u ∷ to_write_from (suc n) (past_parts t u) us
 
 abbrev pub to_write : Elsewhere → List UnitValue → List Numbered
 to_write t us = to_write_from 0 t us
@@ -57,12 +57,19 @@ abbrev pub WritesIfNew : {W : Type 0} → (W → Meaning) → Sections W → Sec
 WritesIfNew meaning old new u v t =
     ((u.is_written ≡ true) × (v ≡ u) × (new ≡ old))
     ⊎ ((u.is_written ≡ false) × (v ≡ marked_written v.offsets (settled u)) × PendsUnit meaning old new (settled u) (unit_tables t u) v.offsets
-    × AppendsLine meaning old new t.line_strings t.strings u)
+    × AppendsLine meaning old new t.line_strings t.strings u × AppendsRanges meaning old new u)
 
--- all but the sections that units with their line programs are written into, and the fixups of one, stay
+-- all but the sections that units with their parts are written into, and the fixups of one, stay
 abbrev pub KeepsOtherSections : {W : Type 0} → Sections W → Sections W → Type 0
 KeepsOtherSections old new =
-    new ≡ record old { debug_abbrev = new.debug_abbrev; debug_line = new.debug_line; debug_info = new.debug_info; debug_info_fixups = new.debug_info_fixups }
+    new ≡ record old {
+      debug_abbrev = new.debug_abbrev;
+      debug_line = new.debug_line;
+      debug_ranges = new.debug_ranges;
+      debug_rnglists = new.debug_rnglists;
+      debug_info = new.debug_info;
+      debug_info_fixups = new.debug_info_fixups;
+    }
 
 -- a unit that was written before stays as it is
 abbrev pub IsPassedOver : UnitValue → UnitValue → Type 0
@@ -87,7 +94,7 @@ AreWritten at end t [] (v ∷ vs) = ⊥
 AreWritten at end t (u ∷ us) [] = ⊥
 AreWritten at end t (u ∷ us) (v ∷ vs) =
     (IsPassedOver u v × AreWritten at end t us vs)
-    ⊎ ((w : IsWrittenAt at t u v) × AreWritten (past_written at t u v w) end (past_lines t u) us vs)
+    ⊎ ((w : IsWrittenAt at t u v) × AreWritten (past_written at t u v w) end (past_parts t u) us vs)
 
 -- The units of a table after a refusal: those before some unit were written, it is as it was or settled, and those behind it
 -- are as they were. Where no unit was refused, a reference between them was.
@@ -97,5 +104,5 @@ AreStopped at t [] (v ∷ vs) = ⊥
 AreStopped at t (u ∷ us) [] = ⊥
 AreStopped at t (u ∷ us) (v ∷ vs) =
     (IsPassedOver u v × AreStopped at t us vs)
-    ⊎ (((w : IsWrittenAt at t u v) × AreStopped (past_written at t u v w) (past_lines t u) us vs)
+    ⊎ (((w : IsWrittenAt at t u v) × AreStopped (past_written at t u v w) (past_parts t u) us vs)
     ⊎ (IsRefused u v × (vs ≡ us)))

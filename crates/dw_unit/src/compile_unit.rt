@@ -14,7 +14,8 @@ ghost use Rattle.dw_unit.specs.Causes.{Because, Refused, Is, TreeFails};
 ghost use Rattle.dw_unit.specs.Coded.{code_at};
 ghost use Rattle.dw_unit.specs.Pending.{AreMarksRanged, PendsTree, kept_in, starts_of};
 ghost use Rattle.dw_unit.specs.Places.{placement_of, FitsWords};
-ghost use Rattle.dw_unit.specs.TargetsAt.{placement_at, found_tables, targets_at};
+ghost use Rattle.dw_unit.specs.Elsewhere.{tables_in};
+ghost use Rattle.dw_unit.specs.TargetsAt.{placement_at, targets_at};
 ghost use Rattle.dw_unit.specs.UnitFaults.{is_encodable, unit_fails};
 ghost use Rattle.dw_unit.specs.UnitText.{tree_draft, unit_draft, unit_length};
 ghost use Rattle.dw_unit.specs.Valid.{IsWritableTree};
@@ -26,8 +27,8 @@ use crate::codes::assign_codes;
 use crate::header::write_fields;
 use crate::layout::lay_out;
 use crate::places::Places;
-use crate::targets::Targets;
-use dw_base::{DebugLineOffset, Encoding, Result};
+use crate::targets::{OwnPlaces, Targets};
+use dw_base::{Encoding, Result};
 use dw_entries::{DebuggingInformationEntry, Item, flatten};
 use dw_strings::{LineStringTable, StringTable};
 use dw_writer::{FixupList, Sections, Writer};
@@ -81,7 +82,7 @@ pub(crate) fn write_tree<W: Writer>(
     alloc: Global,
     encoding: Encoding,
     entries: &[DebuggingInformationEntry],
-    line_program: Option<DebugLineOffset>,
+    own: &OwnPlaces,
     line_strings: &LineStringTable,
     strings: &StringTable,
     sections: &mut Sections<W>,
@@ -91,21 +92,21 @@ pub(crate) fn write_tree<W: Writer>(
     requires rooted { (entry_at entries.now 0).tag ≢ 0 }
     ensures unit { IfOk result
         (λ p. PendsTree W.meaning sections.old sections.new encoding entries.now
-        (found_tables line_program line_strings.now strings.now)
+        (tables_in own.now line_strings.now strings.now)
         (kept_in (starts_of W.meaning sections.old) p)) }
     ensures room { IfOk result
         (λ p. (W.meaning sections.old.debug_info.0).size + p.end < 2 ^ 64) }
     ensures bounded { IfOk result (λ p. (i : ℕ) → (placement_of p).place i ≤ p.end) }
     ensures writable { OnOk result
         (IsWritableTree (W.meaning sections.old.debug_info.0).is_plain encoding entries.now
-        (found_tables line_program line_strings.now strings.now)) }
+        (tables_in own.now line_strings.now strings.now)) }
     ensures place { OnOk result
         (IsTrue (offset_fits (W.meaning sections.old.debug_info.0).is_plain
         (word_of encoding.format) (W.meaning sections.old.debug_abbrev.0).size)) }
     ensures err { IfErr result
         (Because (SomeHasRisen W.meaning sections.old sections.new)
         (TreeFails encoding entries.now
-        (found_tables line_program line_strings.now strings.now)
+        (tables_in own.now line_strings.now strings.now)
         (W.meaning sections.old.debug_abbrev.0).size
         (W.meaning sections.old.debug_info.0).is_plain)) }
     ensures others { sections.new ≡ record sections.old {
@@ -123,7 +124,7 @@ pub(crate) fn write_tree<W: Writer>(
     places.check_length(encoding.format)?;
     let targets = Targets {
         places: &places,
-        line_program,
+        own,
         line_strings,
         strings,
     };

@@ -22,6 +22,7 @@ pub use dw_entries::{
 };
 pub use dw_expr::{Expression, Operation};
 pub use dw_line::{FileInfo, LineProgram, LineRow, LineString};
+pub use dw_lists::{Range, RangeList, RangeListTable};
 pub use entry_mut::EntryMut;
 pub use offsets::UnitOffsets;
 pub use unit::Unit;

@@ -1,47 +1,89 @@
 //! What the operands of a unit lead to.
 
-ghost use Rattle.std.specs.Prelude.{◌≡◌};
-ghost use Rattle.std.specs.Option.{option_map};
-ghost use Rattle.dw_unit.specs.Elsewhere.{string_there, strings_in, own_in};
+ghost use Rattle.std.specs.Prelude.{◌≡◌, slice_get};
+ghost use Rattle.std.specs.Option.{is_some};
+ghost use Rattle.dw_unit.specs.Elsewhere.{string_there, own_in};
 
 use crate::places::Places;
-use dw_base::{DebugLineOffset, LineStringId, SectionId, StringId};
+use dw_base::{DebugLineOffset, LineStringId, RangeListId, SectionId, StringId};
+use dw_lists::RangeListOffsets;
 use dw_strings::{LineStringTable, StringTable};
+use std::marker::Model;
 
-/// Where what operands name has its place: entries in the unit, the unit's line program and strings
-/// in their sections.
+/// Where what a unit leaves in other sections stands: its line program, if it has one there, and
+/// its range lists.
+#[derive(Drop)]
+pub(crate) struct OwnPlaces {
+    pub(crate) line_program: Option<DebugLineOffset>,
+    pub(crate) ranges: RangeListOffsets,
+}
+
+impl Model for OwnPlaces {
+    ghost use Rattle.std.specs.Option.{option_map};
+    ghost use Rattle.dw_unit.specs.Elsewhere.{OwnPlaces as Stand};
+
+    ghost Value = { Stand };
+
+    ghost view = { λ own. record {
+      line_program = option_map (λ o. o.0) own.line_program;
+      ranges = own.ranges;
+    } };
+}
+
+impl OwnPlaces {
+    /// Tells that the unit's line program is in use.
+    pub(crate) fn has_line_program(&self) -> bool
+        ensures { result ≡ is_some self.now.line_program }
+    {
+        self.line_program.is_some()
+    }
+}
+
+/// Where what operands name has its place: entries in the unit, the unit's own parts of other
+/// sections, and strings in theirs.
 #[derive(Drop)]
 pub(crate) struct Targets<'a> {
     pub(crate) places: &'a Places,
-    pub(crate) line_program: Option<DebugLineOffset>,
+    pub(crate) own: &'a OwnPlaces,
     pub(crate) line_strings: &'a LineStringTable,
     pub(crate) strings: &'a StringTable,
 }
 
-/// The place in a section of what a table has under an index, if it has that.
-pub(crate) fn place_in_table(
-    section: SectionId,
-    index: usize,
-    line_strings: &LineStringTable,
-    strings: &StringTable,
-) -> Option<usize>
-    ensures { result ≡ strings_in line_strings.now strings.now section index }
+impl Targets<'_> {
+    ghost use Rattle.dw_unit.specs.TargetsAt.{tables_at};
+
+    /// The place in a section of what a table has under an index, if it has that.
+    pub(crate) fn place_in_table(&self, section: SectionId, index: usize) -> Option<usize>
+        ensures { result ≡ (tables_at self.now).part section index }
+    {
+        let own = self.own;
+        match section {
+            SectionId::DebugStr => string_place(self.strings, index),
+            SectionId::DebugLineStr => line_string_place(self.line_strings, index),
+            SectionId::DebugRanges => range_list_place(&own.ranges, index),
+            SectionId::DebugRngLists => range_list_place(&own.ranges, index),
+            _ => None,
+        }
+    }
+}
+
+/// Where the unit's own part of a section begins, if it has one: its line program, or the first
+/// offset entry of its range lists.
+pub(crate) fn own_place(section: SectionId, own: &OwnPlaces) -> Option<usize>
+    ensures { result ≡ own_in own.now section }
 {
     match section {
-        SectionId::DebugStr => string_place(strings, index),
-        SectionId::DebugLineStr => line_string_place(line_strings, index),
+        SectionId::DebugLine => Some(own.line_program?.0),
+        SectionId::DebugRngLists => own.ranges.base(),
         _ => None,
     }
 }
 
-/// Where the unit's own part of a section begins, if it has one.
-pub(crate) fn own_place(section: SectionId, line_program: Option<DebugLineOffset>) -> Option<usize>
-    ensures { result ≡ own_in (option_map (λ o. o.0) line_program) section }
+/// Where a range list of the unit begins in the section of its version.
+fn range_list_place(ranges: &RangeListOffsets, index: usize) -> Option<usize>
+    ensures { result ≡ slice_get ranges.now.places index }
 {
-    match section {
-        SectionId::DebugLine => Some(line_program?.0),
-        _ => None,
-    }
+    Some(ranges.get(RangeListId::new(index))?.0)
 }
 
 /// Where a string begins in `.debug_str`.

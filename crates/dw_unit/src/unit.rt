@@ -11,19 +11,24 @@ use crate::compile_unit::write_tree;
 use crate::entry_mut::EntryMut;
 use crate::header::check_encoding;
 use crate::offsets::UnitOffsets;
-use dw_base::{DebugLineOffset, DwTag, Encoding, Error, Format, Result, UnitEntryId};
-use dw_entries::{DebuggingInformationEntry, Entries};
+use crate::targets::OwnPlaces;
+use dw_base::constants::DW_AT_low_pc;
+use dw_base::{Address, DebugLineOffset, DwTag, Encoding, Error, Format, Result, UnitEntryId};
+use dw_entries::{AttributeValue, DebuggingInformationEntry, Entries, OwnLists, OwnParts};
 use dw_line::LineProgram;
+use dw_lists::{RangeListOffsets, RangeListTable};
 use dw_strings::{LineStringTable, StringTable};
 use dw_writer::{Sections, Writer};
 use std::alloc::Global;
 use std::marker::Model;
 
-/// A unit of `.debug_info`: an encoding, a line program, and entries that ids name.
+/// A unit of `.debug_info`: an encoding, a line program, range lists, and entries that ids name.
 #[derive(Drop)]
 pub struct Unit {
     /// The unit's line program.
     pub line_program: LineProgram,
+    /// The unit's range lists, which attributes name by their ids.
+    pub ranges: RangeListTable,
     encoding: Encoding,
     pub(crate) entries: Entries,
     is_written: bool,
@@ -43,6 +48,7 @@ impl Model for Unit {
     ghost view = { λ u. record {
       encoding = u.encoding;
       line_program = u.line_program;
+      ranges = u.ranges;
       entries = u.entries.entries;
       reserved = u.entries.reserved;
       is_written = u.is_written;
@@ -61,6 +67,7 @@ impl Unit {
     {
         Ok(Unit {
             line_program,
+            ranges: RangeListTable::new(alloc),
             encoding,
             entries: Entries::new(alloc)?,
             is_written: false,
@@ -232,17 +239,36 @@ impl Unit {
 
 impl Unit {
     ghost use Rattle.dw_entries.specs.Settled.{settled_entries};
+    ghost use Rattle.dw_unit.specs.Whole.{parts_with};
 
-    /// Names the line program in the root's `DW_AT_stmt_list` where there is one in use, else
-    /// deletes that, and moves the root's base types before its other children.
+    /// Names the line program in the root's `DW_AT_stmt_list` where there is one in use, and in
+    /// version 5 the range lists in `DW_AT_rnglists_base` where there are some, deletes these
+    /// attributes where there is none, and moves the root's base types before its other children.
     fn settle(&mut self, has_line_program: bool) -> Result<()>
         ensures ok { OnOk result
-            (self.new ≡ record self.old
-            { entries = settled_entries has_line_program self.old.entries }) }
+            (self.new ≡ record self.old {
+              entries = settled_entries (parts_with has_line_program self.old)
+                  self.old.entries;
+            }) }
         ensures err { IfErr result (λ e. e ≡ NoMemory) }
         ensures kept { OnErr result (self.new ≡ self.old) }
     {
-        self.entries.settle(has_line_program)
+        let parts = self.own_parts(has_line_program);
+        self.entries.settle(parts)
+    }
+
+    /// What the root names of the unit's own parts of other sections.
+    fn own_parts(&self, has_line_program: bool) -> OwnParts
+        ensures { result ≡ parts_with has_line_program self.now }
+    {
+        let lists = OwnLists {
+            ranges: self.ranges.count() > 0,
+            locations: false,
+        };
+        OwnParts {
+            line_program: has_line_program,
+            lists: (self.encoding.version == 5).then_some(lists),
+        }
     }
 }
 
@@ -253,24 +279,34 @@ impl Unit {
     ghost use Rattle.dw_unit.specs.Whole.{settled, marked_written};
     ghost use Rattle.dw_unit.specs.Valid.{IsWritableAt};
     ghost use Rattle.dw_unit.specs.Pending.{PendsUnit, ExtendsPending};
-    ghost use Rattle.dw_unit.specs.Elsewhere.{elsewhere, unit_tables, lines_in_use, line_place, line_fails, AppendsLine, LinesAreSound};
+    ghost use Rattle.dw_lists.specs.Tables.{ranges_of};
+    ghost use Rattle.dw_line.specs.Parts.{NoCause};
+    ghost use Rattle.dw_unit.specs.Elsewhere.{elsewhere, unit_tables, own_places, parts_fail, AppendsLine, AppendsRanges, PartsAreSound, KeepsAllButParts};
+    ghost use Rattle.dw_unit.specs.Elsewhere.{lines_in_use, line_place, line_fails, LinesAreSound};
+    ghost use Rattle.dw_unit.specs.Elsewhere.{has_base_address, range_places_at, ranges_fail_in};
     ghost use Rattle.dw_unit.specs.Written.{KeepsOtherSections};
     ghost use Rattle.dw_unit.specs.Causes.{Because, Is, UnitRefused};
 
     /// Writes the unit at the end of `.debug_info`, its abbreviation table at the end of
-    /// `.debug_abbrev` (DWARF 5, 7.5.1 to 7.5.3) and its line program, where it is in use, at the
-    /// end of `.debug_line` (6.2), and marks it written; from then on it keeps where its entries
+    /// `.debug_abbrev` (DWARF 5, 7.5.1 to 7.5.3), its line program, where it is in use, at the end
+    /// of `.debug_line` (6.2) and its range lists at the end of `.debug_rnglists` (7.28) or up to
+    /// version 4 of `.debug_ranges`, and marks it written; from then on it keeps where its entries
     /// stand. A line program is in use where a sequence was begun in it or some entry names one of
     /// its files: then the root names its place in `DW_AT_stmt_list`, and else has no such
-    /// attribute. The root's base types move before its other children. References to entries by
-    /// their place in `.debug_info` are left open, with a fixup each in `debug_info_fixups`, until
-    /// `UnitTable::write` fills them in.
+    /// attribute. In version 5 the root names the first offset entry of the range lists in
+    /// `DW_AT_rnglists_base` where there are some, and else has no such attribute. The root's base
+    /// types move before its other children. References to entries by their place in `.debug_info`
+    /// are left open, with a fixup each in `debug_info_fixups`, until `UnitTable::write` fills them
+    /// in.
     ///
     /// Refused as `UnsupportedVersion` or `UnsupportedWordSize` where the version isn't 2 to 5 or
-    /// the address size isn't 1, 2, 4 or 8, for what `LineProgram::write` refuses, as
-    /// `InvalidAttributeValue` where a string has a zero byte or a value names a line program that
-    /// isn't in use, as `InvalidReference` where a reference within the unit names an entry outside
-    /// its tree, one by its place in `.debug_info` names a symbol, or a string isn't in its table,
+    /// the address size isn't 1, 2, 4 or 8, for what `LineProgram::write` or
+    /// `RangeListTable::write` refuse, where the base address of the lists is that of the root's
+    /// `DW_AT_low_pc`, unless it is a constant 0, as `InvalidAttributeValue` where a string has a
+    /// zero byte or a value names a line program that isn't in use or the base of lists that there
+    /// are none of, as `InvalidReference` where a reference within the unit names an entry outside
+    /// its tree, one by its place in `.debug_info` names a symbol, or a string or a range list
+    /// isn't in its table,
     /// as `UnsetBranchTarget` where a branch of an expression has no target, as
     /// `UnsupportedExpressionForwardReference` where an expression spells in LEB128 the place of an
     /// entry that comes later in the tree, or any place in the unit of one outside it, as
@@ -295,10 +331,13 @@ impl Unit {
             (ExtendsPending W.meaning sections.old sections.new (settled self.old)
             (unit_tables (elsewhere W.meaning sections.old line_strings.now strings.now) self.old)
             self.new.offsets) }
-        // Its line program, where it is in use, stands behind what `.debug_line` held.
+        // Its line program, where it is in use, stands behind what `.debug_line` held, and its range
+        // lists behind what the section of its version held.
         ensures lines { OnOk result
             (AppendsLine W.meaning sections.old sections.new line_strings.now strings.now
             self.old) }
+        ensures ranges { OnOk result
+            (AppendsRanges W.meaning sections.old sections.new self.old) }
         ensures writable { OnOk result
             (IsWritableAt (W.meaning sections.old.debug_info.0).is_plain
             (elsewhere W.meaning sections.old line_strings.now strings.now)
@@ -346,6 +385,8 @@ impl Unit {
         ensures lines { OnOk result
             (AppendsLine W.meaning sections.old sections.new line_strings.now strings.now
             self.old) }
+        ensures ranges { OnOk result
+            (AppendsRanges W.meaning sections.old sections.new self.old) }
         ensures alone { OnOk result (IsFalse (has_info_reference self.old)) }
         ensures closed { OnOk result (sections.new.debug_info_fixups ≡ []) }
         ensures writable { OnOk result
@@ -387,6 +428,8 @@ impl Unit {
         ensures lines { OnOk result
             (AppendsLine W.meaning sections.old sections.new line_strings.now strings.now
             self.old) }
+        ensures ranges { OnOk result
+            (AppendsRanges W.meaning sections.old sections.new self.old) }
         ensures writable { OnOk result
             (IsWritableAt (W.meaning sections.old.debug_info.0).is_plain
             (elsewhere W.meaning sections.old line_strings.now strings.now)
@@ -402,20 +445,97 @@ impl Unit {
         ensures faults { fault_sum W.meaning sections.old ≤ fault_sum W.meaning sections.new }
     {
         check_encoding(self.encoding)?;
-        let line_program = self.write_line_program(sections, line_strings, strings)?;
-        self.settle(line_program.is_some())?;
+        let own = self.write_parts(sections, line_strings, strings)?;
+        self.settle(own.has_line_program())?;
         let start = sections.debug_info.0.len();
         let alloc = self.entries.allocator();
         let places = write_tree(
             alloc,
             self.encoding,
             self.entries.as_slice(),
-            line_program,
+            &own,
             line_strings,
             strings,
             sections,
         )?;
         Ok(UnitOffsets::of(start, places))
+    }
+
+    /// Writes what the unit leaves in other sections, its line program, where it is in use, and its
+    /// range lists, and answers where they stand.
+    fn write_parts<W: Writer>(
+        &self,
+        sections: &mut Sections<W>,
+        line_strings: &LineStringTable,
+        strings: &StringTable,
+    ) -> Result<OwnPlaces>
+        ensures lines { OnOk result
+            (AppendsLine W.meaning sections.old sections.new line_strings.now strings.now
+            self.now) }
+        ensures ranges { OnOk result
+            (AppendsRanges W.meaning sections.old sections.new self.now) }
+        ensures places { IfOk result
+            (λ p. p
+            ≡ own_places (elsewhere W.meaning sections.old line_strings.now strings.now)
+            self.now) }
+        ensures used { IfOk result (λ p. is_some p.line_program ≡ lines_in_use self.now) }
+        ensures sound { OnOk result
+            (PartsAreSound (elsewhere W.meaning sections.old line_strings.now strings.now)
+            self.now) }
+
+        ensures err { IfErr result
+            (Because (SomeHasRisen W.meaning sections.old sections.new)
+            (Is (parts_fail (elsewhere W.meaning sections.old line_strings.now strings.now)
+            self.now))) }
+
+        ensures others { KeepsAllButParts sections.old sections.new }
+        ensures faults { fault_sum W.meaning sections.old ≤ fault_sum W.meaning sections.new }
+    {
+        let line_program = self.write_line_program(sections, line_strings, strings)?;
+        let ranges = self.write_ranges(sections)?;
+        Ok(OwnPlaces {
+            line_program,
+            ranges,
+        })
+    }
+
+    /// Tells that the root's address is a base from which offset pairs count: any but a constant 0
+    /// (DWARF 4, 2.17.3).
+    fn has_base_address(&self) -> bool
+        ensures { result ≡ has_base_address self.now.entries }
+    {
+        let Some(root) = self.entries.as_slice().first() else {
+            return false;
+        };
+        match root.get(DW_AT_low_pc) {
+            None => false,
+            Some(AttributeValue::Address(Address::Constant(address))) => *address != 0,
+            Some(_) => true,
+        }
+    }
+
+    /// Writes the range lists to the section of the unit's version, and answers where they stand.
+    fn write_ranges<W: Writer>(&self, sections: &mut Sections<W>) -> Result<RangeListOffsets>
+        ensures ok { OnOk result (AppendsRanges W.meaning sections.old sections.new self.now) }
+        ensures places { IfOk result
+            (λ p. p
+            ≡ range_places_at (ranges_of W.meaning self.now.encoding sections.old).size
+            self.now) }
+        ensures sound { OnOk result
+            (NoCause (ranges_fail_in
+            (ranges_of W.meaning self.now.encoding sections.old).is_plain self.now)) }
+        ensures err { IfErr result
+            (Because (SomeHasRisen W.meaning sections.old sections.new)
+            (Is (ranges_fail_in
+            (ranges_of W.meaning self.now.encoding sections.old).is_plain self.now))) }
+        ensures others { sections.new ≡ record sections.old {
+          debug_ranges = sections.new.debug_ranges;
+          debug_rnglists = sections.new.debug_rnglists;
+        } }
+        ensures faults { fault_sum W.meaning sections.old ≤ fault_sum W.meaning sections.new }
+    {
+        self.ranges
+            .write(sections, self.encoding, self.has_base_address())
     }
 
     /// Tells that the line program is written with the unit: there is one, and a sequence was begun
@@ -488,13 +608,14 @@ impl Unit {
         self.is_written = true;
     }
 
-    /// Gives the line program and the entries up, and the memory that they take. The places of the
-    /// entries stay.
+    /// Gives the line program, the range lists and the entries up, and the memory that they take.
+    /// The places of the entries stay.
     pub fn free(&mut self)
         requires { self.old.is_written ≡ true }
         ensures { self.new ≡ freed self.old }
     {
         self.line_program = LineProgram::none();
+        self.ranges = RangeListTable::new(self.entries.allocator());
         self.entries.free();
         self.is_freed = true;
     }

@@ -6,7 +6,7 @@ ghost use Rattle.dw_base.specs.declared.error.Error.TheVariants.{NoMemory};
 ghost use Rattle.dw_writer.specs.Causes.{IsNotMemory, NotAtAll};
 ghost use Rattle.dw_writer.specs.Sections.{fault_sum, SomeHasRisen, NoFixups};
 ghost use Rattle.dw_unit.specs.UnitValue.{UnitValue};
-ghost use Rattle.dw_unit.specs.Elsewhere.{elsewhere, AppendsLines};
+ghost use Rattle.dw_unit.specs.Elsewhere.{elsewhere, AppendsLines, AppendsAllRanges};
 ghost use Rattle.dw_unit.specs.Valid.{IsWritableAt, AreWritable, CanFollow};
 ghost use Rattle.dw_unit.specs.Pending.{starts_of};
 ghost use Rattle.dw_unit.specs.Whole.{IsRefused};
@@ -105,8 +105,9 @@ impl UnitTable {
         UnitIter::new(self.units.as_slice())
     }
 
-    /// Writes the units that aren't written yet, each behind what `.debug_info`, `.debug_abbrev`
-    /// and for its line program `.debug_line` hold, marks them written, and fills in the references
+    /// Writes the units that aren't written yet, each behind what `.debug_info`, `.debug_abbrev`,
+    /// for its line program `.debug_line` and for its range lists `.debug_rnglists` or
+    /// `.debug_ranges` hold, marks them written, and fills in the references
     /// across units that are open: those of these units, and those that `Unit::write` left in
     /// `debug_info_fixups`. After Ok the three lists of fixups are empty.
     ///
@@ -133,10 +134,13 @@ impl UnitTable {
         ensures marked { OnOk result
             (AreWritten (starts_of W.meaning sections.old) (starts_of W.meaning sections.new)
             (elsewhere W.meaning sections.old line_strings.now strings.now) self.old self.new) }
-        // The line programs in use stand behind what `.debug_line` held, in the order of the units.
+        // The line programs in use stand behind what `.debug_line` held, in the order of the units,
+        // and so do their range lists in both sections.
         ensures lines { OnOk result
             (AppendsLines W.meaning sections.old sections.new line_strings.now strings.now
             self.old) }
+        ensures ranges { OnOk result
+            (AppendsAllRanges W.meaning sections.old sections.new self.old) }
         ensures emptied { OnOk result (NoFixups sections.new) }
 
         ensures err { IfErr result
@@ -159,6 +163,8 @@ impl UnitTable {
             ≡ record sections.old {
               debug_abbrev = sections.new.debug_abbrev;
               debug_line = sections.new.debug_line;
+              debug_ranges = sections.new.debug_ranges;
+              debug_rnglists = sections.new.debug_rnglists;
               debug_info = sections.new.debug_info;
               debug_info_fixups = sections.new.debug_info_fixups;
               debug_loc_fixups = sections.new.debug_loc_fixups;
@@ -209,6 +215,8 @@ impl UnitTable {
         ensures lines { OnOk result
             (AppendsLines W.meaning sections.old sections.new line_strings.now strings.now
             self.old) }
+        ensures ranges { OnOk result
+            (AppendsAllRanges W.meaning sections.old sections.new self.old) }
         ensures others { KeepsOtherSections sections.old sections.new }
         ensures faults { fault_sum W.meaning sections.old ≤ fault_sum W.meaning sections.new }
     {

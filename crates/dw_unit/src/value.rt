@@ -17,7 +17,7 @@ ghost use Rattle.dw_unit.specs.Causes.{Refused, Is};
 ghost use Rattle.dw_unit.specs.Places.{FitsWords};
 ghost use Rattle.dw_unit.specs.TargetsAt.{placement_at, tables_at, targets_at};
 
-use crate::targets::{Targets, own_place, place_in_table};
+use crate::targets::{Targets, own_place};
 use dw_base::{Address, DebugInfoRef, Encoding, Error, Format, Result, SectionId, UnitEntryId};
 use dw_entries::{AttributeValue, Content, info_place_size};
 use dw_expr::Expression;
@@ -62,6 +62,7 @@ pub(crate) fn write_value<W: Writer>(
         Content::InTable { section, index } => {
             write_place_in_table(encoding.format, targets, section, index, w)
         }
+        Content::TableIndex { section, index } => write_table_index(targets, section, index, w),
         Content::OwnPart(section) => write_own_place(encoding.format, targets, section, w),
         Content::File(number) => write_file(number, w),
         Content::EntryPlace(entry) => write_reference(encoding.format, targets, entry, w),
@@ -188,10 +189,32 @@ fn write_place_in_table<W: Writer>(
         ((tables_at targets.now).part section index)))) }
     ensures same { IsSameWriter (W.meaning w.old) (W.meaning w.new) }
 {
-    let Some(place) = place_in_table(section, index, targets.line_strings, targets.strings) else {
+    let Some(place) = targets.place_in_table(section, index) else {
         return Err(Error::InvalidReference);
     };
     w.write_offset(place, section, format.word_size())
+}
+
+/// Writes the index of what a table has under it, in LEB128.
+fn write_table_index<W: Writer>(
+    targets: &Targets<'_>,
+    section: SectionId,
+    index: usize,
+    w: &mut W,
+) -> Result<()>
+    ensures ok { OnOk result (Adds (W.meaning w.old) (W.meaning w.new) (uleb index)) }
+    ensures sound { OnOk result
+        ((e : AnError) →
+        IsFalse (reference_fails ((tables_at targets.now).part section index) e)) }
+    ensures err { IfErr result
+        (Refused (W.meaning w.old) (W.meaning w.new)
+        (Is (reference_fails ((tables_at targets.now).part section index)))) }
+    ensures same { IsSameWriter (W.meaning w.old) (W.meaning w.new) }
+{
+    if targets.place_in_table(section, index).is_none() {
+        return Err(Error::InvalidReference);
+    }
+    w.write_uleb128(index as u64)
 }
 
 /// Writes the place where the unit's own part of a section begins.
@@ -214,7 +237,7 @@ fn write_own_place<W: Writer>(
         ((tables_at targets.now).own section)))) }
     ensures same { IsSameWriter (W.meaning w.old) (W.meaning w.new) }
 {
-    let Some(place) = own_place(section, targets.line_program) else {
+    let Some(place) = own_place(section, targets.own) else {
         return Err(Error::InvalidAttributeValue);
     };
     w.write_offset(place, section, format.word_size())

@@ -9,7 +9,7 @@ use Rattle.dw_entries.specs.Tree.{marks, mark_of, AreTagged}
 use Rattle.dw_entries.proofs.Tagged.{preorder_tagged}
 use Rattle.dw_unit.specs.Causes.{Is, TreeFails}
 use Rattle.dw_unit.specs.Places.{placement_of, targets_of}
-use Rattle.dw_unit.specs.TargetsAt.{found_tables}
+use Rattle.dw_unit.specs.Elsewhere.{tables_in}
 use Rattle.dw_unit.specs.UnitFaults.{unit_fails}
 use Rattle.dw_unit.proofs.Faults.{because-map, bytes_because}
 use Rattle.dw_unit.proofs.PlaceSteps.{tree_distinct, tree_closes, tree_codes, tree_end, tree_placed, tree_no_room, places_fit, too_long}
@@ -49,7 +49,7 @@ returns-in_err-places-clause-err g c =
     let tree = ap marks c.as_slice-items.ensures.value ∙ c.in_ok-tree.ensures.items in
     let failed = err_from_is_err_and c.from_residual-in_err-places.result c.from_residual-in_err-places.ensures.1 in
     rw (failed.1, failed.2)
-    (room_refused (SomeHasRisen meaning old old) e es (found_tables c.args.line_program c.args.line_strings.now c.args.strings.now) (meaning old.debug_abbrev.0).size (meaning old.debug_info.0).is_plain _ (tree_no_room e es ms tree) ms tree c.in_err-places.field-0.0 c.in_err-places.ensures.err)
+    (room_refused (SomeHasRisen meaning old old) e es (tables_in c.args.own.now c.args.line_strings.now c.args.strings.now) (meaning old.debug_abbrev.0).size (meaning old.debug_info.0).is_plain _ (tree_no_room e es ms tree) ms tree c.in_err-places.field-0.0 c.in_err-places.ensures.err)
 
 pub returns-in_err-check_length-clause-err : goal.returns-in_err-check_length-clause-err
 returns-in_err-check_length-clause-err g c =
@@ -65,7 +65,7 @@ returns-in_err-check_length-clause-err g c =
     let table = (meaning old.debug_abbrev.0).size in
     let plain = (meaning old.debug_info.0).is_plain in
     let h = c.in_err-check_length.ensures.err in
-    let fails = too_long_faulty e es (found_tables c.args.line_program c.args.line_strings.now c.args.strings.now) p placed table plain (too_long e es p.place c.in_ok-places.places.end end h.1 h.2) in
+    let fails = too_long_faulty e es (tables_in c.args.own.now c.args.line_strings.now c.args.strings.now) p placed table plain (too_long e es p.place c.in_ok-places.places.end end h.1 h.2) in
     let failed = err_from_is_err_and c.from_residual-in_err-check_length.result c.from_residual-in_err-check_length.ensures.1 in
     rw (failed.1, failed.2, h.0) fails
 
@@ -76,7 +76,7 @@ returns-in_err-write-clause-err g c =
     let old = c.args.sections.now in
     let new = record old { debug_abbrev = c.write.new.w } in
     rw (failed.1, failed.2)
-    (bytes_because (TreeFails c.args.encoding c.args.entries.now (found_tables c.args.line_program c.args.line_strings.now c.args.strings.now) (meaning old.debug_abbrev.0).size (meaning old.debug_info.0).is_plain) (meaning old.debug_abbrev.0) (meaning new.debug_abbrev.0) (SomeHasRisen-abbrev meaning old new) c.in_err-write.field-0.0 c.in_err-write.ensures.err)
+    (bytes_because (TreeFails c.args.encoding c.args.entries.now (tables_in c.args.own.now c.args.line_strings.now c.args.strings.now) (meaning old.debug_abbrev.0).size (meaning old.debug_info.0).is_plain) (meaning old.debug_abbrev.0) (meaning new.debug_abbrev.0) (SomeHasRisen-abbrev meaning old new) c.in_err-write.field-0.0 c.in_err-write.ensures.err)
 
 pub returns-in_err-write_compile_unit-clause-err : goal.returns-in_err-write_compile_unit-clause-err
 returns-in_err-write_compile_unit-clause-err g c =
@@ -93,7 +93,7 @@ returns-in_err-write_compile_unit-clause-err g c =
     let plain = (meaning old.debug_info.0).is_plain in
     let failed = err_from_is_err_and c.from_residual-in_err-write_compile_unit.result c.from_residual-in_err-write_compile_unit.ensures.1 in
     rw (failed.1, failed.2)
-    (because-map {p = Is (unit_fails e es table (targets_of (found_tables c.args.line_program c.args.line_strings.now c.args.strings.now) p) plain)} {q = TreeFails e es (found_tables c.args.line_program c.args.line_strings.now c.args.strings.now) table plain} (SomeHasRisen-info meaning old new) (faulty e es (found_tables c.args.line_program c.args.line_strings.now c.args.strings.now) p placed table plain) c.in_err-write_compile_unit.field-0.0 err)
+    (because-map {p = Is (unit_fails e es table (targets_of (tables_in c.args.own.now c.args.line_strings.now c.args.strings.now) p) plain)} {q = TreeFails e es (tables_in c.args.own.now c.args.line_strings.now c.args.strings.now) table plain} (SomeHasRisen-info meaning old new) (faulty e es (tables_in c.args.own.now c.args.line_strings.now c.args.strings.now) p placed table plain) c.in_err-write_compile_unit.field-0.0 err)
 
 pub returns-clause-writable : goal.returns-clause-writable
 returns-clause-writable g c =
@@ -107,7 +107,7 @@ returns-clause-writable g c =
     let placed = tree_placed e es p ms tree c.in_ok-places.ensures.placed in
     let end = tree_end e es ms p.place c.in_ok-places.places.end tree c.in_ok-places.ensures.end in
     let sound = rw c.len-place.ensures at c.in_ok-write_compile_unit.ensures.sound in
-    tree_writable e es (found_tables c.args.line_program c.args.line_strings.now c.args.strings.now) p placed (meaning old.debug_abbrev.0).size (meaning old.debug_info.0).is_plain c.requires.encodable (tree_early e es ms tree c.in_ok-places.ensures.early) c.in_ok-places.places.end end (omega arith) c.in_ok-write_compile_unit.ensures.fits sound
+    tree_writable e es (tables_in c.args.own.now c.args.line_strings.now c.args.strings.now) p placed (meaning old.debug_abbrev.0).size (meaning old.debug_info.0).is_plain c.requires.encodable (tree_early e es ms tree c.in_ok-places.ensures.early) c.in_ok-places.places.end end (omega arith) c.in_ok-write_compile_unit.ensures.fits sound
 
 pub returns-clause-place : goal.returns-clause-place
 returns-clause-place g c =
@@ -117,7 +117,7 @@ returns-clause-place g c =
     let old = c.args.sections.now in
     let p = placement_of c.in_ok-places.places in
     let sound = rw c.len-place.ensures at c.in_ok-write_compile_unit.ensures.sound in
-    place_fits e es (meaning old.debug_abbrev.0).size (targets_of (found_tables c.args.line_program c.args.line_strings.now c.args.strings.now) p) (meaning old.debug_info.0).is_plain sound
+    place_fits e es (meaning old.debug_abbrev.0).size (targets_of (tables_in c.args.own.now c.args.line_strings.now c.args.strings.now) p) (meaning old.debug_info.0).is_plain sound
 
 pub returns-clause-room : goal.returns-clause-room
 returns-clause-room g c =
@@ -127,7 +127,7 @@ returns-clause-room g c =
     let ms = marks c.as_slice-items.result.now in
     let tree = ap marks c.as_slice-items.ensures.value ∙ c.in_ok-tree.ensures.items in
     let end = tree_end e es ms p.place c.in_ok-places.places.end tree c.in_ok-places.ensures.end in
-    let long = unit_long e es (found_tables c.args.line_program c.args.line_strings.now c.args.strings.now) p c.len-place.result in
+    let long = unit_long e es (tables_in c.args.own.now c.args.line_strings.now c.args.strings.now) p c.len-place.result in
     omega (arith, c.in_ok-write_compile_unit.ensures.ok.text.size, c.in_ok-write_compile_unit.ensures.room, end, long)
 
 pub returns-clause-unit : goal.returns-clause-unit
@@ -161,5 +161,5 @@ returns-clause-unit g c =
       };
       unit = unit;
       table = table_added e es ms shapes tree c.in_ok-assigned.ensures.table c.in_ok-write.ensures.ok;
-      there = λ plain. unit_there e es (found_tables c.args.line_program c.args.line_strings.now c.args.strings.now) table p fit c.requires.encodable (subst (λ b. (err : Error) → IsFalse (unit_fails e es table (targets_of (found_tables c.args.line_program c.args.line_strings.now c.args.strings.now) p) b err)) plain sound);
+      there = λ plain. unit_there e es (tables_in c.args.own.now c.args.line_strings.now c.args.strings.now) table p fit c.requires.encodable (subst (λ b. (err : Error) → IsFalse (unit_fails e es table (targets_of (tables_in c.args.own.now c.args.line_strings.now c.args.strings.now) p) b err)) plain sound);
     }

@@ -11,7 +11,7 @@ use Rattle.dw_entries.specs.ContentView.{content_in, number_or_past}
 use Rattle.dw_entries.proofs.ContentLaws.{plain_width}
 use Rattle.dw_entries.proofs.ValueTexts.{info_width}
 use Rattle.dw_unit.specs.TargetsAt.{placement_at, targets_at}
-use Rattle.dw_unit.proofs.Drafted.{Drafts-bytes, Drafts-number, nothing_is, plain_is, wide_is, leb_is, signed_leb_is, block_is, expression_is, expression_short, closed_is, target_is, offset_is, in_table_is, own_part_is, file_is, entry_place_is, info_is}
+use Rattle.dw_unit.proofs.Drafted.{Drafts-bytes, Drafts-number, nothing_is, plain_is, wide_is, leb_is, signed_leb_is, block_is, expression_is, expression_short, closed_is, target_is, offset_is, in_table_is, table_index_is, own_part_is, file_is, entry_place_is, info_is}
 use Rattle.dw_unit.proofs.Faults.{OnOk-both, fitting_number}
 use Rattle.dw_unit.proofs.PlaceLaws.{found_some}
 use Rattle.dw_unit.proofs.value.write_value.Goals as goal
@@ -100,6 +100,12 @@ returns-in-InTable-clause-ok g c =
     let is = sym c.content.ensures ∙ ap content_in c.in-InTable.is in
     OnOk-map c.write_place_in_table.result c.write_place_in_table.ensures.ok
     (λ p. Drafts-is (Drafts-whole c.args.fixups.now p) (in_table_is c.args.encoding (targets_at c.args.targets.now) c.args.value.now c.in-InTable.section c.in-InTable.index is))
+
+pub returns-in-TableIndex-clause-ok : goal.returns-in-TableIndex-clause-ok
+returns-in-TableIndex-clause-ok g c =
+    let is = sym c.content.ensures ∙ ap content_in c.in-TableIndex.is in
+    OnOk-both c.write_table_index.result c.write_table_index.ensures.ok c.write_table_index.ensures.sound
+    (λ p h. Drafts-is (Drafts-bytes c.args.fixups.now p) (table_index_is c.args.encoding (targets_at c.args.targets.now) c.args.value.now c.in-TableIndex.section c.in-TableIndex.index is (h errors.InvalidReference)))
 
 pub returns-in-OwnPart-clause-ok : goal.returns-in-OwnPart-clause-ok
 returns-in-OwnPart-clause-ok g c =

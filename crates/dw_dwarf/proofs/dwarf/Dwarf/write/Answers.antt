@@ -5,7 +5,7 @@ use Rattle.dw_writer.proofs.Outcomes.{OnOk-map, IfErr-map, OnErr-always}
 use Rattle.dw_line.specs.Parts.{NoCause}
 use Rattle.dw_unit.specs.Causes.{RefusesAny}
 use Rattle.dw_unit.proofs.Faults.{OnOk-both}
-use Rattle.dw_unit.specs.Elsewhere.{end_of}
+use Rattle.dw_unit.specs.Elsewhere.{ends_of}
 use Rattle.dw_unit.specs.Pending.{starts_of}
 use Rattle.dw_unit.specs.Written.{AreWritten}
 use Rattle.dw_unit.proofs.TableSteps.{stopped_after}
@@ -14,7 +14,7 @@ use Rattle.dw_dwarf.specs.Valid.{DwarfFails, extra_fails, found_in}
 use Rattle.dw_dwarf.proofs.Left.{dwarf_left}
 use Rattle.dw_dwarf.proofs.Held.{writes_whole, dwarf_held, dwarf_resolved}
 use Rattle.dw_dwarf.proofs.Complete.{whole_valid, whole_refused, dwarf_complete}
-use Rattle.dw_dwarf.proofs.RestSections.{completes_after, lines_after, strings_after, rest_because, rest_memory, refuses_any, others_after, fixups_after, starts_after}
+use Rattle.dw_dwarf.proofs.RestSections.{completes_after, lines_after, ranges_after, strings_after, rest_because, rest_memory, refuses_any, others_after, fixups_after, starts_after}
 use Rattle.dw_dwarf.proofs.dwarf.Dwarf.write.Goals as goal
 
 -- where the units are refused
@@ -58,7 +58,7 @@ returns-clause-built g c =
     OnOk-both c.write_rest.result programs c.write_rest.ensures.strings
     (λ lines strings empty unwritten.
     dwarf_held meaning old new d (writes_whole meaning old new d c.write.new.self empty.fixups.info unwritten any) g.met.W.Writer.plain_records_nothing empty unwritten
-    (lines_after meaning old mid new d c.in_ok-write.ensures.lines lines)
+    (lines_after meaning old mid new d c.in_ok-write.ensures.lines lines) (ranges_after meaning old mid new d.units same c.in_ok-write.ensures.ranges) c.in_ok-write.ensures.writable
     (strings_after meaning old mid new d.line_strings d.strings (ap (λ s. s.debug_line_str) others) (ap (λ s. s.debug_str) others) strings) (others_after meaning old mid new others same))
 
 pub returns-clause-resolves : goal.returns-clause-resolves
@@ -71,7 +71,8 @@ returns-clause-resolves g c =
     let any = completes_after meaning old mid new d.units c.write.new.self (found_in meaning old d) c.write_rest.ensures.others c.in_ok-write.ensures.completes in
     let programs = rw c.as_slice.ensures.value at c.write_rest.ensures.lines in
     OnOk-map c.write_rest.result programs
-    (λ lines empty unwritten. dwarf_resolved meaning old new d (writes_whole meaning old new d c.write.new.self empty.fixups.info unwritten any) empty unwritten (lines_after meaning old mid new d c.in_ok-write.ensures.lines lines))
+    (λ lines empty unwritten. dwarf_resolved meaning old new d (writes_whole meaning old new d c.write.new.self empty.fixups.info unwritten any) empty unwritten (lines_after meaning old mid new d c.in_ok-write.ensures.lines lines)
+    (ranges_after meaning old mid new d.units c.write_rest.ensures.others c.in_ok-write.ensures.ranges))
 
 pub returns-clause-left : goal.returns-clause-left
 returns-clause-left g c =
@@ -86,6 +87,7 @@ returns-clause-left g c =
     OnOk-both c.write_rest.result programs c.write_rest.ensures.strings
     (λ lines strings big empty unwritten.
     dwarf_left meaning big old new d empty (writes_whole meaning old new d c.write.new.self empty.fixups.info unwritten any) unwritten (lines_after meaning old mid new d c.in_ok-write.ensures.lines lines)
+    (ranges_after meaning old mid new d.units c.write_rest.ensures.others c.in_ok-write.ensures.ranges)
     (strings_after meaning old mid new d.line_strings d.strings (ap (λ s. s.debug_line_str) others) (ap (λ s. s.debug_str) others) strings))
 
 pub returns-clause-completes : goal.returns-clause-completes
@@ -101,6 +103,11 @@ returns-clause-lines g c =
     let programs = rw c.as_slice.ensures.value at c.write_rest.ensures.lines in
     OnOk-map c.write_rest.result programs
     (lines_after g.W.Writer.meaning c.args.sections.now c.write.new.sections c.write_rest.new.sections (dwarf_in c.args.self.now) c.in_ok-write.ensures.lines)
+
+pub returns-clause-ranges : goal.returns-clause-ranges
+returns-clause-ranges g c =
+    let ranges = ranges_after g.W.Writer.meaning c.args.sections.now c.write.new.sections c.write_rest.new.sections c.args.self.now.units c.write_rest.ensures.others c.in_ok-write.ensures.ranges in
+    OnOk-map c.write_rest.result c.write_rest.ensures.lines (λ lines. ranges)
 
 pub returns-clause-strings : goal.returns-clause-strings
 returns-clause-strings g c =
@@ -163,7 +170,7 @@ returns-clause-err g c =
     IfErr-map c.write_rest.result refused
     (λ err h none unwritten.
     rest_because meaning old mid new (ap (λ s. s.debug_line_str) others) (ap (λ s. s.debug_str) others) line.faults (extra_fails (meaning mid.debug_line.0).is_plain d)
-    (DwarfFails (meaning old.debug_info.0).is_plain (starts_of meaning old) (end_of (meaning old.debug_line.0)) d) err (λ e k. inr (inr (subst (λ b. IsTrue (extra_fails b d e)) line.kind k))) h)
+    (DwarfFails (meaning old.debug_info.0).is_plain (starts_of meaning old) (ends_of meaning old) d) err (λ e k. inr (inr (subst (λ b. IsTrue (extra_fails b d e)) line.kind k))) h)
 
 pub returns-clause-stopped : goal.returns-clause-stopped
 returns-clause-stopped g c =

@@ -9,8 +9,8 @@ use Rattle.dw_unit.proofs.Faults.{OnOk-both}
 use Rattle.dw_dwarf.specs.DwarfValue.{dwarf_of}
 use Rattle.dw_dwarf.specs.Valid.{IsUnwritten, programs_fail}
 use Rattle.dw_dwarf.proofs.Held.{dwarf_held, dwarf_resolved}
-use Rattle.dw_dwarf.proofs.OneUnit.{alone_whole, line_alone, line_behind, no_program, others_kept, no_fixups, alone_complete}
-use Rattle.dw_dwarf.proofs.RestSections.{appends_after, strings_after, rest_because, rest_memory, fixups_after}
+use Rattle.dw_dwarf.proofs.OneUnit.{alone_whole, line_alone, line_behind, ranges_alone, no_program, others_kept, no_fixups, alone_complete}
+use Rattle.dw_dwarf.proofs.RestSections.{appends_after, unit_ranges_after, strings_after, rest_because, rest_memory, fixups_after}
 use Rattle.dw_dwarf.proofs.dwarf_unit.DwarfUnit.write.Goals as goal
 
 -- where the unit is refused
@@ -39,6 +39,7 @@ returns-clause-built g c =
     (λ lines strings empty.
     dwarf_held meaning old new (dwarf_of d.line_strings d.strings u) (alone_whole meaning old new d.line_strings d.strings u c.write_alone.new.self.offsets p) g.met.W.Writer.plain_records_nothing empty (All-cons IsUnwritten u [] c.requires.unwritten (All-nil IsUnwritten))
     (line_alone meaning old mid new d.line_strings d.strings u c.requires.unwritten c.in_ok-write_alone.ensures.lines lines)
+    (ranges_alone meaning old new u c.requires.unwritten (unit_ranges_after meaning old mid new u same c.in_ok-write_alone.ensures.ranges)) (inr c.in_ok-write_alone.ensures.writable, tt)
     (strings_after meaning old mid new d.line_strings d.strings (ap (λ s. s.debug_line_str) others) (ap (λ s. s.debug_str) others) strings) (others_kept old mid new others same))
 
 pub returns-clause-resolves : goal.returns-clause-resolves
@@ -52,7 +53,8 @@ returns-clause-resolves g c =
     let p = appends_after meaning old mid new (settled u) (unit_tables (elsewhere meaning old d.line_strings d.strings) u) c.write_alone.new.self.offsets c.write_rest.ensures.others c.in_ok-write_alone.ensures.appends in
     OnOk-map c.write_rest.result c.write_rest.ensures.lines
     (λ lines empty. dwarf_resolved meaning old new (dwarf_of d.line_strings d.strings u) (alone_whole meaning old new d.line_strings d.strings u c.write_alone.new.self.offsets p) empty (All-cons IsUnwritten u [] c.requires.unwritten (All-nil IsUnwritten))
-    (line_alone meaning old mid new d.line_strings d.strings u c.requires.unwritten c.in_ok-write_alone.ensures.lines lines))
+    (line_alone meaning old mid new d.line_strings d.strings u c.requires.unwritten c.in_ok-write_alone.ensures.lines lines)
+    (ranges_alone meaning old new u c.requires.unwritten (unit_ranges_after meaning old mid new u c.write_rest.ensures.others c.in_ok-write_alone.ensures.ranges)))
 
 pub returns-clause-appends : goal.returns-clause-appends
 returns-clause-appends g c =
@@ -67,6 +69,11 @@ returns-clause-lines g c =
     let d = c.args.self.now in
     OnOk-map c.write_rest.result c.write_rest.ensures.lines
     (line_behind g.W.Writer.meaning c.args.sections.now c.write_alone.new.sections c.write_rest.new.sections d.line_strings d.strings d.unit c.in_ok-write_alone.ensures.lines)
+
+pub returns-clause-ranges : goal.returns-clause-ranges
+returns-clause-ranges g c =
+    let ranges = unit_ranges_after g.W.Writer.meaning c.args.sections.now c.write_alone.new.sections c.write_rest.new.sections c.args.self.now.unit c.write_rest.ensures.others c.in_ok-write_alone.ensures.ranges in
+    OnOk-map c.write_rest.result c.write_rest.ensures.lines (λ lines. ranges)
 
 pub returns-clause-strings : goal.returns-clause-strings
 returns-clause-strings g c =

@@ -30,7 +30,7 @@ returns-in_err-fill-clause-err g c =
     let p = err_from_is_err_and c.from_residual-in_err-fill.result c.from_residual-in_err-fill.ensures.1 in
     rw (p.1, p.2)
     (λ before us ks none first.
-    all_refused meaning before c.args.sections.now now (elsewhere g.W.Writer.meaning c.args.sections.now c.args.line_strings.now c.args.strings.now) c.args.self.now table us ks none first c.in_ok-write_units.ensures.pending (record now { debug_info = record { 0 = c.fill.new.w } }) c.in_ok-write_units.ensures.others c.in_ok-write_units.ensures.lines.text_is.same.faults err refused)
+    all_refused meaning before c.args.sections.now now (elsewhere g.W.Writer.meaning c.args.sections.now c.args.line_strings.now c.args.strings.now) c.args.self.now table us ks none first c.in_ok-write_units.ensures.pending (record now { debug_info = record { 0 = c.fill.new.w } }) c.in_ok-write_units.ensures.others c.in_ok-write_units.ensures.lines c.in_ok-write_units.ensures.ranges err refused)
 
 pub returns-in_err-fill-clause-stopped : goal.returns-in_err-fill-clause-stopped
 returns-in_err-fill-clause-stopped g c =

@@ -3,7 +3,7 @@ use Rattle.std.specs.Prelude.{All, slice_set}
 use Rattle.std.proofs.lemmas.Result.{err_from_is_err_and}
 use Rattle.dw_writer.specs.Sections.{SomeHasRisen}
 use Rattle.dw_unit.specs.Causes.{Because, UnitsFail}
-use Rattle.dw_unit.specs.Elsewhere.{elsewhere, AppendsLines}
+use Rattle.dw_unit.specs.Elsewhere.{elsewhere, AppendsLines, AppendsAllRanges}
 use Rattle.dw_unit.specs.UnitValue.{UnitValue}
 use Rattle.dw_unit.specs.Valid.{AreWritable}
 use Rattle.dw_unit.specs.Pending.{starts_of}
@@ -102,3 +102,14 @@ returns-clause-lines g c =
     let done : length vs ≤ c.loop-index.index = omega (arith, c.loop-index-test.false, c.len-index-end.ensures, same_count us vs c.loop-index.index f.before f.after f.rest f.at) in
     subst (AppendsLines meaning old c.loop-index.sections c.args.line_strings.now c.args.strings.now) c.self.view_is
     (front_all meaning (elsewhere meaning old c.args.line_strings.now c.args.strings.now) old c.loop-index.sections us vs c.loop-index.index f done).3
+
+pub returns-clause-ranges : goal.returns-clause-ranges
+returns-clause-ranges g c =
+    let f = c.loop-index.invariant in
+    let us = c.self.inside.units.items in
+    let vs = c.loop-index.self-inside.units.items in
+    let old = c.args.sections.now in
+    let meaning = g.W.Writer.meaning in
+    let done : length vs ≤ c.loop-index.index = omega (arith, c.loop-index-test.false, c.len-index-end.ensures, same_count us vs c.loop-index.index f.before f.after f.rest f.at) in
+    subst (AppendsAllRanges meaning old c.loop-index.sections) c.self.view_is
+    (front_all meaning (elsewhere meaning old c.args.line_strings.now c.args.strings.now) old c.loop-index.sections us vs c.loop-index.index f done).4
