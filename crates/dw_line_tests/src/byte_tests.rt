@@ -1,11 +1,11 @@
-//! Programs of every version with their bytes, which were put down by hand.
+//! Programs of what scripts don't have, with their bytes, which were put down by hand. The others
+//! are cases of `dwarf_build`.
 
 use crate::programs::{
-    FIRST, NO_INFO, add_file, add_row, amiss, begin, begun, encoding, end, of_lines, of_row,
-    program, with_directory,
+    FIRST, add_file, add_row, amiss, begin, encoding, end, program, with_directory,
 };
 use crate::writing::{BIG, LITTLE, is_written};
-use dw_base::{Address, FileId, Format, Result, RunTimeEndian};
+use dw_base::{Address, FileId, Format, Result};
 use dw_line::{FileInfo, LineProgram, LineRow, LineString};
 use dw_writer::Bytes;
 use std::alloc::Global;
@@ -21,115 +21,6 @@ fn version_2_little(rt: HostRuntime) -> std::result::Result<(), Fail> {
         2f696e6300 00 612e6300 01 03 c801 00
         00050200100000 0302 01 0202 000101";
     assert!(rt; is_written(rt.alloc(), &program, LITTLE, hex)?);
-    Ok(())
-}
-
-/// A program of addresses of two bytes, and of one row.
-fn of_one_row(alloc: Global, version: u16, format: Format) -> Result<LineProgram> {
-    let begin = Some(Address::Constant(0x1234));
-    let mut program = begun(alloc, encoding(version, format, 2), 1, begin)?;
-    add_row(&mut program, LineRow { line: 3, ..FIRST })?;
-    end(&mut program, 2)?;
-    Ok(program)
-}
-
-/// Tells that the program is written as these bytes in a version, a format and a byte order.
-fn is_one_row(
-    alloc: Global,
-    version: u16,
-    format: Format,
-    endian: RunTimeEndian,
-    hex: &str,
-) -> Result<bool> {
-    let program = of_one_row(alloc, version, format)?;
-    is_written(alloc, &program, endian, hex)
-}
-
-#[test]
-fn version_2_in_each_format(rt: HostRuntime) -> std::result::Result<(), Fail> {
-    let alloc = rt.alloc();
-    let hex = "2d000000 0200 1a000000
-        0101fb0e0d 000101010100000001000001 00 612e6300000000 00
-        00 03 02 3412 0302 01 0202 000101";
-    assert!(rt; is_one_row(alloc, 2, Format::Dwarf32, LITTLE, hex)?);
-    let hex = "0000002d 0002 0000001a
-        0101fb0e0d 000101010100000001000001 00 612e6300000000 00
-        00 03 02 1234 0302 01 0202 000101";
-    assert!(rt; is_one_row(alloc, 2, Format::Dwarf32, BIG, hex)?);
-    let hex = "ffffffff 3100000000000000 0200 1a00000000000000
-        0101fb0e0d 000101010100000001000001 00 612e6300000000 00
-        00 03 02 3412 0302 01 0202 000101";
-    assert!(rt; is_one_row(alloc, 2, Format::Dwarf64, LITTLE, hex)?);
-    let hex = "ffffffff 0000000000000031 0002 000000000000001a
-        0101fb0e0d 000101010100000001000001 00 612e6300000000 00
-        00 03 02 1234 0302 01 0202 000101";
-    assert!(rt; is_one_row(alloc, 2, Format::Dwarf64, BIG, hex)?);
-    Ok(())
-}
-
-#[test]
-fn version_3_in_each_format(rt: HostRuntime) -> std::result::Result<(), Fail> {
-    let alloc = rt.alloc();
-    let hex = "2d000000 0300 1a000000
-        0101fb0e0d 000101010100000001000001 00 612e6300000000 00
-        00 03 02 3412 0302 01 0202 000101";
-    assert!(rt; is_one_row(alloc, 3, Format::Dwarf32, LITTLE, hex)?);
-    let hex = "0000002d 0003 0000001a
-        0101fb0e0d 000101010100000001000001 00 612e6300000000 00
-        00 03 02 1234 0302 01 0202 000101";
-    assert!(rt; is_one_row(alloc, 3, Format::Dwarf32, BIG, hex)?);
-    let hex = "ffffffff 3100000000000000 0300 1a00000000000000
-        0101fb0e0d 000101010100000001000001 00 612e6300000000 00
-        00 03 02 3412 0302 01 0202 000101";
-    assert!(rt; is_one_row(alloc, 3, Format::Dwarf64, LITTLE, hex)?);
-    let hex = "ffffffff 0000000000000031 0003 000000000000001a
-        0101fb0e0d 000101010100000001000001 00 612e6300000000 00
-        00 03 02 1234 0302 01 0202 000101";
-    assert!(rt; is_one_row(alloc, 3, Format::Dwarf64, BIG, hex)?);
-    Ok(())
-}
-
-#[test]
-fn version_4_in_each_format(rt: HostRuntime) -> std::result::Result<(), Fail> {
-    let alloc = rt.alloc();
-    let hex = "2e000000 0400 1b000000
-        010101fb0e0d 000101010100000001000001 00 612e6300000000 00
-        00 03 02 3412 0302 01 0202 000101";
-    assert!(rt; is_one_row(alloc, 4, Format::Dwarf32, LITTLE, hex)?);
-    let hex = "0000002e 0004 0000001b
-        010101fb0e0d 000101010100000001000001 00 612e6300000000 00
-        00 03 02 1234 0302 01 0202 000101";
-    assert!(rt; is_one_row(alloc, 4, Format::Dwarf32, BIG, hex)?);
-    let hex = "ffffffff 3200000000000000 0400 1b00000000000000
-        010101fb0e0d 000101010100000001000001 00 612e6300000000 00
-        00 03 02 3412 0302 01 0202 000101";
-    assert!(rt; is_one_row(alloc, 4, Format::Dwarf64, LITTLE, hex)?);
-    let hex = "ffffffff 0000000000000032 0004 000000000000001b
-        010101fb0e0d 000101010100000001000001 00 612e6300000000 00
-        00 03 02 1234 0302 01 0202 000101";
-    assert!(rt; is_one_row(alloc, 4, Format::Dwarf64, BIG, hex)?);
-    Ok(())
-}
-
-#[test]
-fn version_5_in_each_format(rt: HostRuntime) -> std::result::Result<(), Fail> {
-    let alloc = rt.alloc();
-    let hex = "3a000000 0500 0200 23000000
-        010101fb0e0d 000101010100000001000001 01010801 2f00 020108020f 01 612e6300 00
-        00 03 02 3412 0400 0302 01 0202 000101";
-    assert!(rt; is_one_row(alloc, 5, Format::Dwarf32, LITTLE, hex)?);
-    let hex = "0000003a 0005 0200 00000023
-        010101fb0e0d 000101010100000001000001 01010801 2f00 020108020f 01 612e6300 00
-        00 03 02 1234 0400 0302 01 0202 000101";
-    assert!(rt; is_one_row(alloc, 5, Format::Dwarf32, BIG, hex)?);
-    let hex = "ffffffff 3e00000000000000 0500 0200 2300000000000000
-        010101fb0e0d 000101010100000001000001 01010801 2f00 020108020f 01 612e6300 00
-        00 03 02 3412 0400 0302 01 0202 000101";
-    assert!(rt; is_one_row(alloc, 5, Format::Dwarf64, LITTLE, hex)?);
-    let hex = "ffffffff 000000000000003e 0005 0200 0000000000000023
-        010101fb0e0d 000101010100000001000001 01010801 2f00 020108020f 01 612e6300 00
-        00 03 02 1234 0400 0302 01 0202 000101";
-    assert!(rt; is_one_row(alloc, 5, Format::Dwarf64, BIG, hex)?);
     Ok(())
 }
 
@@ -208,40 +99,6 @@ fn no_file_and_no_sequence(rt: HostRuntime) -> std::result::Result<(), Fail> {
     let program = program(rt.alloc(), encoding(5, Format::Dwarf32, 8), 1)?;
     let hex = "26000000 0500 0800 1e000000 010101fb0e0d 000101010100000001000001
         01010801 2f00 020108020f 00";
-    assert!(rt; is_written(rt.alloc(), &program, LITTLE, hex)?);
-    Ok(())
-}
-
-#[test]
-fn unfinished_sequence(rt: HostRuntime) -> std::result::Result<(), Fail> {
-    let begin = Some(Address::Constant(0x1000));
-    let mut program = begun(rt.alloc(), encoding(5, Format::Dwarf32, 8), 1, begin)?;
-    add_row(&mut program, LineRow { line: 3, ..FIRST })?;
-    let hex = "3b000000 0500 0800 23000000 010101fb0e0d 000101010100000001000001
-        01010801 2f00 020108020f 01 612e6300 00
-        0009020010000000000000 0400 0302 01";
-    assert!(rt; is_written(rt.alloc(), &program, LITTLE, hex)?);
-    Ok(())
-}
-
-#[test]
-fn greatest_advance(rt: HostRuntime) -> std::result::Result<(), Fail> {
-    let last = LineRow {
-        address_offset: u64::MAX,
-        ..FIRST
-    };
-    let program = of_row(rt.alloc(), encoding(4, Format::Dwarf32, 8), last)?;
-    let hex = "30000000 0400 1b000000 010101fb0e0d 000101010100000001000001
-        00 612e6300000000 00 02ffffffffffffffffff01 01 000101";
-    assert!(rt; is_written(rt.alloc(), &program, LITTLE, hex)?);
-    Ok(())
-}
-
-#[test]
-fn greatest_changes_of_line(rt: HostRuntime) -> std::result::Result<(), Fail> {
-    let program = of_lines(rt.alloc(), &[0x8000_0000_0000_0000, 0])?;
-    let hex = "39000000 0400 1b000000 010101fb0e0d 000101010100000001000001
-        00 612e6300000000 00 03ffffffffffffffffff00 01 038080808080808080807f 01";
     assert!(rt; is_written(rt.alloc(), &program, LITTLE, hex)?);
     Ok(())
 }

@@ -1,8 +1,8 @@
 //! What is left to a linker, and where programs begin.
 
 use crate::programs::{begin, encoding, end, named_by_place, program};
-use crate::writing::{is_relocated, refusal, second_place};
-use dw_base::{Address, Error, Format, Result, SectionId};
+use crate::writing::{is_relocated, second_place};
+use dw_base::{Address, Format, Result, SectionId};
 use dw_line::LineProgram;
 use dw_writer::{Relocation, RelocationTarget};
 use std::alloc::Global;
@@ -33,14 +33,6 @@ fn symbol_is_left_to_a_linker(rt: HostRuntime) -> std::result::Result<(), Fail> 
         eh_pe: None,
     };
     assert!(rt; is_relocated(rt.alloc(), &program, hex, &[symbol])?);
-    Ok(())
-}
-
-#[test]
-fn symbol_over_a_plain_writer(rt: HostRuntime) -> std::result::Result<(), Fail> {
-    let program = at_symbol(rt.alloc())?;
-    let why = refusal(rt.alloc(), &program, program.encoding())?;
-    assert!(rt; why == Some(Error::InvalidAddress));
     Ok(())
 }
 

@@ -3,23 +3,13 @@
 ghost use Rattle.dw_line.specs.LinePrograms.{IsInfo};
 
 use crate::programs::{
-    NO_INFO, add_directory, add_file, encoding, named_by_place, program, with_directory,
-    with_source,
+    NO_INFO, add_directory, add_file, encoding, program, with_directory, with_source,
 };
-use crate::writing::{LITTLE, is_written, refusal};
-use dw_base::{Error, Format, LineStringId, Result, StringId};
+use crate::writing::{LITTLE, is_written};
+use dw_base::{Format, LineStringId, Result, StringId};
 use dw_line::{FileInfo, LineString};
 use dw_writer::Bytes;
 use std::test::Fail;
-
-#[test]
-fn names_by_place(rt: HostRuntime) -> std::result::Result<(), Fail> {
-    let program = named_by_place(rt.alloc(), encoding(5, Format::Dwarf32, 8), 1)?;
-    let hex = "2d000000 0500 0800 25000000 010101fb0e0d 000101010100000001000001
-        01011f 01 00000000 02011f020f 01 05000000 00";
-    assert!(rt; is_written(rt.alloc(), &program, LITTLE, hex)?);
-    Ok(())
-}
 
 #[test]
 fn source_by_place_in_64_bits(rt: HostRuntime) -> std::result::Result<(), Fail> {
@@ -31,43 +21,6 @@ fn source_by_place_in_64_bits(rt: HostRuntime) -> std::result::Result<(), Fail> 
         000101010100000001000001 01010801 2f00 03 0108 020f 81400e 01
         612e6300 00 0200000000000000";
     assert!(rt; is_written(alloc, &program, LITTLE, hex)?);
-    Ok(())
-}
-
-#[test]
-fn names_by_place_need_version_5(rt: HostRuntime) -> std::result::Result<(), Fail> {
-    let unit = encoding(4, Format::Dwarf32, 8);
-    let program = named_by_place(rt.alloc(), unit, 1)?;
-    let why = refusal(rt.alloc(), &program, unit)?;
-    assert!(rt; why == Some(Error::LineStringFormMismatch));
-    Ok(())
-}
-
-#[test]
-fn files_of_different_forms(rt: HostRuntime) -> std::result::Result<(), Fail> {
-    let unit = encoding(5, Format::Dwarf32, 8);
-    let mut program = named_by_place(rt.alloc(), unit, 1)?;
-    add_file(rt.alloc(), &mut program, b"a.c", 0, None)?;
-    let why = refusal(rt.alloc(), &program, unit)?;
-    assert!(rt; why == Some(Error::LineStringFormMismatch));
-    Ok(())
-}
-
-#[test]
-fn directories_of_different_forms(rt: HostRuntime) -> std::result::Result<(), Fail> {
-    let unit = encoding(5, Format::Dwarf32, 8);
-    let mut program = named_by_place(rt.alloc(), unit, 1)?;
-    add_directory(rt.alloc(), &mut program, b"/inc")?;
-    let why = refusal(rt.alloc(), &program, unit)?;
-    assert!(rt; why == Some(Error::LineStringFormMismatch));
-    Ok(())
-}
-
-#[test]
-fn strings_that_are_absent(rt: HostRuntime) -> std::result::Result<(), Fail> {
-    let unit = encoding(5, Format::Dwarf32, 8);
-    let program = named_by_place(rt.alloc(), unit, 2)?;
-    assert!(rt; refusal(rt.alloc(), &program, unit)? == Some(Error::InvalidReference));
     Ok(())
 }
 

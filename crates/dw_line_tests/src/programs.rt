@@ -168,19 +168,6 @@ pub fn of_row(alloc: Global, encoding: Encoding, row: LineRow) -> Result<LinePro
     Ok(program)
 }
 
-/// A program of version 4 with rows of these lines.
-pub fn of_lines(alloc: Global, lines: &[u64]) -> Result<LineProgram> {
-    let mut program = begun(alloc, encoding(4, Format::Dwarf32, 8), 1, None)?;
-    for line in lines {
-        let row = LineRow {
-            line: *line,
-            ..FIRST
-        };
-        add_row(&mut program, row)?;
-    }
-    Ok(program)
-}
-
 /// A program of version 2 with a directory, of whose file all is told.
 pub fn with_directory(alloc: Global) -> Result<LineProgram> {
     let mut program = program(alloc, encoding(2, Format::Dwarf32, 4), 1)?;

@@ -3,32 +3,12 @@
 ghost use Rattle.std.specs.Prelude.{Some};
 ghost use Rattle.dw_line.specs.LinePrograms.{IsInfo};
 
-use crate::programs::{
-    NO_INFO, add_file, begun, encoding, named_by_place, of_lines, program, with_source,
-};
+use crate::programs::{NO_INFO, add_file, encoding, named_by_place, program, with_source};
 use crate::writing::{is_kept_in_front, refusal};
-use dw_base::{Address, Encoding, Error, Format, Result, StringId};
+use dw_base::{Encoding, Error, Format, Result, StringId};
 use dw_line::{FileInfo, LineString};
 use std::alloc::Global;
 use std::test::Fail;
-
-/// Why a program of these lines is refused.
-fn refusal_of_lines(alloc: Global, lines: &[u64]) -> Result<Option<Error>> {
-    let program = of_lines(alloc, lines)?;
-    refusal(alloc, &program, program.encoding())
-}
-
-#[test]
-fn greater_changes_of_line(rt: HostRuntime) -> std::result::Result<(), Fail> {
-    let more = refusal_of_lines(rt.alloc(), &[1, 0x8000_0000_0000_0001])?;
-    assert!(rt; more == Some(Error::ValueTooLarge));
-    let most = 0x8000_0000_0000_0000;
-    let less = refusal_of_lines(rt.alloc(), &[most, most + 1, 0])?;
-    assert!(rt; less == Some(Error::ValueTooLarge));
-    let neither = refusal_of_lines(rt.alloc(), &[most, u64::MAX])?;
-    assert!(rt; neither.is_none());
-    Ok(())
-}
 
 #[test]
 fn encodings_that_disagree(rt: HostRuntime) -> std::result::Result<(), Fail> {
@@ -106,16 +86,6 @@ fn texts_need_version_5(rt: HostRuntime) -> std::result::Result<(), Fail> {
 fn text_by_place_beside_an_empty_one(rt: HostRuntime) -> std::result::Result<(), Fail> {
     let info = with_source(LineString::StringRef(StringId::new(0)));
     assert!(rt; refusal_of_info(rt.alloc(), 5, info)? == Some(Error::LineStringFormMismatch));
-    Ok(())
-}
-
-#[test]
-fn addresses_that_are_too_large(rt: HostRuntime) -> std::result::Result<(), Fail> {
-    for (size, address) in [(1, 0x100), (2, 0x1_0000), (4, 0x1_0000_0000)] {
-        let unit = encoding(4, Format::Dwarf32, size);
-        let program = begun(rt.alloc(), unit, 1, Some(Address::Constant(address)))?;
-        assert!(rt; refusal(rt.alloc(), &program, unit)? == Some(Error::ValueTooLarge));
-    }
     Ok(())
 }
 

@@ -7,7 +7,10 @@ pub mod Walks
 pub mod Steps
 pub mod Kept
 pub mod Expressions
+pub mod Items
+pub mod Ranges
 mod Worked
 mod WorkedValues
 mod WorkedLinePrograms
 mod WorkedExpressions
+mod WorkedLists

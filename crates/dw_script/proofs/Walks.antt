@@ -20,7 +20,7 @@ LeavesUpTo n (Ok read) = length read.1 ≤ n
 LeavesUpTo n (Err _) = Unit {0}
 
 -- a value is made of what was read
-leaves_made : {A B : Type 0} (n : ℕ) (make : A → B) (o : Outcome (A × Fields)) → LeavesUpTo n o → LeavesUpTo n (made make o)
+pub leaves_made : {A B : Type 0} (n : ℕ) (make : A → B) (o : Outcome (A × Fields)) → LeavesUpTo n o → LeavesUpTo n (made make o)
 leaves_made n make (Ok read) few = few
 leaves_made n make (Err _) few = tt
 
@@ -34,7 +34,7 @@ leaves_read : {A B : Type 0} (n : ℕ) (make : A → B) (o : Outcome A) (fields 
 leaves_read n make (Ok x) fields few = few
 leaves_read n make (Err _) fields few = tt
 
-leaves_field : {A B : Type 0} (n : ℕ) (make : A → B) (f : List ℕ → Outcome A) (fields : Fields) → length fields ≤ n → LeavesUpTo n (next_field fields >>= λ r. f r.0 >>= λ x. Ok (make x, r.1))
+pub leaves_field : {A B : Type 0} (n : ℕ) (make : A → B) (f : List ℕ → Outcome A) (fields : Fields) → length fields ≤ n → LeavesUpTo n (next_field fields >>= λ r. f r.0 >>= λ x. Ok (make x, r.1))
 leaves_field n make f [] few = tt
 leaves_field n make f (field ∷ fields) few = leaves_read n make (f field) fields (omega arith)
 
@@ -45,7 +45,7 @@ operation_leaves n word.SpaceDeref fields few = few
 operation_leaves n _ fields few = leaves_made n _ _ (leaves_field n _ _ fields few)
 
 -- two operands
-operands_leave : {A B C : Type 0} (n : ℕ) (make : A → B → C) (f : List ℕ → Outcome A) (g : List ℕ → Outcome B) (fields : Fields) → length fields ≤ n → LeavesUpTo n (made_of_two make (next_field fields >>= λ r. f r.0 >>= λ x. Ok (x, r.1)) (λ rest. next_field rest >>= λ r. g r.0 >>= λ y. Ok (y, r.1)))
+pub operands_leave : {A B C : Type 0} (n : ℕ) (make : A → B → C) (f : List ℕ → Outcome A) (g : List ℕ → Outcome B) (fields : Fields) → length fields ≤ n → LeavesUpTo n (made_of_two make (next_field fields >>= λ r. f r.0 >>= λ x. Ok (x, r.1)) (λ rest. next_field rest >>= λ r. g r.0 >>= λ y. Ok (y, r.1)))
 operands_leave n make f g fields few = leaves_two n make _ _ (leaves_field n (λ x. x) f fields few) (λ rest h. leaves_field n (λ y. y) g rest h)
 
 pair_leaves : (n : ℕ) (w : PairWord) (fields : Fields) → length fields ≤ n → LeavesUpTo n (pair_of_word w fields)

@@ -61,6 +61,6 @@ unfolding parsed_line attribute_of kind_of
 set_empty = refl
 
 -- a kind whose fields are not looked at yet
-unbuilt_kind : parsed_line (codes "set 0 0 3 range_ref 1") ≡ Err NotBuilt
+unbuilt_kind : parsed_line (codes "set 0 0 3 loc_ref 1") ≡ Err NotBuilt
 unfolding parsed_line attribute_of kind_of
 unbuilt_kind = refl

@@ -17,4 +17,8 @@ pub mod Branches
 pub mod Expressions
 pub mod Values
 pub mod LinePrograms
+pub mod Items
+pub mod RangeWords
+pub mod Ranges
+pub mod Lists
 pub mod Lines

@@ -3,6 +3,7 @@
 use crate::change::Change;
 use crate::hex_bytes::HexBytes;
 use crate::line_change::LineChange;
+use crate::range_list::RangeFields;
 use dw_base::{Encoding, RunTimeEndian};
 
 /// One line's request.
@@ -20,4 +21,6 @@ pub enum Command<'a> {
     Change { unit: u64, change: Change<'a> },
     /// A change of the line program of the unit at an index.
     Line { unit: u64, change: LineChange<'a> },
+    /// A range list of the unit at an index.
+    RangeList { unit: u64, ranges: RangeFields<'a> },
 }

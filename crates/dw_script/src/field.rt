@@ -5,6 +5,7 @@ ghost use Rattle.std.specs.Prelude.{◌≡◌, ◌<◌, ◌^◌, IfOk, Ok, Err, 
 ghost use Rattle.dw_script.specs.Pieces.{pieces_left};
 ghost use Rattle.dw_script.specs.Fields.{address_field, address_or_none_field, index_or_none_field, reference_field, byte_order_field, end_of_fields, flag_field, format_field, hex_field, next_field, number_field, signed_field, target_field, with_rest, word_field};
 ghost use Rattle.dw_script.specs.Operations.{opcode_field};
+ghost use Rattle.dw_script.specs.Ranges.{range_word_field};
 ghost use Rattle.dw_script.specs.Steps.{open_field, step_word_field};
 ghost use Rattle.dw_script.specs.Values.{attribute_field, kind_field, tag_field};
 
@@ -18,6 +19,7 @@ use crate::number::{
 };
 use crate::operation_word::StepWord;
 use crate::pieces::Pieces;
+use crate::range_word::RangeWord;
 use crate::reason::Reason;
 use crate::word::Word;
 use dw_base::{Address, DebugInfoRef, DwAt, DwOp, DwTag, Format, RunTimeEndian};
@@ -217,6 +219,14 @@ pub(crate) fn expect_open(fields: &mut Pieces<'_>, depth: usize) -> Result<(), R
         b"[" => Err(Reason::TooDeep),
         _ => Err(Reason::UnknownWord),
     }
+}
+
+/// The word of an item of a range list.
+pub(crate) fn next_range_word(fields: &mut Pieces<'_>) -> Result<RangeWord, Reason>
+    ensures { with_rest result (pieces_left fields.new) ≡
+        range_word_field (pieces_left fields.old) }
+{
+    RangeWord::read(next_field(fields)?).ok_or(Reason::UnknownWord)
 }
 
 /// The kind of a value.

@@ -31,6 +31,8 @@ pub(crate) enum Kind {
     String,
     StringRef,
     LineStringRef,
+    RangeListRef,
+    RangeListsBase,
     LineProgramRef,
     FileIndex,
     Constant(ConstantKind),
@@ -56,7 +58,7 @@ pub(crate) enum ConstantKind {
 }
 
 // A look-up goes through the table in order, so the kinds that come most often stand first.
-const KINDS: [(&[u8], Kind); 39] = [
+const KINDS: [(&[u8], Kind); 41] = [
     (b"string", Kind::String),
     (b"data1", Kind::Data1),
     (b"udata", Kind::Udata),
@@ -80,7 +82,9 @@ const KINDS: [(&[u8], Kind); 39] = [
     (b"info_ref", Kind::DebugInfoRef),
     (b"line_program_ref", Kind::LineProgramRef),
     (b"loc_ref", Kind::Unbuilt),
-    (b"range_ref", Kind::Unbuilt),
+    (b"loc_base", Kind::Unbuilt),
+    (b"range_ref", Kind::RangeListRef),
+    (b"range_base", Kind::RangeListsBase),
     (b"str_ref", Kind::StringRef),
     (b"line_str_ref", Kind::LineStringRef),
     (b"file_index", Kind::FileIndex),

@@ -15,6 +15,7 @@ use crate::line_program::{
 };
 use crate::pieces::Pieces;
 use crate::reason::Reason;
+use crate::unit_list::parse_range_list;
 use crate::value::next_value;
 use crate::word::Word;
 use dw_base::Encoding;
@@ -72,7 +73,8 @@ fn parse_fields<'a>(fields: &mut Pieces<'a>) -> Result<Command<'a>, Reason>
         Word::Sequence => parse_sequence(fields),
         Word::Row => parse_row(fields),
         Word::End => parse_end(fields),
-        Word::Range | Word::Loc => Err(Reason::NotBuilt),
+        Word::Range => parse_range_list(fields),
+        Word::Loc => Err(Reason::NotBuilt),
     }
 }
 

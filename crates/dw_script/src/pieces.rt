@@ -1,6 +1,6 @@
 //! Bytes, cut at each separator: a line into fields, and a field into parts.
 
-ghost use Rattle.std.specs.Prelude.{◌≡◌, ◌∷◌, ◌+◌, ◌<◌, ◌≤◌, ◌==◌, IfSome, length, position};
+ghost use Rattle.std.specs.Prelude.{◌≡◌, [], ◌∷◌, ◌+◌, ◌<◌, ◌≤◌, ◌==◌, IfSome, length, position};
 ghost use Rattle.std.specs.Iterator.{YieldsFirstRef, item_count};
 ghost use Rattle.dw_script.specs.Pieces.{pieces, pieces_after, pieces_left};
 
@@ -21,6 +21,21 @@ impl<'a> Pieces<'a> {
             separator,
             rest: Some(bytes),
         }
+    }
+
+    /// Whether no pieces are left.
+    pub(crate) fn is_at_end(&self) -> bool
+        ensures { result ≡ (length (pieces_left self.now) == 0) }
+    {
+        self.rest.is_none()
+    }
+
+    /// Passes all pieces that are left.
+    #[tactic(auto, unfolding(crate::specs::Pieces::pieces_left))]
+    pub(crate) fn pass_all(&mut self)
+        ensures { pieces_left self.new ≡ [] }
+    {
+        self.rest = None;
     }
 
     /// A number that is not below that of the pieces that are left.

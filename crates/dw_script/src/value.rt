@@ -73,6 +73,12 @@ pub enum Value<'a> {
     StringRef(u64),
     /// A string of `.debug_line_str`, by its index; a word of the format (7.5.5).
     LineStringRef(u64),
+    /// A range list of the unit, by its index; in version 5 this index in LEB128, before a word of
+    /// the format (7.5.5).
+    RangeListRef(u64),
+    /// The unit's range lists, by the place of their first offset in `.debug_rnglists`; a word of
+    /// the format (7.28).
+    RangeListsBase,
     /// The unit's line program, by its place in `.debug_line`; a word of the format (7.5.5).
     LineProgramRef,
     /// A file of the unit's line program, by its index, or none, in LEB128 (2.14).
@@ -132,6 +138,8 @@ pub(crate) fn next_value<'a>(fields: &mut Pieces<'a>) -> Result<Value<'a>, Reaso
         Kind::String => Value::String(next_hex_bytes(fields)?),
         Kind::StringRef => Value::StringRef(next_u64(fields)?),
         Kind::LineStringRef => Value::LineStringRef(next_u64(fields)?),
+        Kind::RangeListRef => Value::RangeListRef(next_u64(fields)?),
+        Kind::RangeListsBase => Value::RangeListsBase,
         Kind::LineProgramRef => Value::LineProgramRef,
         Kind::FileIndex => Value::FileIndex(next_index_or_none(fields)?),
         Kind::Constant(kind) => next_constant(kind, fields)?,

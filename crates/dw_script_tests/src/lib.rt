@@ -7,4 +7,6 @@ mod expression_tests;
 #[cfg(test)]
 mod line_program_tests;
 #[cfg(test)]
+mod list_tests;
+#[cfg(test)]
 mod tests;

@@ -19,6 +19,7 @@ enum Request {
     String,
     LineString,
     Line(u64),
+    RangeList(u64),
 }
 
 fn request_of(line: &[u8]) -> Result<Request, Reason> {
@@ -30,6 +31,7 @@ fn request_of(line: &[u8]) -> Result<Request, Reason> {
         Some(Command::LineString(_)) => Ok(Request::LineString),
         Some(Command::Change { unit, change }) => Ok(changed(unit, change)),
         Some(Command::Line { unit, .. }) => Ok(Request::Line(unit)),
+        Some(Command::RangeList { unit, .. }) => Ok(Request::RangeList(unit)),
     }
 }
 
@@ -126,7 +128,7 @@ fn reads_lines(rt: HostRuntime) {
         (b"str", Err(Reason::WrongFields)),
         (b"str 6", Err(Reason::BadHex)),
         (b"line_str 61 62", Err(Reason::WrongFields)),
-        (b"range x", Err(Reason::NotBuilt)),
+        (b"range 7 pair 1 2", Ok(Request::RangeList(7))),
         (b"loc", Err(Reason::NotBuilt)),
         (b"add \x7f", Err(Reason::BadByte)),
     ];
@@ -182,7 +184,7 @@ fn reads_entries(rt: HostRuntime) {
         (b"set 0 0 3 string", Err(Reason::WrongFields)),
         (b"set 0 0 3 string 61 62", Err(Reason::WrongFields)),
         (b"set 0 0 3 block 6", Err(Reason::BadHex)),
-        (b"set 0 0 3 range_ref 1", Err(Reason::NotBuilt)),
+        (b"set 0 0 3 range_ref 1", set(0, 0, 0x03)),
         (b"set 0 0 3 info_ref 0:1", set(0, 0, 0x03)),
         (b"set 0 0 3 info_ref 0 1", Err(Reason::BadNumber)),
         (b"set 0 0 3 loc_ref", Err(Reason::NotBuilt)),
@@ -301,20 +303,12 @@ fn reads_deletions(rt: HostRuntime) {
 
 /// The fields after a word that isn't built aren't looked at.
 #[test]
-fn refuses_words_that_are_not_built(rt: HostRuntime) -> Result<(), Fail> {
-    for word in ["range", "loc"] {
-        let line = format!(in rt.alloc(); "{word} x")?;
-        assert_eq!(rt;
-            request_of(line.as_bytes()),
-            Err(Reason::NotBuilt),
-            "at {line}"
-        );
-    }
-    Ok(())
+fn refuses_words_that_are_not_built(rt: HostRuntime) {
+    assert_eq!(rt; request_of(b"loc x"), Err(Reason::NotBuilt));
 }
 
 /// The kinds of values that aren't built.
-const UNBUILT_KINDS: &str = "loc_ref range_ref";
+const UNBUILT_KINDS: &str = "loc_ref loc_base";
 
 /// The fields after a kind that isn't built aren't looked at.
 #[test]
@@ -557,6 +551,17 @@ fn reads_flags_and_places(rt: HostRuntime) -> Result<(), Fail> {
 #[test]
 fn reads_line_program_values(rt: HostRuntime) -> Result<(), Fail> {
     let rows = [
+        ("range_ref 0", "RangeListRef(0)"),
+        (
+            "range_ref 0xffffffffffffffff",
+            "RangeListRef(18446744073709551615)",
+        ),
+        ("range_ref 18446744073709551616", "bad number"),
+        ("range_ref none", "bad number"),
+        ("range_ref 0 0", "wrong fields"),
+        ("range_ref", "wrong fields"),
+        ("range_base", "RangeListsBase"),
+        ("range_base 0", "wrong fields"),
         ("line_program_ref", "LineProgramRef"),
         ("line_program_ref 0", "wrong fields"),
         ("file_index 0", "FileIndex(Some(0))"),

@@ -4,7 +4,7 @@ use Rattle.std.specs.Prelude.{Some, Option}
 use Rattle.dw_writer.specs.Contents.{Meaning}
 use Rattle.dw_writer.specs.declared.sections.Sections.{Sections}
 use Rattle.dw_dwarf.specs.Valid.{IsValid}
-use Rattle.dw_dwarf.specs.Written.{SectionTexts, AreTextsOf, TellTexts, HoldsDwarf}
+use Rattle.dw_dwarf.specs.Written.{SectionTexts, AreTextsOf, TellTexts, HoldsDwarf, orders_of, one_order}
 use Rattle.dwarf_build.specs.Texts.{sections_text}
 use Rattle.dwarf_build.specs.Listed.{ListsSections}
 use Rattle.dwarf_build.specs.Answers.{ListsScript}
@@ -31,13 +31,11 @@ texts_same meaning s a b p q =
 
 module _ {W : Type 0} where
   -- the listing of sections that hold a script's valid Dwarf lists the script
-  pub script_listed : (meaning : W → Meaning) (s : ScriptValue) (sections : Sections W) (text : List ℕ) → IsValid true s.dwarf → (meaning sections.debug_info.0).is_big ≡ is_big_of s.endian →
-      (meaning sections.debug_line.0).is_big ≡ is_big_of s.endian → HoldsDwarf meaning sections s.dwarf → ListsSections meaning sections (is_big_of s.endian) text → ListsScript s text
-  script_listed meaning s sections text valid order lines_order held listed = record {
+  pub script_listed : (meaning : W → Meaning) (s : ScriptValue) (sections : Sections W) (text : List ℕ) → IsValid true s.dwarf → orders_of meaning sections ≡ one_order (is_big_of s.endian) →
+      HoldsDwarf meaning sections s.dwarf → ListsSections meaning sections (is_big_of s.endian) text → ListsScript s text
+  script_listed meaning s sections text valid orders held listed = record {
     texts = held.texts;
     valid = valid;
-    are =
-        subst (λ (b : Bool). AreTextsOf (is_big_of s.endian) b s.dwarf held.texts) lines_order
-        (subst (λ (b : Bool). AreTextsOf b (meaning sections.debug_line.0).is_big s.dwarf held.texts) order held.are);
+    are = subst (λ o. AreTextsOf o s.dwarf held.texts) orders held.are;
     listed = listed.text_is ∙ ap (sections_text (is_big_of s.endian)) (texts_same meaning sections listed.bytes held.texts listed.tells held.told);
   }

@@ -8,7 +8,7 @@ use Rattle.dw_writer.specs.Sections.{SomeHasRisen}
 use Rattle.dw_writer.specs.declared.sections.Sections.{Sections}
 use Rattle.dw_unit.specs.Built.{at_begin}
 use Rattle.dw_dwarf.specs.DwarfValue.{DwarfValue}
-use Rattle.dw_dwarf.specs.Valid.{AreUnwritten, IsValid, DwarfFails, DwarfRefused, no_lines}
+use Rattle.dw_dwarf.specs.Valid.{AreUnwritten, IsValid, DwarfFails, DwarfRefused, empty_ends}
 use Rattle.dw_dwarf.specs.Written.{AreNewPlain, AreNew}
 use Rattle.dw_dwarf.proofs.Complete.{AreNew-from_plain, dwarf_fails, valid_unfailing}
 use Rattle.dwarf_build.specs.Answers.{HasFault, SaysOf}
@@ -22,7 +22,7 @@ pub dwarf_faulty : {W : Type 0} {meaning : W → Meaning} {old : Sections W} {Cl
     (old.debug_info_fixups ≡ [] → AreUnwritten d → DwarfRefused meaning old new d e) → (SomeHasRisen meaning old new → ⊥) → HasFault d e
 dwarf_faulty {W} {meaning} {old} clause new empty d e unwritten some refused calm =
     let fails = dwarf_fails meaning old new (AreNew-from_plain meaning old empty) calm d e some (refused empty.fixups.info unwritten) in
-    subst (λ b. DwarfFails b at_begin (no_lines b) d e) empty.writers.debug_info.plain fails
+    subst (λ b. DwarfFails b at_begin (empty_ends b) d e) empty.writers.debug_info.plain fails
 
 -- what is said of a script that is refused
 pub says_refused : (s : ScriptValue) (status : Status) (text : List ℕ) (e : Error) → status ≡ WriteRefused → text ≡ refused_text e → HasFault s.dwarf e → SaysOf s status text

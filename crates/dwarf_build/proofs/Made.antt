@@ -6,7 +6,7 @@ use Rattle.dw_writer.specs.Contents.{Meaning}
 use Rattle.dw_writer.specs.declared.sections.Sections.{Sections}
 use Rattle.dw_dwarf.specs.DwarfValue.{DwarfValue}
 use Rattle.dw_dwarf.specs.Valid.{IsUnwritten, AreUnwritten}
-use Rattle.dw_dwarf.specs.Written.{AreTextsOf, HoldsDwarf}
+use Rattle.dw_dwarf.specs.Written.{AreTextsOf, HoldsDwarf, orders_of, one_order}
 use Rattle.dwarf_build.specs.Answers.{SaysMade}
 use Rattle.dwarf_build.specs.Generated.{generated, generated_unit, generated_units, unit_variables}
 use Rattle.dwarf_build.specs.Texts.{counts_text}
@@ -28,14 +28,13 @@ same_told : {a b : List ℕ} {o : Option (List ℕ)} → o ≡ Some a → o ≡ 
 same_told {a} {b} p q = let e : Some a ≡ Some b = sym p ∙ q in cc
 
 -- The summary of sections that hold what was generated. Its bytes are those that the writers tell.
-pub made_told : {W : Type 0} (meaning : W → Meaning) (n : ℕ) (d : DwarfValue) (s : Sections W) (text info abbrevs : List ℕ) → d ≡ generated n → HoldsDwarf meaning s d → (meaning s.debug_info.0).is_big ≡ false → (meaning s.debug_line.0).is_big ≡ false →
+pub made_told : {W : Type 0} (meaning : W → Meaning) (n : ℕ) (d : DwarfValue) (s : Sections W) (text info abbrevs : List ℕ) → d ≡ generated n → HoldsDwarf meaning s d → orders_of meaning s ≡ one_order false →
     Some info ≡ (meaning s.debug_info.0).bytes → Some abbrevs ≡ (meaning s.debug_abbrev.0).bytes → text ≡ counts_text (length d.units) (sum_by (λ u. length u.entries) d.units) info abbrevs → SaysMade n text
-made_told meaning n d s text info abbrevs same held order lines_order told_info told_abbrevs says =
-    let ordered = subst (λ (b : Bool). AreTextsOf b (meaning s.debug_line.0).is_big d held.texts) order held.are in
-    let little = subst (λ (b : Bool). AreTextsOf false b d held.texts) lines_order ordered in
+made_told meaning n d s text info abbrevs same held orders told_info told_abbrevs says =
+    let little = subst (λ o. AreTextsOf o d held.texts) orders held.are in
     record {
       texts = held.texts;
-      are = subst (λ e. AreTextsOf false false e held.texts) same little;
+      are = subst (λ e. AreTextsOf (one_order false) e held.texts) same little;
       says =
           says
           ∙ ap (λ i. counts_text (length d.units) (sum_by (λ u. length u.entries) d.units) i abbrevs) (same_told (sym told_info) held.told.debug_info)

@@ -15,7 +15,7 @@ use Rattle.dw_entries.specs.Entries.{EntryValue}
 use Rattle.dw_entries.specs.Targets.{Tables, UnitTargets}
 use Rattle.dw_unit.specs.Built.{Numbered, Starts, settled_at, numbered, numbered_from, at_begin, table_size}
 use Rattle.dw_unit.specs.Coded.{code_at}
-use Rattle.dw_unit.specs.Elsewhere.{Elsewhere, tables_in, line_size, past_elsewhere}
+use Rattle.dw_unit.specs.Elsewhere.{Elsewhere, tables_in, past_parts, past_elsewhere}
 use Rattle.dw_unit.specs.Pending.{Kept, past_kept, draft_of, draft_at, units_draft, info_of, StandsAt, AreInRow}
 use Rattle.dw_unit.specs.Places.{targets_of}
 use Rattle.dw_unit.specs.UnitFaults.{has_no_room, hole_fails, holes_fail}
@@ -25,7 +25,7 @@ use Rattle.dw_unit.specs.Valid.{IsWritableTree, IsWritable, AreWritable, Referen
 use Rattle.dw_unit.specs.Whole.{settled, tree_shapes}
 use Rattle.dw_unit.specs.Written.{past_table}
 use Rattle.dw_unit.proofs.Faults.{neither}
-use Rattle.dw_dwarf.specs.Valid.{IsValid}
+use Rattle.dw_dwarf.specs.Valid.{IsValid, empty_ends}
 use Rattle.dwarf_build.specs.Answers.{most_variables}
 use Rattle.dwarf_build.specs.Generated.{generated, generated_encoding, generated_unit, generated_units, unit_variables, base_type}
 use Rattle.dwarf_build.proofs.Drafts.{variable_that}
@@ -52,31 +52,38 @@ table_small u m =
     let same : table_size (settled u) ≡ table_size (made_unit m.from m.count) = ap table_size (settled_as u m) in
     omega (arith, same, table_bounded m.from m.count m.within, m.few)
 
--- where a line program is to begin, among no strings
-abbrev lines_at : ℕ → Elsewhere
-lines_at k = record { line_strings = []; strings = []; lines = record { size = k; is_plain = true } }
+-- where the own parts of units are to begin, each at the begin of its section, among no strings
+abbrev nowhere : Elsewhere
+nowhere = record { line_strings = []; strings = []; ends = empty_ends true }
 
 -- there is nothing elsewhere
 abbrev no_tables : Tables
-no_tables = tables_in None [] []
+no_tables = tables_in (record { line_program = None; ranges = record { base = None; places = [] } }) [] []
 
-made_writes : (k : ℕ) (u : UnitValue) → IsMade u → IsWritable true (lines_at k) u
-made_writes k u m =
-    subst (λ (v : UnitValue). IsWritable true (lines_at k) v) (sym m.is) (
+made_writes : (u : UnitValue) → IsMade u → IsWritable true nowhere u
+made_writes u m =
+    subst (λ (v : UnitValue). IsWritable true nowhere v) (sym m.is) (
       λ err. refl,
       subst (λ (v : UnitValue). IsWritableTree true v.encoding v.entries no_tables) (sym (made_settled m.from m.count)) (made_writable no_tables m.from m.count m.within m.few),
     )
 
-units_writable : (k at : ℕ) (us : List UnitValue) → All IsMade us → at + 84000 * length us < 2 ^ 32 → AreWritable true (lines_at k) at us
-units_writable k at [] made small = tt
-units_writable k at (u ∷ us) made small =
+-- behind such a unit there is still nothing
+past_parts-made : (u : UnitValue) → IsMade u → past_parts nowhere u ≡ nowhere
+past_parts-made u m = ap (past_parts nowhere) m.is
+
+past_made : (u : UnitValue) → IsMade u → past_elsewhere nowhere u ≡ nowhere
+past_made u m = ap (past_elsewhere nowhere) m.is
+
+units_writable : (at : ℕ) (us : List UnitValue) → All IsMade us → at + 84000 * length us < 2 ^ 32 → AreWritable true nowhere at us
+units_writable at [] made small = tt
+units_writable at (u ∷ us) made small =
     let m = All-head IsMade u us made in
     let past : past_table at u ≡ at + table_size (settled u) = ap (λ (v : UnitValue). past_table at v) m.is ∙ ap (λ (v : UnitValue). at + table_size (settled v)) (sym m.is) in
-    let lines : past_elsewhere (lines_at k) u ≡ lines_at (k + 0) = ap (past_elsewhere (lines_at k)) m.is in
+    let found : past_elsewhere nowhere u ≡ nowhere = past_made u m in
     let format : word_of u.encoding.format ≡ 4 = ap (λ (v : UnitValue). word_of v.encoding.format) m.is in
-    let others = units_writable (k + 0) (past_table at u) us (All-tail IsMade u us made) (omega (arith, past, small, table_small u m)) in (
-      inr (made_writes k u m, ap (λ w. fits w at) format ∙ lt-ltb at (2 ^ 32) (omega (arith, small))),
-      subst (λ (t : Elsewhere). AreWritable true t (past_table at u) us) (sym lines) others,
+    let others = units_writable (past_table at u) us (All-tail IsMade u us made) (omega (arith, past, small, table_small u m)) in (
+      inr (made_writes u m, ap (λ w. fits w at) format ∙ lt-ltb at (2 ^ 32) (omega (arith, small))),
+      subst (λ (t : Elsewhere). AreWritable true t (past_table at u) us) (sym found) others,
     )
 
 -- References across units
@@ -137,37 +144,39 @@ unit_to_root from n within k =
     (marks_to_root es u (made_marks n) (each_mark HasRootAlone from n within (root_alone n) base_alone variable_alone)))
 
 -- a unit as it is numbered
-abbrev numbered_as : (n k : ℕ) (u : UnitValue) (m : IsMade u) → settled_at n (lines_at k) u ≡ record { id = n; unit = made_unit m.from m.count; tables = no_tables }
-numbered_as n k u m =
-    ap (settled_at n (lines_at k)) m.is
+abbrev numbered_as : (n : ℕ) (u : UnitValue) (m : IsMade u) → settled_at n nowhere u ≡ record { id = n; unit = made_unit m.from m.count; tables = no_tables }
+numbered_as n u m =
+    ap (settled_at n nowhere) m.is
     ∙ ap (λ (v : UnitValue). let x : Numbered = record { id = n; unit = v; tables = no_tables } in x) (made_settled m.from m.count)
 
 -- where units stand one behind another
 abbrev kept_of : Starts → (u : UnitValue) → IsMade u → Kept
 kept_of at u m = record { starts = at; places = made_places no_tables m.from m.count }
 
-abbrev row_of : (n k : ℕ) → Starts → (us : List UnitValue) → All IsMade us → List Kept
-row_of n k at [] made = []
-row_of n k at (u ∷ us) made =
+abbrev row_of : (n : ℕ) → Starts → (us : List UnitValue) → All IsMade us → List Kept
+row_of n at [] made = []
+row_of n at (u ∷ us) made =
     let place = kept_of at u (All-head IsMade u us made) in
-    place ∷ row_of (suc n) (k + line_size u) (past_kept at (settled_at n (lines_at k) u) place) us (All-tail IsMade u us made)
+    place ∷ row_of (suc n) (past_kept at (settled_at n nowhere u) place) us (All-tail IsMade u us made)
 
-made_row : (n k : ℕ) (at : Starts) (us : List UnitValue) (made : All IsMade us) → AreInRow at (numbered_from n (lines_at k) us) (row_of n k at us made)
-made_row n k at [] made = tt
-made_row n k at (u ∷ us) made =
+made_row : (n : ℕ) (at : Starts) (us : List UnitValue) (made : All IsMade us) → AreInRow at (numbered_from n nowhere us) (row_of n at us made)
+made_row n at [] made = tt
+made_row n at (u ∷ us) made =
     let m = All-head IsMade u us made in
     let place = kept_of at u m in (
-      subst (λ (x : Numbered). StandsAt at x place) (sym (numbered_as n k u m)) (made_stands no_tables m.from m.count m.within m.few at),
-      made_row (suc n) (k + line_size u) (past_kept at (settled_at n (lines_at k) u) place) us (All-tail IsMade u us made),
+      subst (λ (x : Numbered). StandsAt at x place) (sym (numbered_as n u m)) (made_stands no_tables m.from m.count m.within m.few at),
+      subst (λ t. AreInRow (past_kept at (settled_at n nowhere u) place) (numbered_from (suc n) t us) (row_of (suc n) (past_kept at (settled_at n nowhere u) place) us (All-tail IsMade u us made))) (sym (past_parts-made u m))
+          (made_row (suc n) (past_kept at (settled_at n nowhere u) place) us (All-tail IsMade u us made)),
     )
 
-row_to_root : (n k : ℕ) (at : Starts) (us : List UnitValue) (made : All IsMade us) → AreToRoot (units_draft (numbered_from n (lines_at k) us) (row_of n k at us made)).holes
-row_to_root n k at [] made = tt
-row_to_root n k at (u ∷ us) made =
+row_to_root : (n : ℕ) (at : Starts) (us : List UnitValue) (made : All IsMade us) → AreToRoot (units_draft (numbered_from n nowhere us) (row_of n at us made)).holes
+row_to_root n at [] made = tt
+row_to_root n at (u ∷ us) made =
     let m = All-head IsMade u us made in
     let place = kept_of at u m in
-    to_root-then _ _ (subst (λ (x : Numbered). AreToRoot (draft_at x place).holes) (sym (numbered_as n k u m)) (unit_to_root m.from m.count m.within place))
-    (row_to_root (suc n) (k + line_size u) (past_kept at (settled_at n (lines_at k) u) place) us (All-tail IsMade u us made))
+    to_root-then _ _ (subst (λ (x : Numbered). AreToRoot (draft_at x place).holes) (sym (numbered_as n u m)) (unit_to_root m.from m.count m.within place))
+    (subst (λ t. AreToRoot (units_draft (numbered_from (suc n) t us) (row_of (suc n) (past_kept at (settled_at n nowhere u) place) us (All-tail IsMade u us made))).holes) (sym (past_parts-made u m))
+    (row_to_root (suc n) (past_kept at (settled_at n nowhere u) place) us (All-tail IsMade u us made)))
 
 -- the root of the first unit stands behind its header
 module _ (info : Info) (first : info 0 0 ≡ Some 12) where
@@ -183,17 +192,17 @@ module _ (info : Info) (first : info 0 0 ≡ Some 12) where
   holes_sound [] to err = refl
   holes_sound (h ∷ hs) to err = neither (hole_fails info true h err) (holes_fail info true hs err) (hole_sound h to.0 err) (holes_sound hs to.1 err)
 
-references_lead : (us : List UnitValue) → All IsMade us → ReferencesLead true at_begin (numbered (lines_at 0) us)
+references_lead : (us : List UnitValue) → All IsMade us → ReferencesLead true at_begin (numbered nowhere us)
 references_lead [] made = record { kept = []; in_row = tt; lead = λ err. refl }
 references_lead (u ∷ us) made =
     let m = All-head IsMade u us made in
-    let row = row_of 0 0 at_begin (u ∷ us) made in
-    let all = numbered (lines_at 0) (u ∷ us) in
+    let row = row_of 0 at_begin (u ∷ us) made in
+    let all = numbered nowhere (u ∷ us) in
     let first : info_of all row 0 0 ≡ Some 12 = ap (λ k. option_map (λ n. 0 + n) (if k == 0 then None else Some k)) (root_place no_tables m.from m.count) in
     record {
       kept = row;
-      in_row = made_row 0 0 at_begin (u ∷ us) made;
-      lead = holes_sound (info_of all row) first (units_draft all row).holes (row_to_root 0 0 at_begin (u ∷ us) made);
+      in_row = made_row 0 at_begin (u ∷ us) made;
+      lead = holes_sound (info_of all row) first (units_draft all row).holes (row_to_root 0 at_begin (u ∷ us) made);
     }
 
 -- What is generated
@@ -217,7 +226,7 @@ generated_valid n most =
     let few : count ≤ 1001 = omega arith in
     let made = units_made n count few in
     record {
-      units = units_writable 0 0 (generated_units n count) made (omega (arith, length-units n count, few));
+      units = units_writable 0 (generated_units n count) made (omega (arith, length-units n count, few));
       references = references_lead (generated_units n count) made;
       extra = λ err. refl;
     }

@@ -9,11 +9,12 @@ use Rattle.dw_script.specs.Lines.{parsed_line}
 use Rattle.dw_script.specs.Pieces.{newline, pieces}
 use Rattle.dw_script.specs.Fields.{Outcome, ◌>>=◌}
 use Rattle.dw_script.specs.declared.command.Command.{Command}
-use Rattle.dw_script.specs.declared.command.Command.TheVariants.{Order, Unit as AddUnit, String as AddString, LineString as AddLineString, Change as ChangeUnit, Line as ChangeLines}
+use Rattle.dw_script.specs.declared.command.Command.TheVariants.{Order, Unit as AddUnit, String as AddString, LineString as AddLineString, Change as ChangeUnit, Line as ChangeLines, RangeList as AddRanges}
 use Rattle.dw_script.specs.declared.change.Change.{Change}
 use Rattle.dw_script.specs.declared.change.Change.TheVariants as change
 use Rattle.dw_script.specs.declared.line_change.LineChange.{LineChange}
 use Rattle.dw_script.specs.declared.line_change.LineChange.TheVariants as change_lines
+use Rattle.dw_script.specs.declared.range.ScriptRange.{ScriptRange}
 use Rattle.dw_script.specs.declared.reason.Reason.{Reason}
 use Rattle.dw_script.specs.declared.reason.Reason.TheVariants.{OrderNotFirst, NoSuchUnit, NoSuchEntry, NotReserved, BadTag, BadName, ZeroByte, NoLineProgram, NoSuchDirectory, InSequence, NotInSequence, NoSuchFile, AddressBack}
 use Rattle.dw_entries.specs.Content.{has_zero}
@@ -23,6 +24,7 @@ use Rattle.dw_unit.specs.UnitValue.{UnitValue, new_unit, is_reserved}
 use Rattle.dwarf_build.specs.Script.{with_units, with_unit_changed, after_change, after_string, after_line_string, after_command, after_asked, after_line, after_lines, script, IsOpen, AreOpen}
 use Rattle.dwarf_build.specs.LineChanges.{CountsBytes, with_next_row, after_program_change, after_line_change}
 use Rattle.dwarf_build.specs.Names.{name_of, listed_name}
+use Rattle.dwarf_build.specs.RangeLists.{after_range_list}
 use Rattle.dwarf_build.specs.ScriptValue.{ScriptValue, empty_script}
 use Rattle.dwarf_build.specs.declared.script.Refusal.{Refusal}
 
@@ -138,6 +140,9 @@ line_change_leaves c u v e h = by_program (after_program_change c u.encoding u.l
     by_program (Ok p) is e = allowed IsOpen (record u { line_program = p }) v e (h.0, h.1, program_change_leaves c u.encoding u.line_program p is h.2)
     by_program (Err reason) is e = let clash : ◌≡◌ {A = Outcome UnitValue} (Err reason) (Ok v) = e in absurd cc
 
+range_list_leaves : (ranges : List ScriptRange) → LeavesOpen (after_range_list ranges)
+range_list_leaves ranges u v e h = allowed IsOpen _ v e h
+
 command_open : (s : ScriptValue) (c : Command) → AreOpen s.dwarf.units → IfBuilds (after_command s c)
 command_open s (Order o) h = order_open s.has_begun s (record s { endian = o; has_begun = true }) h
 command_open s (AddUnit e) h = unit_open s e h
@@ -145,6 +150,7 @@ command_open s (AddString bytes) h = strings_open (after_string s) (λ text. h) 
 command_open s (AddLineString bytes) h = strings_open (after_line_string s) (λ text. h) bytes (has_zero bytes)
 command_open s (ChangeUnit unit c) h = changed_open (after_change c) s s.dwarf.units unit (change_leaves c) h
 command_open s (ChangeLines unit c) h = changed_open (after_line_change c) s s.dwarf.units unit (line_change_leaves c) h
+command_open s (AddRanges unit ranges) h = changed_open (after_range_list ranges) s s.dwarf.units unit (range_list_leaves ranges) h
 
 asked_open : (s : ScriptValue) (r : Outcome (Option Command)) → AreOpen s.dwarf.units → IfBuilds (r >>= after_asked s)
 asked_open s (Ok None) h = h

@@ -4,8 +4,8 @@ use Rattle.dw_base.specs.Order.{is_big_of}
 use Rattle.dw_base.specs.declared.error.Error.{Error}
 use Rattle.dw_unit.specs.Built.{at_begin}
 use Rattle.dw_dwarf.specs.DwarfValue.{DwarfValue}
-use Rattle.dw_dwarf.specs.Valid.{IsValid, DwarfFails, no_lines}
-use Rattle.dw_dwarf.specs.Written.{SectionTexts, AreTextsOf}
+use Rattle.dw_dwarf.specs.Valid.{IsValid, DwarfFails, empty_ends}
+use Rattle.dw_dwarf.specs.Written.{SectionTexts, AreTextsOf, one_order}
 use Rattle.dw_base.specs.Faults.{HasRisen}
 use Rattle.dw_ends.specs.Ends.{Input, Intake, used_up, with_after, TakesPrefix}
 use Rattle.dw_script.specs.Numbers.{number_below}
@@ -50,19 +50,19 @@ longest_script = 16777216
 abbrev pub IsShort : List ℕ → Type 0
 IsShort bytes = length bytes ≤ longest_script
 
--- the listing of sections that are read as exactly the script's units, with their line programs and strings in their
--- sections and nothing in the others. It comes, with status 0, only for valid units, so that each reference in it names an
+-- the listing of sections that are read as exactly the script's units, with their line programs, range lists and strings in
+-- their sections and nothing in the others. It comes, with status 0, only for valid units, so that each reference in it names an
 -- entry of its unit's tree
 pub record ListsScript (s : ScriptValue) (text : List ℕ) : Type 0 where
   pub texts : SectionTexts
   pub valid : IsValid true s.dwarf
-  pub are : AreTextsOf (is_big_of s.endian) (is_big_of s.endian) s.dwarf texts
+  pub are : AreTextsOf (one_order (is_big_of s.endian)) s.dwarf texts
   pub listed : text ≡ sections_text (is_big_of s.endian) texts
 
--- A plain writer can't take some unit, where its table and its line program stand behind those of the units before it, or some
+-- A plain writer can't take some unit, where its table and its own parts of other sections stand behind those of the units before it, or some
 -- reference across units leads to no entry, or to one whose place has no room.
 abbrev pub HasFault : DwarfValue → Error → Type 0
-HasFault d error = DwarfFails true at_begin (no_lines true) d error
+HasFault d error = DwarfFails true at_begin (empty_ends true) d error
 
 -- some unit of the script, or a reference across them, can't be written, and the text says why
 pub record IsWriteRefusal (s : ScriptValue) (text : List ℕ) : Type 0 where
@@ -104,7 +104,7 @@ pub record SaysRead (left : Option (List ℕ)) (status : Status) (text : List �
 -- the summary of sections that are read as exactly what is generated for a number, with nothing in other sections
 pub record SaysMade (number : ℕ) (text : List ℕ) : Type 0 where
   pub texts : SectionTexts
-  pub are : AreTextsOf false false (generated number) texts
+  pub are : AreTextsOf (one_order false) (generated number) texts
   pub says : text ≡ summary_text (generated number) texts
 
 -- the words ask for a number, and this is said of what is generated for it

@@ -3,6 +3,7 @@ pub mod ScriptValue
 pub mod LineChanges
 pub mod Expressions
 pub mod OpenOperations
+pub mod RangeLists
 pub mod Script
 pub mod Generated
 pub mod Drafted

@@ -8,7 +8,7 @@ ghost use Rattle.dwarf_build.specs.Script.{attribute_value, after_change, after_
 use crate::expressions::owned_expression;
 use crate::script::CommandError;
 use dw_base::constants::DW_AT_sibling;
-use dw_base::{DwAt, DwTag, FileId, LineStringId, StringId, UnitEntryId};
+use dw_base::{DwAt, DwTag, FileId, LineStringId, RangeListId, StringId, UnitEntryId};
 use dw_script::{Change, Reason, Value};
 use dw_unit::{AttributeValue, Unit};
 use dw_writer::Bytes;
@@ -213,6 +213,10 @@ fn owned_value(alloc: Global, value: Value<'_>) -> Result<AttributeValue, AllocE
         Value::LineStringRef(string) => {
             AttributeValue::LineStringRef(LineStringId::new(string as usize))
         }
+        Value::RangeListRef(list) => {
+            AttributeValue::RangeListRef(RangeListId::new(list as usize))
+        }
+        Value::RangeListsBase => AttributeValue::RangeListsBase,
         Value::LineProgramRef => AttributeValue::LineProgramRef,
         Value::FileIndex(None) => AttributeValue::FileIndex(None),
         Value::FileIndex(Some(file)) => AttributeValue::FileIndex(Some(FileId::new(file))),

@@ -2,33 +2,26 @@
 #![tactic(auto)]
 
 mod answer;
-mod entries;
 #[cfg(test)]
-mod expression_tests;
+mod case_tests;
+#[cfg(test)]
+mod cases;
+mod entries;
 mod expressions;
 #[cfg(test)]
-mod line_program_tests;
+mod generated_tests;
 mod line_programs;
 mod listing;
 mod make;
 #[cfg(test)]
 mod make_tests;
-#[cfg(test)]
-mod reference_tests;
+mod range_lists;
 pub mod run;
 mod script;
 mod status;
-#[cfg(test)]
-mod string_tests;
 mod summary;
 #[cfg(test)]
 mod tests;
-#[cfg(test)]
-mod tree_tests;
-#[cfg(test)]
-mod units_tests;
-#[cfg(test)]
-mod value_tests;
 mod write;
 
 ghost use Rattle.std.specs.Prelude.{◌≡◌, ◌⊎◌, IfErr};

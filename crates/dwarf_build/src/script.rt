@@ -8,9 +8,10 @@ ghost use Rattle.dwarf_build.specs.ScriptValue.{script_in};
 
 use crate::entries::{apply_change, index_below};
 use crate::line_programs::apply_line_change;
+use crate::range_lists::add_range_list;
 use dw_base::{Encoding, RunTimeEndian, UnitId};
 use dw_dwarf::Dwarf;
-use dw_script::{Change, Command, HexBytes, LineChange, Reason, lines, parse_line};
+use dw_script::{Change, Command, HexBytes, LineChange, RangeFields, Reason, lines, parse_line};
 use dw_unit::{LineProgram, Unit};
 use std::alloc::Global;
 
@@ -96,6 +97,7 @@ impl Script {
             Command::LineString(bytes) => self.add_line_string(alloc, &bytes),
             Command::Change { unit, change } => self.change_unit(alloc, unit, change),
             Command::Line { unit, change } => self.change_line_program(alloc, unit, change),
+            Command::RangeList { unit, ranges } => self.add_range_list(alloc, unit, &ranges),
         }
     }
 
@@ -198,6 +200,25 @@ impl Script {
         let index = index_below(unit, self.dwarf.units.count(), Reason::NoSuchUnit)?;
         let unit = self.dwarf.units.get_mut(UnitId::new(index));
         apply_line_change(alloc, unit, change)?;
+        self.has_begun = true;
+        Ok(())
+    }
+
+    fn add_range_list(
+        &mut self,
+        alloc: Global,
+        unit: u64,
+        ranges: &RangeFields<'_>,
+    ) -> Result<(), CommandError>
+        ensures ok { OnOk result
+            (after_command (script_in self.old) (Command.RangeList unit ranges.now)
+            ≡ Ok (script_in self.new)) }
+        ensures err { IfErr result
+            (RefusedFor (after_command (script_in self.old) (Command.RangeList unit ranges.now))) }
+    {
+        let index = index_below(unit, self.dwarf.units.count(), Reason::NoSuchUnit)?;
+        let unit = self.dwarf.units.get_mut(UnitId::new(index));
+        add_range_list(alloc, unit, ranges)?;
         self.has_begun = true;
         Ok(())
     }

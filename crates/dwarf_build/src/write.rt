@@ -5,7 +5,7 @@ ghost use Rattle.dw_base.specs.Order.{is_big_of};
 ghost use Rattle.dw_base.specs.declared.error.Error.TheVariants.{NoMemory};
 ghost use Rattle.dw_dwarf.specs.DwarfValue.{dwarf_in};
 ghost use Rattle.dw_dwarf.specs.Valid.{AreUnwritten, IsValid};
-ghost use Rattle.dw_dwarf.specs.Written.{HoldsDwarf};
+ghost use Rattle.dw_dwarf.specs.Written.{HoldsDwarf, orders_of, one_order};
 ghost use Rattle.dwarf_build.specs.Answers.{HasFault};
 
 use dw_base::{Result, RunTimeEndian};
@@ -21,10 +21,9 @@ pub(crate) fn write_new(
 ) -> Result<Sections<EndianVec<RunTimeEndian>>>
     requires { AreUnwritten (dwarf_in dwarf.old) }
     ensures valid { IfOk result (λ _. IsValid true (dwarf_in dwarf.old)) }
-    ensures order { IfOk result (λ s.
-        (⟦<EndianVec<RunTimeEndian> as Writer>⟧.meaning s.debug_info.0).is_big ≡ is_big_of endian) }
-    ensures lines_order { IfOk result (λ s.
-        (⟦<EndianVec<RunTimeEndian> as Writer>⟧.meaning s.debug_line.0).is_big ≡ is_big_of endian) }
+    ensures orders { IfOk result (λ s.
+        orders_of ⟦<EndianVec<RunTimeEndian> as Writer>⟧.meaning s
+        ≡ one_order (is_big_of endian)) }
     ensures holds { IfOk result (λ s.
         HoldsDwarf ⟦<EndianVec<RunTimeEndian> as Writer>⟧.meaning s (dwarf_in dwarf.old)) }
     ensures err { IfErr result (λ e. e ≢ NoMemory → HasFault (dwarf_in dwarf.old) e) }

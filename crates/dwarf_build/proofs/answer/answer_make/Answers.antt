@@ -27,7 +27,7 @@ returns-clause-ok c =
     let told_abbrevs = rw c.section-2.ensures at c.slice-abbrev.ensures.bytes in
     let answer = c.in_ok-answer_with in (
       answer.ensures.0,
-      made_told _ c.args.count (dwarf_in c.in_ok-dwarf.dwarf) c.in_ok-sections.sections answer.field-0.text.items info abbrevs c.in_ok-dwarf.ensures.ok c.in_ok-sections.ensures.holds c.in_ok-sections.ensures.order c.in_ok-sections.ensures.lines_order
+      made_told _ c.args.count (dwarf_in c.in_ok-dwarf.dwarf) c.in_ok-sections.sections answer.field-0.text.items info abbrevs c.in_ok-dwarf.ensures.ok c.in_ok-sections.ensures.holds c.in_ok-sections.ensures.orders
           (sym told_info) (sym told_abbrevs)
           (answer.ensures.1 ∙ c.as_bytes.ensures.value ∙ says),
     )

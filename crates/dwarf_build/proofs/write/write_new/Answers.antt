@@ -4,23 +4,22 @@ use Rattle.dw_base.specs.Order.{is_big_of}
 use Rattle.dw_writer.proofs.FaultLaws.{SomeHasRisen-never}
 use Rattle.dw_writer.proofs.NewLemmas.{IsNewPlain-from_all_mean}
 use Rattle.dw_dwarf.specs.DwarfValue.{dwarf_in}
-use Rattle.dw_dwarf.proofs.Held.{AreNewPlain-from, same_order}
+use Rattle.dw_dwarf.proofs.Held.{AreNewPlain-from, same_order, orders_are}
 use Rattle.dwarf_build.proofs.Faulty.{dwarf_faulty}
 use Rattle.dwarf_build.proofs.write.write_new.Goals as goal
 
-pub returns-clause-order : goal.returns-clause-order
-returns-clause-order c =
+pub returns-clause-orders : goal.returns-clause-orders
+returns-clause-orders c =
     let empty = rw c.new.ensures at c.in_ok-sections.ensures.writers in
     let new = IsNewPlain-from_all_mean _ (is_big_of c.args.endian) _ _ empty c.in_ok-sections.ensures.fixups
     (record { bytes = refl; size = refl; records = refl; order = refl; plain = refl }) in
-    same_order _ _ _ _ _ _ new.fixups.info c.in_ok-write.ensures.completes ∙ new.writers.debug_info.order
-
-pub returns-clause-lines_order : goal.returns-clause-lines_order
-returns-clause-lines_order c =
-    let empty = rw c.new.ensures at c.in_ok-sections.ensures.writers in
-    let new = IsNewPlain-from_all_mean _ (is_big_of c.args.endian) _ _ empty c.in_ok-sections.ensures.fixups
-    (record { bytes = refl; size = refl; records = refl; order = refl; plain = refl }) in
-    c.in_ok-write.ensures.lines.text_is.same.order ∙ new.writers.debug_line.order
+    let w = new.writers in
+    let wrote = c.in_ok-write.ensures in
+    orders_are _ (is_big_of c.args.endian)
+    (same_order _ _ _ _ _ _ new.fixups.info wrote.completes ∙ w.debug_info.order)
+    (wrote.lines.text_is.same.order ∙ w.debug_line.order)
+    (wrote.ranges.ranges.same.order ∙ w.debug_ranges.order)
+    (wrote.ranges.range_lists.same.order ∙ w.debug_rnglists.order)
 
 pub returns-in_err-write-clause-err : goal.returns-in_err-write-clause-err
 returns-in_err-write-clause-err c =
