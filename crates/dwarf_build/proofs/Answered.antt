@@ -8,7 +8,7 @@ use Rattle.dw_dwarf.specs.Written.{SectionTexts, AreTextsOf, TellTexts, HoldsDwa
 use Rattle.dwarf_build.specs.Texts.{sections_text}
 use Rattle.dwarf_build.specs.Listed.{ListsSections}
 use Rattle.dwarf_build.specs.Answers.{ListsScript}
-use Rattle.dwarf_build.specs.ScriptValue.{ScriptValue}
+use Rattle.dw_build.specs.ScriptValue.{ScriptValue}
 use Rattle.dw_base.specs.Order.{is_big_of}
 
 same_told : {a b : List ℕ} {o : Option (List ℕ)} → o ≡ Some a → o ≡ Some b → a ≡ b

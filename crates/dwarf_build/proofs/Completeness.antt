@@ -4,10 +4,10 @@ use Rattle.std.specs.Prelude.{◌⊎◌, true, Option, Some, None, Result, Ok, E
 use Rattle.dw_dwarf.specs.Valid.{IsValid}
 use Rattle.dw_base.specs.Faults.{HasRisen}
 use Rattle.dw_ends.specs.Ends.{Intake}
-use Rattle.dwarf_build.specs.Script.{script}
+use Rattle.dw_build.specs.Script.{script}
 use Rattle.dwarf_build.specs.Answers.{IsBuild, IsShort, HasFault, Says, Prints, code_of, made_of}
-use Rattle.dwarf_build.specs.ScriptValue.{ScriptValue}
-use Rattle.dwarf_build.specs.declared.script.Refusal.{Refusal}
+use Rattle.dw_build.specs.ScriptValue.{ScriptValue}
+use Rattle.dw_build.specs.declared.script.Refusal.{Refusal}
 use Rattle.dwarf_build.specs.declared.status.Status.{Status}
 use Rattle.dwarf_build.specs.declared.status.Status.TheVariants.{Listed, Usage, ScriptRefused, WriteRefused, SourceFailed, SinkFailed, NoMemory, TooLong}
 use Rattle.dwarf_build.proofs.Faulty.{valid_faultless}

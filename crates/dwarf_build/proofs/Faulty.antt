@@ -13,7 +13,7 @@ use Rattle.dw_dwarf.specs.Written.{AreNewPlain, AreNew}
 use Rattle.dw_dwarf.proofs.Complete.{AreNew-from_plain, dwarf_fails, valid_unfailing}
 use Rattle.dwarf_build.specs.Answers.{HasFault, SaysOf}
 use Rattle.dwarf_build.specs.Texts.{refused_text}
-use Rattle.dwarf_build.specs.ScriptValue.{ScriptValue}
+use Rattle.dw_build.specs.ScriptValue.{ScriptValue}
 use Rattle.dwarf_build.specs.declared.status.Status.{Status}
 use Rattle.dwarf_build.specs.declared.status.Status.TheVariants.{WriteRefused}
 

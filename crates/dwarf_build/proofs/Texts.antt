@@ -3,7 +3,7 @@ use Rattle.std.proofs.Common.{◌≡◌, sym, ℕ, List, length, ◌++◌, appen
 use Rattle.std.specs.Prelude.{codes, decimal, sum}
 use Rattle.dw_script.specs.Reasons.{reason_text}
 use Rattle.dwarf_build.specs.Texts.{refusal_text, counts_text}
-use Rattle.dwarf_build.specs.declared.script.Refusal.{Refusal}
+use Rattle.dw_build.specs.declared.script.Refusal.{Refusal}
 
 pub refusal_text-grouped : (r : Refusal) → codes "line " ++ (decimal r.line ++ (codes ": " ++ (reason_text r.reason ++ codes "\n"))) ≡ refusal_text r
 refusal_text-grouped r = sym (simp append_assoc)

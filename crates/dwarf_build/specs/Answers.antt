@@ -10,14 +10,14 @@ use Rattle.dw_base.specs.Faults.{HasRisen}
 use Rattle.dw_ends.specs.Ends.{Input, Intake, used_up, with_after, TakesPrefix}
 use Rattle.dw_script.specs.Numbers.{number_below}
 use Rattle.dwarf_build.specs.Generated.{generated}
-use Rattle.dwarf_build.specs.Script.{script}
+use Rattle.dw_build.specs.Script.{script}
 use Rattle.dwarf_build.specs.Texts.{usage_text, too_long_text, refusal_text, refused_text, sections_text, summary_text}
 use Rattle.dwarf_build.specs.declared.answer.Stop.{Stop}
 use Rattle.dwarf_build.specs.declared.answer.Stop.TheVariants as stop
 use Rattle.dwarf_build.specs.declared.status.Status.{Status}
 use Rattle.dwarf_build.specs.declared.status.Status.TheVariants.{Listed, Usage, ScriptRefused, WriteRefused, SourceFailed, SinkFailed, NoMemory, TooLong}
-use Rattle.dwarf_build.specs.ScriptValue.{ScriptValue}
-use Rattle.dwarf_build.specs.declared.script.Refusal.{Refusal}
+use Rattle.dw_build.specs.ScriptValue.{ScriptValue}
+use Rattle.dw_build.specs.declared.script.Refusal.{Refusal}
 
 -- the words are the command that reads a script
 abbrev pub IsBuild : List (List ℕ) → Type 0

@@ -1,10 +1,3 @@
-pub mod Names
-pub mod ScriptValue
-pub mod LineChanges
-pub mod Expressions
-pub mod OpenOperations
-pub mod RangeLists
-pub mod Script
 pub mod Generated
 pub mod Drafted
 pub mod Texts

@@ -8,7 +8,7 @@ use Rattle.dw_dwarf.specs.Written.{SectionTexts}
 use Rattle.dw_dwarf.specs.DwarfValue.{DwarfValue}
 use Rattle.dw_ends.specs.Listing.{listing}
 use Rattle.dw_script.specs.Reasons.{reason_text}
-use Rattle.dwarf_build.specs.declared.script.Refusal.{Refusal}
+use Rattle.dw_build.specs.declared.script.Refusal.{Refusal}
 
 -- the commands
 abbrev pub usage_text : List ℕ

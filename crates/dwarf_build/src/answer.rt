@@ -4,17 +4,17 @@ ghost use Rattle.std.specs.Prelude.{◌≡◌, ◌≢◌, ◌+◌, ◌≤◌, �
 ghost use Rattle.dw_base.specs.declared.error.Error.TheVariants.{NoMemory};
 ghost use Rattle.dw_script.specs.Numbers.{number_below};
 ghost use Rattle.dwarf_build.specs.Answers.{IsBuild, LeavesUnread, Says, SaysOf, SaysBuild, SaysMade, Reads, StopsFor, made_of, most_variables};
-ghost use Rattle.dwarf_build.specs.Script.{AreOpen};
-ghost use Rattle.dwarf_build.specs.ScriptValue.{script_in};
+ghost use Rattle.dw_build.specs.Script.{AreOpen};
+ghost use Rattle.dw_build.specs.ScriptValue.{script_in};
 ghost use Rattle.dwarf_build.specs.Texts.{refusal_text, refused_text};
 
 use crate::listing::list_sections;
 use crate::make::generate;
-use crate::script::{Refusal, SCRIPT_LIMIT, Script, ScriptError, read_script};
 use crate::status::Status;
 use crate::summary::{Counts, summarize};
 use crate::write::write_new;
 use dw_base::{Error, RunTimeEndian};
+use dw_build::{Refusal, SCRIPT_LIMIT, Script, ScriptError, read_script};
 use dw_ends::{ReadAllError, Source, read_all};
 use dw_script::parse_u64;
 use dw_writer::Section;

@@ -6,18 +6,13 @@ mod answer;
 mod case_tests;
 #[cfg(test)]
 mod cases;
-mod entries;
-mod expressions;
 #[cfg(test)]
 mod generated_tests;
-mod line_programs;
 mod listing;
 mod make;
 #[cfg(test)]
 mod make_tests;
-mod range_lists;
 pub mod run;
-mod script;
 mod status;
 mod summary;
 #[cfg(test)]

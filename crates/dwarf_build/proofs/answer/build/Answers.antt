@@ -1,5 +1,5 @@
-use Rattle.dwarf_build.specs.ScriptValue.{script_in}
-use Rattle.dwarf_build.proofs.ScriptUnits.{script_open}
+use Rattle.dw_build.specs.ScriptValue.{script_in}
+use Rattle.dw_build.proofs.ScriptUnits.{script_open}
 use Rattle.dwarf_build.proofs.answer.build.Goals as goal
 
 pub write_script-requires : goal.write_script-requires

@@ -1,4 +1,4 @@
-use Rattle.dwarf_build.specs.ScriptValue.{script_in}
+use Rattle.dw_build.specs.ScriptValue.{script_in}
 use Rattle.dwarf_build.proofs.Answered.{script_listed}
 use Rattle.dwarf_build.proofs.answer.write_script.Goals as goal
 

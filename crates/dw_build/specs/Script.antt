@@ -17,16 +17,16 @@ use Rattle.dw_line.specs.LinePrograms.{no_line_program}
 use Rattle.dw_unit.specs.UnitValue.{UnitValue, new_unit, is_reserved}
 use Rattle.dw_entries.specs.declared.value.AttributeValue.{AttributeValue}
 use Rattle.dw_entries.specs.declared.value.AttributeValue.TheVariants as stored
-use Rattle.dwarf_build.specs.Expressions.{expression_of}
-use Rattle.dwarf_build.specs.LineChanges.{CountsBytes, after_line_change}
-use Rattle.dwarf_build.specs.Names.{text_of}
-use Rattle.dwarf_build.specs.RangeLists.{after_range_list}
-use Rattle.dwarf_build.specs.ScriptValue.{ScriptValue, empty_script}
-use Rattle.dwarf_build.specs.declared.script.Refusal.{Refusal}
-use Rattle.dwarf_build.specs.declared.script.CommandError.{CommandError}
-use Rattle.dwarf_build.specs.declared.script.CommandError.TheVariants as command
-use Rattle.dwarf_build.specs.declared.script.ScriptError.{ScriptError}
-use Rattle.dwarf_build.specs.declared.script.ScriptError.TheVariants as whole
+use Rattle.dw_build.specs.Expressions.{expression_of}
+use Rattle.dw_build.specs.LineChanges.{CountsBytes, after_line_change}
+use Rattle.dw_build.specs.Names.{text_of}
+use Rattle.dw_build.specs.RangeLists.{after_range_list}
+use Rattle.dw_build.specs.ScriptValue.{ScriptValue, empty_script}
+use Rattle.dw_build.specs.declared.script.Refusal.{Refusal}
+use Rattle.dw_build.specs.declared.script.CommandError.{CommandError}
+use Rattle.dw_build.specs.declared.script.CommandError.TheVariants as command
+use Rattle.dw_build.specs.declared.script.ScriptError.{ScriptError}
+use Rattle.dw_build.specs.declared.script.ScriptError.TheVariants as whole
 
 -- the value that an attribute gets
 abbrev pub attribute_value : Value → AttributeValue

@@ -1,9 +1,9 @@
 -- A script's lines, one more at a time.
 use Rattle.std.proofs.Common.{◌≡◌, ap, ℕ, ◌+◌, List, ◌∷◌}
 use Rattle.std.specs.Prelude.{Result, Ok, Err}
-use Rattle.dwarf_build.specs.Script.{after_line, after_lines}
-use Rattle.dwarf_build.specs.ScriptValue.{ScriptValue}
-use Rattle.dwarf_build.specs.declared.script.Refusal.{Refusal}
+use Rattle.dw_build.specs.Script.{after_line, after_lines}
+use Rattle.dw_build.specs.ScriptValue.{ScriptValue}
+use Rattle.dw_build.specs.declared.script.Refusal.{Refusal}
 use Rattle.dw_script.specs.declared.reason.Reason.{Reason}
 
 -- what is left to do after line n

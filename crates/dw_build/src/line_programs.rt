@@ -3,9 +3,9 @@
 ghost use Rattle.std.specs.Prelude.{◌≡◌, ◌<◌, ◌≤◌, false, Ok, None, IsSome, IsTrue, IfOk, IfErr, OnOk};
 ghost use Rattle.dw_line.specs.LinePrograms.{is_in_sequence, last_offset_of};
 ghost use Rattle.dw_line.specs.Names.{IsFull, IsName};
-ghost use Rattle.dwarf_build.specs.LineChanges.{CountsBytes, after_begin, after_directory, after_end, after_file, after_line_change, after_row, program_of};
-ghost use Rattle.dwarf_build.specs.Names.{closes_list, listed_name, name_of};
-ghost use Rattle.dwarf_build.specs.Script.{RefusedFor};
+ghost use Rattle.dw_build.specs.LineChanges.{CountsBytes, after_begin, after_directory, after_end, after_file, after_line_change, after_row, program_of};
+ghost use Rattle.dw_build.specs.Names.{closes_list, listed_name, name_of};
+ghost use Rattle.dw_build.specs.Script.{RefusedFor};
 
 use crate::script::{CommandError, text_of};
 use dw_base::{Address, DirectoryId, Encoding, FileId, LineEncoding, LineStringId, StringId};

@@ -1,8 +1,8 @@
 use Rattle.std.proofs.Common.{◌≡◌, ◌+◌, ◌≤◌, length}
 use Rattle.dw_script.specs.Pieces.{lines_left}
-use Rattle.dwarf_build.specs.Script.{script, after_lines, AreOpen}
-use Rattle.dwarf_build.specs.ScriptValue.{script_in}
-use Rattle.dwarf_build.proofs.script.read_script.Given as goal
+use Rattle.dw_build.specs.Script.{script, after_lines, AreOpen}
+use Rattle.dw_build.specs.ScriptValue.{script_in}
+use Rattle.dw_build.proofs.script.read_script.Given as goal
 
 abbrev pub invariant-loop-line : goal.invariant-loop-line
 invariant-loop-line l = record {

@@ -1,8 +1,8 @@
 //! What the lines of a script add to the range lists of a unit.
 
 ghost use Rattle.std.specs.Prelude.{◌≡◌, IfErr, IfOk, Ok, OnOk};
-ghost use Rattle.dwarf_build.specs.RangeLists.{after_range_list, ranges_of, stored_range};
-ghost use Rattle.dwarf_build.specs.Script.{RefusedFor};
+ghost use Rattle.dw_build.specs.RangeLists.{after_range_list, ranges_of, stored_range};
+ghost use Rattle.dw_build.specs.Script.{RefusedFor};
 
 use crate::script::CommandError;
 use dw_lists::{Range, RangeList};

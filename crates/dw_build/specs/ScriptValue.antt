@@ -3,7 +3,7 @@ use Rattle.std.specs.Prelude.{Bool, false, []}
 use Rattle.dw_base.specs.declared.endianity.RunTimeEndian.{RunTimeEndian}
 use Rattle.dw_base.specs.declared.endianity.RunTimeEndian.TheVariants.{Little}
 use Rattle.dw_dwarf.specs.DwarfValue.{DwarfValue, dwarf_in}
-use Rattle.dwarf_build.specs.declared.script.Script.{Script}
+use Rattle.dw_build.specs.declared.script.Script.{Script}
 
 pub record ScriptValue : Type 0 where
   pub endian : RunTimeEndian

@@ -1,10 +1,10 @@
 use Rattle.std.proofs.Common.{◌∙◌, sym, ap, subst, ◌+◌, length, arith}
 use Rattle.dw_script.specs.Pieces.{lines_left}
-use Rattle.dwarf_build.specs.Script.{script, after_lines, AreOpen}
-use Rattle.dwarf_build.specs.ScriptValue.{empty_script, script_in}
-use Rattle.dwarf_build.proofs.Lines.{after_lines-ok}
-use Rattle.dwarf_build.proofs.ScriptUnits.{none_open, line_open}
-use Rattle.dwarf_build.proofs.script.read_script.Goals as goal
+use Rattle.dw_build.specs.Script.{script, after_lines, AreOpen}
+use Rattle.dw_build.specs.ScriptValue.{empty_script, script_in}
+use Rattle.dw_build.proofs.Lines.{after_lines-ok}
+use Rattle.dw_build.proofs.ScriptUnits.{none_open, line_open}
+use Rattle.dw_build.proofs.script.read_script.Goals as goal
 
 pub loop-line-init : goal.loop-line-init
 unfolding script

@@ -2,9 +2,9 @@
 
 ghost use Rattle.std.specs.Prelude.{◌≡◌, ◌≤◌, length, Ok, Err, OnOk, IfOk, IfErr};
 ghost use Rattle.dw_base.specs.Spellable.{IsText};
-ghost use Rattle.dwarf_build.specs.Names.{text_of as text_in};
-ghost use Rattle.dwarf_build.specs.Script.{RefusedFor};
-ghost use Rattle.dwarf_build.specs.ScriptValue.{script_in};
+ghost use Rattle.dw_build.specs.Names.{text_of as text_in};
+ghost use Rattle.dw_build.specs.Script.{RefusedFor};
+ghost use Rattle.dw_build.specs.ScriptValue.{script_in};
 
 use crate::entries::{apply_change, index_below};
 use crate::line_programs::apply_line_change;
@@ -19,6 +19,11 @@ use std::alloc::Global;
 pub const SCRIPT_LIMIT: usize = 16_777_216;
 
 /// What a script has built.
+///
+/// ```
+/// let script = read_script(alloc, b"order big\nunit 5 8 32")?;
+/// let mut sections = Sections::new(alloc, EndianVec::new(alloc, script.endian))?;
+/// ```
 #[derive(Drop)]
 pub struct Script {
     /// The byte order of the sections.
@@ -30,13 +35,24 @@ pub struct Script {
 }
 
 /// The first line that is refused, counted from 1, and why.
+///
+/// ```
+/// if let Err(ScriptError::Refused(refusal)) = read_script(alloc, b"unit 5 8") {
+///     println!(rt; "line {}: {}", refusal.line, refusal.reason.text())?;
+/// }
+/// ```
 #[derive(Clone, Copy, Debug, PartialEq, Eq)]
 pub struct Refusal {
     pub line: usize,
     pub reason: Reason,
 }
 
-/// Why a script wasn't built.
+/// Why a script wasn't built: a line of it is refused, or memory ran out.
+///
+/// ```
+/// let answer = read_script(alloc, script);
+/// let without_memory = matches!(answer, Err(ScriptError::NoMemory));
+/// ```
 #[derive(Clone, Copy, Debug, PartialEq, Eq)]
 pub enum ScriptError {
     Refused(Refusal),
@@ -51,8 +67,8 @@ pub enum CommandError {
 }
 
 impl Script {
-    ghost use Rattle.dwarf_build.specs.ScriptValue.{empty_script};
-    ghost use Rattle.dwarf_build.specs.Script.{after_command, after_line, AreOpen, LineRefused};
+    ghost use Rattle.dw_build.specs.ScriptValue.{empty_script};
+    ghost use Rattle.dw_build.specs.Script.{after_command, after_line, AreOpen, LineRefused};
 
     // Before the first line.
     fn new(alloc: Global) -> Script
@@ -243,9 +259,10 @@ fn refused(line: usize, reason: Reason) -> ScriptError
     ScriptError::Refused(Refusal { line, reason })
 }
 
-ghost use Rattle.dwarf_build.specs.Script.{script, ScriptRefused};
+ghost use Rattle.dw_build.specs.Script.{script, ScriptRefused};
 
-/// Builds what the lines of a script say, one after another, up to the first that is refused.
+/// Builds what the lines of a script say, one after another, up to the first that is refused:
+/// `Refused` tells it, counted from 1, with its reason. A script has at most `SCRIPT_LIMIT` bytes.
 pub fn read_script(alloc: Global, bytes: &[u8]) -> Result<Script, ScriptError>
     requires { length bytes.now ≤ SCRIPT_LIMIT }
     ensures ok { IfOk result (λ s. script bytes.now ≡ Ok (script_in s)) }

@@ -1,0 +1,4 @@
+pub mod Lines
+pub mod ScriptUnits
+mod Worked
+mod WorkedExpressions

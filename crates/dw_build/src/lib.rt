@@ -1,0 +1,11 @@
+//! Builds the DWARF that a script says, line by line. A script's lines are those of `dw_script`;
+//! each is a call on the units that stand.
+#![tactic(auto)]
+
+mod entries;
+mod expressions;
+mod line_programs;
+mod range_lists;
+mod script;
+
+pub use crate::script::{Refusal, SCRIPT_LIMIT, Script, ScriptError, read_script};
