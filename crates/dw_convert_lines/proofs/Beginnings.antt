@@ -1,18 +1,22 @@
 -- Where the lists of directories and files begin, and how their entries are laid out.
-use Rattle.std.proofs.Common.{◌≡◌, sym, ap, subst, ℕ, Bool, true, false, List, [], Result, Ok, Err, refl}
+use Rattle.std.proofs.Common.{◌≡◌, ◌∙◌, sym, ap, subst, inl, inr, ℕ, Bool, true, false, List, [], Result, Ok, Err, refl}
 use Rattle.dw_base.specs.declared.common.Encoding.{Encoding}
 use Rattle.dw_read.specs.Reading.{Reading, left}
 use Rattle.dw_read.specs.declared.error.ReadError.{ReadError}
-use Rattle.dw_read_lines.specs.FileEntryIters.{layout_of, HasParts, BeginsEntries, BeginsBehind, MissesEntries, MissesBehind, BeginsDescribed}
+use Rattle.dw_read_lines.specs.FileEntryIters.{layout_of, HasParts, BeginsEntries, BeginsBehind, MissesEntries, MissesBehind, BeginsOld, BeginsDescribed}
+use Rattle.dw_read_lines.specs.FileEntryFormatIters.{parts_in, OfParts}
 use Rattle.dw_read_lines.specs.LineEntries.{Entry, Layout, Directories, Files, Described, next_read}
 use Rattle.dw_read_lines.specs.declared.file_entries.FileEntryIter.{FileEntryIter}
 use Rattle.dw_read_lines.specs.declared.file_entries.Layout.{Layout as HeldLayout}
 use Rattle.dw_read_lines.specs.declared.file_entries.Layout.TheVariants as held
 use Rattle.dw_sources.specs.ConvertErrors.{from_read}
 use Rattle.dw_sources.specs.declared.convert_error.ConvertError.{ConvertError}
-use Rattle.dw_convert_lines.specs.Entries.{IsOpen, EntriesOutcome}
-use Rattle.dw_convert_lines.specs.HeaderImages.{EntryList, BeginOutcome}
+use Rattle.dw_sources.specs.declared.convert_error.ConvertError.TheVariants.{UnsupportedLineProgram}
+use Rattle.dw_convert_lines.specs.Entries.{IsOpen, IsConvertibleList, FaultyBehind, EntriesOutcome}
+use Rattle.dw_convert_lines.specs.FormatLists.{IsConvertible}
+use Rattle.dw_convert_lines.specs.HeaderImages.{EntryList, FaultyDescription, BeginOutcome}
 use Rattle.dw_convert_lines.specs.Walks.{WalkOutcome}
+use Rattle.dw_convert_lines.proofs.FormatLaws.{none_described}
 
 module _ (R E : Type 0) (reading : R → Reading) where
   abbrev pub list_of : FileEntryIter R E → List (ℕ × ℕ) → EntryList
@@ -28,53 +32,88 @@ module _ (R E : Type 0) (reading : R → Reading) where
     pub open_yet : IsOpen reading i
     pub outcome : BeginOutcome new old big e bytes (Ok (list_of i open_yet.parts))
 
-  pub begins_directories : (new big : Bool) (e : Encoding) (bytes : List ℕ) (i : FileEntryIter R E) → BeginsEntries reading new held.Directories big e bytes i → BeginsList new Directories big e bytes i
-  begins_directories false big e bytes i b = record {
+  -- what the parts of described entries are convertible by
+  convertible_by : (i : FileEntryIter R E) (e : Encoding) (parts : List (ℕ × ℕ)) → IsConvertibleList reading i → HasParts reading i.layout parts → layout_of reading i.layout parts ≡ Described e parts → IsConvertible parts i.remaining
+  convertible_by i e parts c has laid = subst (λ (ps : List (ℕ × ℕ)). IsConvertible ps i.remaining) (ap parts_in laid) (c parts has)
+
+  pub begins_directories : (new big : Bool) (e : Encoding) (bytes : List ℕ) (i : FileEntryIter R E) → BeginsEntries reading new held.Directories big e bytes i → IsConvertibleList reading i → BeginsList new Directories big e bytes i
+  begins_directories false big e bytes i b c = record {
     open_yet = record { parts = []; described = subst (λ (l : HeldLayout R E). HasParts reading l []) (sym b.layout) tt; open_yet = b.not_ended };
     outcome = (ap (λ (l : HeldLayout R E). layout_of reading l []) b.layout, b.input);
   }
-  begins_directories true big e bytes i b = record {
+  begins_directories true big e bytes i b c = record {
     open_yet = record { parts = b.parts; described = b.described; open_yet = b.not_ended };
-    outcome = (b.parts, b.layout, b.input);
+    outcome = (b.parts, b.layout, b.input, convertible_by i e b.parts c b.described b.layout);
   }
 
-  pub laid : (new big : Bool) (e : Encoding) (bytes : List ℕ) (i : FileEntryIter R E) → (b : BeginsEntries reading new held.Directories big e bytes i) → IsLaid new e i.layout (begins_directories new big e bytes i b).open_yet.parts
+  pub laid : (new big : Bool) (e : Encoding) (bytes : List ℕ) (i : FileEntryIter R E) → (b : BeginsEntries reading new held.Directories big e bytes i) (c : IsConvertibleList reading i) → IsLaid new e i.layout (begins_directories new big e bytes i b c).open_yet.parts
   unfolding begins_directories
-  laid false big e bytes i b = b.layout
-  laid true big e bytes i b = b.layout
+  laid false big e bytes i b c = b.layout
+  laid true big e bytes i b c = b.layout
 
-  pub misses_directories : (new big : Bool) (e : Encoding) (bytes : List ℕ) (why : ReadError) → MissesEntries new big bytes why → BeginOutcome new Directories big e bytes (Err (from_read why))
-  misses_directories false big e bytes why h = h
-  misses_directories true big e bytes why h = (why, h, refl)
+  pub misses_directories : (new big : Bool) (e : Encoding) (bytes : List ℕ) (why : ReadError) (x : ConvertError) → MissesEntries new big bytes why → x ≡ from_read why → BeginOutcome new Directories big e bytes (Err x)
+  misses_directories false big e bytes why x h q = h
+  misses_directories true big e bytes why x h q = inl (record { error = why; reason = h; is = q })
+
+  -- entries up to version 4 have no description that could be at fault
+  convertible_old : (l : HeldLayout R E) (old : Layout) (bytes : List ℕ) (i : FileEntryIter R E) → BeginsOld reading l bytes i → ((parts : List (ℕ × ℕ)) → layout_of reading l parts ≡ old) → parts_in old ≡ [] → HasParts reading l [] → (OfParts reading i (λ parts. IsConvertible parts i.remaining → ⊥)) → ⊥
+  convertible_old l old bytes i b laid none has refused =
+      let here : HasParts reading i.layout [] = subst (λ (k : HeldLayout R E). HasParts reading k []) (sym b.layout) has in
+      let q : parts_in (layout_of reading i.layout []) ≡ [] = ap (λ (k : HeldLayout R E). parts_in (layout_of reading k [])) b.layout ∙ (ap parts_in (laid []) ∙ none) in
+      refused [] here (subst (λ (ps : List (ℕ × ℕ)). IsConvertible ps i.remaining) (sym q) (subst (λ (n : ℕ). IsConvertible [] n) (sym b.uncounted) none_described))
+
+  refuses_described : (big : Bool) (e : Encoding) (bytes : List ℕ) (i : FileEntryIter R E) (x : ConvertError) → BeginsDescribed reading big e bytes i → OfParts reading i (λ parts. IsConvertible parts i.remaining → ⊥) → x ≡ UnsupportedLineProgram → FaultyDescription big bytes x
+  refuses_described big e bytes i x b refused q = inr (record {
+    parts = b.parts;
+    count = i.remaining;
+    rest = left (reading i.input);
+    described = b.input;
+    inconvertible = λ c. refused b.parts b.described (subst (λ (ps : List (ℕ × ℕ)). IsConvertible ps i.remaining) (sym (ap parts_in b.layout)) c);
+    is = q;
+  })
+
+  pub refuses_directories : (new big : Bool) (e : Encoding) (bytes : List ℕ) (i : FileEntryIter R E) (x : ConvertError) → BeginsEntries reading new held.Directories big e bytes i → OfParts reading i (λ parts. IsConvertible parts i.remaining → ⊥) → x ≡ UnsupportedLineProgram → BeginOutcome new Directories big e bytes (Err x)
+  refuses_directories false big e bytes i x b refused q = convertible_old held.Directories Directories bytes i b (λ _. refl) refl tt refused
+  refuses_directories true big e bytes i x b refused q = refuses_described big e bytes i x b refused q
 
   same_encoding : (a b : Encoding) (parts : List (ℕ × ℕ)) → Described a parts ≡ Described b parts → a ≡ b
   same_encoding a b parts h = cc
 
-  begins_described : (big : Bool) (e : Encoding) (bytes : List ℕ) (i : FileEntryIter R E) → BeginsDescribed reading big e bytes i → BeginsList true Files big e bytes i
-  begins_described big e bytes i b = record {
+  begins_described : (big : Bool) (e : Encoding) (bytes : List ℕ) (i : FileEntryIter R E) → BeginsDescribed reading big e bytes i → IsConvertibleList reading i → BeginsList true Files big e bytes i
+  begins_described big e bytes i b c = record {
     open_yet = record { parts = b.parts; described = b.described; open_yet = b.not_ended };
-    outcome = (b.parts, b.layout, b.input);
+    outcome = (b.parts, b.layout, b.input, convertible_by i e b.parts c b.described b.layout);
   }
 
-  pub begins_files : (new : Bool) (l : HeldLayout R E) (r : Reading) (e : Encoding) (parts : List (ℕ × ℕ)) (i : FileEntryIter R E) → IsLaid new e l parts → BeginsBehind reading l r i → BeginsList new Files r.is_big e (left r) i
-  begins_files false held.Directories r e parts i h b = record {
+  pub begins_files : (new : Bool) (l : HeldLayout R E) (r : Reading) (e : Encoding) (parts : List (ℕ × ℕ)) (i : FileEntryIter R E) → IsLaid new e l parts → BeginsBehind reading l r i → IsConvertibleList reading i → BeginsList new Files r.is_big e (left r) i
+  begins_files false held.Directories r e parts i h b c = record {
     open_yet = record { parts = []; described = subst (λ (l : HeldLayout R E). HasParts reading l []) (sym b.layout) tt; open_yet = b.not_ended };
     outcome = (ap (λ (l : HeldLayout R E). layout_of reading l []) b.layout, b.input);
   }
-  begins_files false held.Files r e parts i h b = absurd (cc)
-  begins_files false (held.Described d) r e parts i h b = absurd (cc)
-  begins_files true held.Directories r e parts i h b = absurd (cc)
-  begins_files true held.Files r e parts i h b = absurd (cc)
-  begins_files true (held.Described d) r e parts i h b =
-      begins_described r.is_big e (left r) i (subst (λ (x : Encoding). BeginsDescribed reading r.is_big x (left r) i) (same_encoding d.encoding.encoding e parts h) b)
+  begins_files false held.Files r e parts i h b c = absurd (cc)
+  begins_files false (held.Described d) r e parts i h b c = absurd (cc)
+  begins_files true held.Directories r e parts i h b c = absurd (cc)
+  begins_files true held.Files r e parts i h b c = absurd (cc)
+  begins_files true (held.Described d) r e parts i h b c =
+      begins_described r.is_big e (left r) i (subst (λ (x : Encoding). BeginsDescribed reading r.is_big x (left r) i) (same_encoding d.encoding.encoding e parts h) b) c
 
-  pub misses_files : (new : Bool) (l : HeldLayout R E) (r : Reading) (e : Encoding) (parts : List (ℕ × ℕ)) (why : ReadError) → IsLaid new e l parts → MissesBehind l r why → BeginOutcome new Files r.is_big e (left r) (Err (from_read why))
-  misses_files false held.Directories r e parts why h b = b
-  misses_files false held.Files r e parts why h b = b
-  misses_files false (held.Described d) r e parts why h b = absurd (cc)
-  misses_files true held.Directories r e parts why h b = absurd b
-  misses_files true held.Files r e parts why h b = absurd b
-  misses_files true (held.Described d) r e parts why h b = (why, b, refl)
+  pub misses_behind : (l : HeldLayout R E) (r : Reading) (why : ReadError) (x : ConvertError) → MissesBehind l r why → x ≡ from_read why → FaultyBehind l r x
+  misses_behind held.Directories r why x h q = h
+  misses_behind held.Files r why x h q = h
+  misses_behind (held.Described d) r why x h q = inl (record { error = why; reason = h; is = q })
+
+  pub refuses_behind : (l : HeldLayout R E) (r : Reading) (i : FileEntryIter R E) (x : ConvertError) → BeginsBehind reading l r i → OfParts reading i (λ parts. IsConvertible parts i.remaining → ⊥) → x ≡ UnsupportedLineProgram → FaultyBehind l r x
+  refuses_behind held.Directories r i x b refused q = convertible_old held.Files Files (left r) i b (λ _. refl) refl tt refused
+  refuses_behind held.Files r i x b refused q = convertible_old held.Files Files (left r) i b (λ _. refl) refl tt refused
+  refuses_behind (held.Described d) r i x b refused q = refuses_described r.is_big d.encoding.encoding (left r) i x b refused q
+
+  pub faulty_files : (new : Bool) (l : HeldLayout R E) (r : Reading) (e : Encoding) (parts : List (ℕ × ℕ)) (x : ConvertError) → IsLaid new e l parts → FaultyBehind l r x → BeginOutcome new Files r.is_big e (left r) (Err x)
+  faulty_files false held.Directories r e parts x h b = b
+  faulty_files false held.Files r e parts x h b = b
+  faulty_files false (held.Described d) r e parts x h b = absurd (cc)
+  faulty_files true held.Directories r e parts x h b = absurd b
+  faulty_files true held.Files r e parts x h b = absurd b
+  faulty_files true (held.Described d) r e parts x h b = b
 
   -- what entries make, by a layout and an order that equal theirs, from a state that equals the one before
   pub walks_in : {S : Type 0} (image : Entry → S → Result S ConvertError) (i : FileEntryIter R E) (l : HeldLayout R E) (big : Bool) (parts : List (ℕ × ℕ)) (s t : S) (x : Result (S × List ℕ) ConvertError)

@@ -7,32 +7,31 @@ use Rattle.dw_base.specs.declared.ids.DirectoryId.{DirectoryId}
 use Rattle.dw_base.specs.declared.ids.FileId.{FileId}
 use Rattle.dw_line.specs.declared.line_string.LineString.{LineString}
 use Rattle.dw_read.specs.Reading.{Reading, left}
-use Rattle.dw_read.specs.declared.error.ReadError.{ReadError}
-use Rattle.dw_read_lines.specs.FileEntryIters.{layout_of, HasParts, BeginsEntries, BeginsBehind, MissesEntries, MissesBehind}
+use Rattle.dw_read_lines.specs.FileEntryIters.{layout_of, HasParts, BeginsEntries, BeginsBehind}
 use Rattle.dw_read_lines.specs.LineEntries.{Directories, Files, next_read}
 use Rattle.dw_read_lines.specs.declared.file_entries.FileEntryIter.{FileEntryIter}
 use Rattle.dw_read_lines.specs.declared.file_entries.Layout.{Layout as HeldLayout}
 use Rattle.dw_read_lines.specs.declared.file_entries.Layout.TheVariants as held
-use Rattle.dw_sources.specs.ConvertErrors.{from_read}
 use Rattle.dw_sources.specs.declared.convert_error.ConvertError.{ConvertError}
-use Rattle.dw_convert_lines.specs.Entries.{IsSameList, EntriesOutcome}
+use Rattle.dw_convert_lines.specs.Entries.{IsSameList, IsConvertibleList, FaultyBehind, EntriesOutcome}
 use Rattle.dw_convert_lines.specs.EntryImages.{Converting, directory_image, file_image}
 use Rattle.dw_convert_lines.specs.EntryNames.{Texts, Tables}
 use Rattle.dw_convert_lines.specs.HeaderImages.{Working, BeginOutcome, working_image, first_directories, first_files, FilesOutcome, DirectoriesOutcome, HeaderOutcome}
 use Rattle.dw_convert_lines.specs.Walks.{WalkOutcome}
-use Rattle.dw_convert_lines.proofs.Beginnings.{list_of, IsLaid, BeginsList, begins_directories, laid, misses_directories, begins_files, misses_files, walks_in}
+use Rattle.dw_convert_lines.proofs.Beginnings.{list_of, IsLaid, BeginsList, begins_directories, laid, begins_files, faulty_files, walks_in}
 
 module _ (R E : Type 0) (reading : R → Reading) (texts : Texts) (read : Encoding) (big order : Bool) (bytes : List ℕ) (e : Encoding) (parameters : LineEncoding) where
-  pub no_directories : (t : Tables) (why : ReadError) → MissesEntries (nat_le 5 read.version) big bytes why → HeaderOutcome texts read big order bytes e parameters t (Err (from_read why))
-  no_directories t why h = (Err (from_read why), misses_directories R E reading (nat_le 5 read.version) big read bytes why h, refl)
+  pub no_directories : (t : Tables) (x : ConvertError) → BeginOutcome (nat_le 5 read.version) Directories big read bytes (Err x) → HeaderOutcome texts read big order bytes e parameters t (Err x)
+  no_directories t x h = (Err x, h, refl)
 
   -- an iterator over the directories of the header
   pub record BeginsHeader (i : FileEntryIter R E) : Type 0 where
     pub begins : BeginsEntries reading (nat_le 5 read.version) held.Directories big read bytes i
     pub ordered : (reading i.input).is_big ≡ big
+    pub convertible : IsConvertibleList reading i
 
   abbrev listed : (i : FileEntryIter R E) → BeginsHeader i → BeginsList R E reading (nat_le 5 read.version) Directories big read bytes i
-  listed i h = begins_directories R E reading (nat_le 5 read.version) big read bytes i h.begins
+  listed i h = begins_directories R E reading (nat_le 5 read.version) big read bytes i h.begins h.convertible
 
   abbrev parts_of : (i : FileEntryIter R E) → BeginsHeader i → List (ℕ × ℕ)
   parts_of i h = (listed i h).open_yet.parts
@@ -95,14 +94,14 @@ module _ (R E : Type 0) (reading : R → Reading) (texts : Texts) (read : Encodi
     laid_behind : IsLaid R E reading (nat_le 5 read.version) read k.layout (parts_of i h.working.begins)
     laid_behind =
         subst (λ (l : HeldLayout R E). IsLaid R E reading (nat_le 5 read.version) read l (parts_of i h.working.begins)) (sym (h.same.layout ∙ h.working.same.layout))
-        (laid R E reading (nat_le 5 read.version) big read bytes i h.working.begins.begins)
+        (laid R E reading (nat_le 5 read.version) big read bytes i h.working.begins.begins h.working.begins.convertible)
 
-    pub no_files : (why : ReadError) → MissesBehind k.layout (reading k.input) why → HeaderOutcome texts read big order bytes e parameters t (Err (from_read why))
-    no_files why m =
-        behind_directories (Err (from_read why)) (
-          Err (from_read why),
-          subst (λ (b : Bool). BeginOutcome (nat_le 5 read.version) Files b read (left (reading k.input)) (Err (from_read why))) order_behind
-              (misses_files R E reading (nat_le 5 read.version) k.layout (reading k.input) read (parts_of i h.working.begins) why laid_behind m),
+    pub no_files : (x : ConvertError) → FaultyBehind k.layout (reading k.input) x → HeaderOutcome texts read big order bytes e parameters t (Err x)
+    no_files x m =
+        behind_directories (Err x) (
+          Err x,
+          subst (λ (b : Bool). BeginOutcome (nat_le 5 read.version) Files b read (left (reading k.input)) (Err x)) order_behind
+              (faulty_files R E reading (nat_le 5 read.version) k.layout (reading k.input) read (parts_of i h.working.begins) x laid_behind m),
           refl,
         )
 
@@ -110,9 +109,10 @@ module _ (R E : Type 0) (reading : R → Reading) (texts : Texts) (read : Encodi
     pub record BeginsFiles (f : FileEntryIter R E) : Type 0 where
       pub begins : BeginsBehind reading k.layout (reading k.input) f
       pub ordered : (reading f.input).is_big ≡ (reading k.input).is_big
+      pub convertible : IsConvertibleList reading f
 
     abbrev files_listed : (f : FileEntryIter R E) → BeginsFiles f → BeginsList R E reading (nat_le 5 read.version) Files (reading k.input).is_big read (left (reading k.input)) f
-    files_listed f b = begins_files R E reading (nat_le 5 read.version) k.layout (reading k.input) read (parts_of i h.working.begins) f laid_behind b.begins
+    files_listed f b = begins_files R E reading (nat_le 5 read.version) k.layout (reading k.input) read (parts_of i h.working.begins) f laid_behind b.begins b.convertible
 
     abbrev file_parts : (f : FileEntryIter R E) → BeginsFiles f → List (ℕ × ℕ)
     file_parts f b = (files_listed f b).open_yet.parts

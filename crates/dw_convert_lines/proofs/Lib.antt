@@ -5,6 +5,9 @@ pub mod OldEntries
 pub mod Walking
 pub mod EntrySteps
 pub mod WorkingLaws
+pub mod FormatLaws
+pub mod FormatWalks
+mod WorkedFormats
 pub mod Beginnings
 pub mod Headers
 pub mod Told

@@ -1,5 +1,5 @@
 -- What the header of a line program becomes: a program with its directories and files (DWARF 5, 6.2.4).
-use Rattle.std.specs.Prelude.{◌≡◌, ℕ, ◌-◌, ◌<◌, nat_le, Bool, true, false, List, [], ◌∷◌, Option, Some, None, unwrap_or, Result, Ok, Err, pos, ◌≤ℤ◌, ◌<ℤ◌, ◌+ℤ◌}
+use Rattle.std.specs.Prelude.{◌≡◌, ◌⊎◌, ℕ, ◌-◌, ◌<◌, nat_le, Bool, true, false, List, [], ◌∷◌, Option, Some, None, unwrap_or, Result, Ok, Err, pos, ◌≤ℤ◌, ◌<ℤ◌, ◌+ℤ◌}
 use Rattle.dw_base.specs.declared.common.Encoding.{Encoding}
 use Rattle.dw_base.specs.declared.common.LineEncoding.{LineEncoding}
 use Rattle.dw_base.specs.declared.ids.DirectoryId.{DirectoryId}
@@ -16,6 +16,7 @@ use Rattle.dw_sources.specs.declared.convert_error.ConvertError.{ConvertError}
 use Rattle.dw_sources.specs.declared.convert_error.ConvertError.TheVariants.{InvalidDirectoryIndex, UnsupportedLineProgram}
 use Rattle.dw_convert_lines.specs.EntryImages.{Converting, directory_image, file_image}
 use Rattle.dw_convert_lines.specs.EntryNames.{Texts, Tables, name_image}
+use Rattle.dw_convert_lines.specs.FormatLists.{IsConvertible}
 use Rattle.dw_convert_lines.specs.Results.{◌=>◌, of_read, Then}
 use Rattle.dw_convert_lines.specs.Walks.{WalkOutcome}
 
@@ -45,12 +46,31 @@ pub record EntryList : Type 0 where
   pub count : ℕ
   pub bytes : List ℕ
 
--- the list that begins there: from version 5 on behind its description
+-- entries whose description can't be read, for this reason
+pub record MissesDescription (big : Bool) (bytes : List ℕ) (x : ConvertError) : Type 0 where
+  pub error : ReadError
+  pub reason : description_read big bytes ≡ Err error
+  pub is : x ≡ from_read error
+
+-- entries that are described so that they can't be converted, whatever they are
+pub record RefusesDescription (big : Bool) (bytes : List ℕ) (x : ConvertError) : Type 0 where
+  pub parts : List (ℕ × ℕ)
+  pub count : ℕ
+  pub rest : List ℕ
+  pub described : description_read big bytes ≡ Ok ((parts, count), rest)
+  pub inconvertible : IsConvertible parts count → ⊥
+  pub is : x ≡ UnsupportedLineProgram
+
+abbrev pub FaultyDescription : Bool → List ℕ → ConvertError → Type 0
+FaultyDescription big bytes x = MissesDescription big bytes x ⊎ RefusesDescription big bytes x
+
+-- the list that begins there: from version 5 on behind its description, by which its entries can be converted
 abbrev pub BeginOutcome : Bool → Layout → Bool → Encoding → List ℕ → Result EntryList ConvertError → Type 0
 BeginOutcome false old big e bytes (Ok l) = (l.layout ≡ old) × (l.bytes ≡ bytes)
 BeginOutcome false old big e bytes (Err x) = ⊥
-BeginOutcome true old big e bytes (Ok l) = (parts : List (ℕ × ℕ)) × (l.layout ≡ Described e parts) × (description_read big bytes ≡ Ok ((parts, l.count), l.bytes))
-BeginOutcome true old big e bytes (Err x) = (r : ReadError) × (description_read big bytes ≡ Err r) × (x ≡ from_read r)
+BeginOutcome true old big e bytes (Ok l) =
+    (parts : List (ℕ × ℕ)) × (l.layout ≡ Described e parts) × (description_read big bytes ≡ Ok ((parts, l.count), l.bytes)) × IsConvertible parts l.count
+BeginOutcome true old big e bytes (Err x) = FaultyDescription big bytes x
 
 -- the working directory, and what is left of the list behind it
 pub record Working : Type 0 where

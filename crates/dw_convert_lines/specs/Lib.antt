@@ -3,8 +3,9 @@ pub mod EntryNames
 pub mod EntryImages
 pub mod Views
 pub mod Walks
-pub mod Entries
+pub mod FormatLists
 pub mod HeaderImages
+pub mod Entries
 pub mod ReadRows
 pub mod RegisterViews
 pub mod RegisterSteps

@@ -3,14 +3,16 @@
 ghost use Rattle.std.specs.Prelude.{◌≡◌, ◌⊎◌, ◌≤ℤ◌, ◌<ℤ◌, ◌+ℤ◌, ◌↔◌, ℕ, List, [], ◌∷◌, pos, nat_le, IsTrue, IfOk, IfErr, IfSome, OnOk, Ok, Err};
 ghost use Rattle.dw_line.specs.Names.{IsName};
 ghost use Rattle.dw_read.specs.Reading.{left};
-ghost use Rattle.dw_read_lines.specs.FileEntryIters.{layout_of, HasParts};
-ghost use Rattle.dw_read_lines.specs.LineEntries.{next_read};
+ghost use Rattle.dw_read_lines.specs.FileEntryIters.{layout_of, HasParts, BeginsEntries, BeginsBehind};
+ghost use Rattle.dw_read_lines.specs.LineEntries.{Directories, next_read};
+ghost use Rattle.dw_read_lines.specs.declared.file_entries.Layout.TheVariants as held;
 ghost use Rattle.dw_sources.specs.declared.convert_error.ConvertError.TheVariants.{NoMemory};
-ghost use Rattle.dw_convert_lines.specs.Entries.{IsOpen, IsSameList};
-ghost use Rattle.dw_convert_lines.specs.HeaderImages.{IsWritable, IsReadable, EncodingOutcome, working_image, new_program, first_ids, HeaderOutcome};
+ghost use Rattle.dw_convert_lines.specs.Entries.{IsOpen, IsSameList, IsConvertibleList, FaultyBehind};
+ghost use Rattle.dw_convert_lines.specs.HeaderImages.{IsWritable, IsReadable, EncodingOutcome, working_image, new_program, first_ids, BeginOutcome, HeaderOutcome};
 ghost use Rattle.dw_convert_lines.specs.Views.{texts_of, tables, converting};
 
 use crate::entries::{convert_directories, convert_files};
+use crate::format_list::is_convertible;
 use crate::name::{convert_name, inline};
 use dw_base::{DirectoryId, Encoding, Endianity, FileId, LineEncoding};
 use dw_line::{LineProgram, LineString};
@@ -61,6 +63,44 @@ fn has_writable_lines(read: LineEncoding) -> bool
         × (pos 0 <ℤ (read.line_base +ℤ pos read.line_range))) }
 {
     read.line_base <= 0 && read.line_base as i16 + read.line_range as i16 > 0
+}
+
+/// The directories of a header, by a description that can be converted.
+fn begin_directories<R: Reader>(header: &LineProgramHeader<R>) -> ConvertResult<FileEntryIter<R>>
+    ensures ok { IfOk result (BeginsEntries R.reading
+        (nat_le 5 header.now.encoding.encoding.version) held.Directories
+        (R.reading header.now.tables).is_big header.now.encoding.encoding
+        (left (R.reading header.now.tables))) }
+    ensures order { IfOk result (λ i.
+        (R.reading i.input).is_big ≡ (R.reading header.now.tables).is_big) }
+    ensures convertible { IfOk result (IsConvertibleList R.reading) }
+    ensures err { IfErr result (λ e. BeginOutcome
+        (nat_le 5 header.now.encoding.encoding.version) Directories
+        (R.reading header.now.tables).is_big header.now.encoding.encoding
+        (left (R.reading header.now.tables)) (Err e)) }
+{
+    let entries = header.include_directories()?;
+    if !is_convertible(&entries) {
+        return Err(ConvertError::UnsupportedLineProgram);
+    }
+    Ok(entries)
+}
+
+/// The files behind directories, by a description that can be converted.
+fn begin_files<R: Reader>(directories: &FileEntryIter<R>) -> ConvertResult<FileEntryIter<R>>
+    ensures ok { IfOk result
+        (BeginsBehind R.reading directories.now.layout (R.reading directories.now.input)) }
+    ensures order { IfOk result (λ i.
+        (R.reading i.input).is_big ≡ (R.reading directories.now.input).is_big) }
+    ensures convertible { IfOk result (IsConvertibleList R.reading) }
+    ensures err { IfErr result
+        (FaultyBehind directories.now.layout (R.reading directories.now.input)) }
+{
+    let entries = directories.file_names()?;
+    if !is_convertible(&entries) {
+        return Err(ConvertError::UnsupportedLineProgram);
+    }
+    Ok(entries)
 }
 
 /// The working directory: the first of the directories from version 5 on. Below, it is that of the
@@ -194,7 +234,7 @@ pub(crate) fn convert_header<R: Reader>(
 {
     let version = encoding.version;
     let is_new = tells_working_directory(header);
-    let mut entries = header.include_directories()?;
+    let mut entries = begin_directories(header)?;
     let working = working_directory(
         alloc,
         dwarf,
@@ -216,7 +256,7 @@ pub(crate) fn convert_header<R: Reader>(
         line_strings,
         strings,
     )?;
-    let mut listed = entries.file_names()?;
+    let mut listed = begin_files(&entries)?;
     let mut files = first_ids(alloc, is_new)?;
     let is_big = is_big(header);
     convert_files(

@@ -4,6 +4,7 @@
 
 mod entries;
 mod entry;
+mod format_list;
 mod header;
 mod machine;
 mod name;

@@ -76,7 +76,10 @@ pub(crate) fn begin_program<R: Reader>(
 /// in the program itself, and checksums and texts are dropped. Refused are parameters that no
 /// program here has, forms that names, numbers and checksums don't have, and empty names below
 /// version 5 as `UnsupportedLineProgram`, a file in a directory that isn't there as
-/// `InvalidDirectoryIndex`, as version 5 without directories.
+/// `InvalidDirectoryIndex`, as version 5 without directories. A description of directories or files
+/// is `UnsupportedLineProgram`, before any of its entries is read, where a value would stand in it
+/// (`DW_FORM_implicit_const`), where two of its parts tell the same content that is known, or where
+/// entries follow that have no path (DWARF 5, 6.2.4 and 6.2.4.1).
 ///
 /// ```
 /// let program = IncompleteLineProgram::new(&dwarf, offset, 8)?;

@@ -1,3 +1,4 @@
+mod format_lists;
 mod headers;
 mod refusals;
 mod rows;

@@ -5,3 +5,4 @@ pub mod InstructionReads
 pub mod PastLaws
 pub mod EntryLaws
 pub mod TakenLaws
+pub mod PartLaws

@@ -48,6 +48,7 @@ module _ {R E : Type 0} (reading : R → Reading) where
   pub record BeginsOld (l : HeldLayout R E) (bytes : List ℕ) (i : FileEntryIter R E) : Type 0 where
     pub layout : i.layout ≡ l
     pub input : left (reading i.input) ≡ bytes
+    pub uncounted : i.remaining ≡ 0
     pub not_ended : i.has_ended ≡ false
 
   pub record BeginsDescribed (big : Bool) (e : Encoding) (bytes : List ℕ) (i : FileEntryIter R E) : Type 0 where

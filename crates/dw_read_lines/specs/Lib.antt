@@ -6,3 +6,4 @@ pub mod LineInstructionIters
 pub mod LineEntries
 pub mod LineEntryViews
 pub mod FileEntryIters
+pub mod FileEntryFormatIters

@@ -8,6 +8,7 @@ mod encoding;
 mod entry_tables;
 mod file_entries;
 mod file_entry;
+mod file_entry_formats;
 mod header;
 mod instruction;
 mod instructions;
@@ -17,6 +18,7 @@ mod reading;
 
 pub use file_entries::FileEntryIter;
 pub use file_entry::FileEntry;
+pub use file_entry_formats::{FileEntryFormat, FileEntryFormatIter};
 pub use header::LineProgramHeader;
 pub use instruction::LineInstruction;
 pub use instructions::LineInstructions;

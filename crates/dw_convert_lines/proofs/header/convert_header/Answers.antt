@@ -4,10 +4,8 @@ use Rattle.dw_base.specs.declared.ids.DirectoryId.{DirectoryId}
 use Rattle.dw_base.specs.declared.ids.FileId.{FileId}
 use Rattle.dw_line.specs.LinePrograms.{LineProgramValue}
 use Rattle.dw_read.specs.Reading.{left}
-use Rattle.dw_read.specs.declared.error.ReadError.{ReadError}
 use Rattle.dw_read_lines.specs.FileEntryIters.{layout_of}
 use Rattle.dw_read_lines.specs.LineEntries.{next_read}
-use Rattle.dw_sources.specs.ConvertErrors.{from_read}
 use Rattle.dw_sources.specs.declared.convert_error.ConvertError.{ConvertError}
 use Rattle.dw_convert_lines.specs.Entries.{EntriesOutcome}
 use Rattle.dw_convert_lines.specs.EntryImages.{Converting, file_image}
@@ -23,8 +21,8 @@ returns-in_err-entries-clause-err g c =
     let h = c.args.header.now in
     let texts = texts_of reading c.args.dwarf.now in
     let t = tables c.args.strings.now c.args.line_strings.now in
-    let why : ReadError = c.in_err-entries.field-0.0 in
-    let e = is_err _ (from_read why) c.from_residual.ensures in
+    let why : ConvertError = c.in_err-entries.field-0.0 in
+    let e = is_err _ why c.from_residual.ensures in
     rw e (inr (no_directories _ ℕ reading texts h.encoding.encoding (reading h.tables).is_big (reading h.parameters.operand_counts).is_big (left (reading h.tables)) c.args.encoding c.args.line_encoding t why c.in_err-entries.ensures.err))
 
 pub returns-in_err-working-clause-err : goal.returns-in_err-working-clause-err
@@ -34,7 +32,7 @@ returns-in_err-working-clause-err g c =
     let texts = texts_of reading c.args.dwarf.now in
     let t = tables c.args.strings.now c.args.line_strings.now in
     let i = c.in_ok-entries.entries in
-    let begins : BeginsHeader _ _ reading texts h.encoding.encoding (reading h.tables).is_big (reading h.parameters.operand_counts).is_big (left (reading h.tables)) c.args.encoding c.args.line_encoding i = record { begins = c.in_ok-entries.ensures.ok; ordered = c.in_ok-entries.ensures.order } in
+    let begins : BeginsHeader _ _ reading texts h.encoding.encoding (reading h.tables).is_big (reading h.parameters.operand_counts).is_big (left (reading h.tables)) c.args.encoding c.args.line_encoding i = record { begins = c.in_ok-entries.ensures.ok; ordered = c.in_ok-entries.ensures.order; convertible = c.in_ok-entries.ensures.convertible } in
     let why : ConvertError = c.in_err-working.field-0.0 in
     let e = is_err _ why c.from_residual-in_err-working.ensures in
     rw e (elim c.in_err-working.ensures.err [
@@ -50,7 +48,7 @@ returns-in_err-convert_directories-clause-err g c =
     let texts = texts_of reading c.args.dwarf.now in
     let t = tables c.args.strings.now c.args.line_strings.now in
     let i = c.in_ok-entries.entries in
-    let begins : BeginsHeader _ _ reading texts h.encoding.encoding (reading h.tables).is_big (reading h.parameters.operand_counts).is_big (left (reading h.tables)) c.args.encoding c.args.line_encoding i = record { begins = c.in_ok-entries.ensures.ok; ordered = c.in_ok-entries.ensures.order } in
+    let begins : BeginsHeader _ _ reading texts h.encoding.encoding (reading h.tables).is_big (reading h.parameters.operand_counts).is_big (left (reading h.tables)) c.args.encoding c.args.line_encoding i = record { begins = c.in_ok-entries.ensures.ok; ordered = c.in_ok-entries.ensures.order; convertible = c.in_ok-entries.ensures.convertible } in
     let name = c.in_ok-working.working in
     let j = c.working_directory.new.entries in
     let u = tables c.working_directory.new.strings c.working_directory.new.line_strings in
@@ -75,7 +73,7 @@ returns-in_err-listed-clause-err g c =
     let texts = texts_of reading c.args.dwarf.now in
     let t = tables c.args.strings.now c.args.line_strings.now in
     let i = c.in_ok-entries.entries in
-    let begins : BeginsHeader _ _ reading texts h.encoding.encoding (reading h.tables).is_big (reading h.parameters.operand_counts).is_big (left (reading h.tables)) c.args.encoding c.args.line_encoding i = record { begins = c.in_ok-entries.ensures.ok; ordered = c.in_ok-entries.ensures.order } in
+    let begins : BeginsHeader _ _ reading texts h.encoding.encoding (reading h.tables).is_big (reading h.parameters.operand_counts).is_big (left (reading h.tables)) c.args.encoding c.args.line_encoding i = record { begins = c.in_ok-entries.ensures.ok; ordered = c.in_ok-entries.ensures.order; convertible = c.in_ok-entries.ensures.convertible } in
     let name = c.in_ok-working.working in
     let j = c.working_directory.new.entries in
     let u = tables c.working_directory.new.strings c.working_directory.new.line_strings in
@@ -89,8 +87,8 @@ returns-in_err-listed-clause-err g c =
     let d : Converting DirectoryId = converting c.convert_directories.new.program c.convert_directories.new.ids.items c.convert_directories.new.strings c.convert_directories.new.line_strings in
     let k = c.convert_directories.new.entries in
     let directories : HasDirectories _ _ reading texts h.encoding.encoding (reading h.tables).is_big (reading h.parameters.operand_counts).is_big (left (reading h.tables)) c.args.encoding c.args.line_encoding i t name u j s d k = record { working = working; first = first; directories = c.in_ok-convert_directories.ensures.ok; same = c.in_ok-convert_directories.ensures.same } in
-    let why : ReadError = c.in_err-listed.field-0.0 in
-    let e = is_err _ (from_read why) c.from_residual-in_err-listed.ensures in
+    let why : ConvertError = c.in_err-listed.field-0.0 in
+    let e = is_err _ why c.from_residual-in_err-listed.ensures in
     rw e (inr (no_files _ _ reading texts h.encoding.encoding (reading h.tables).is_big (reading h.parameters.operand_counts).is_big (left (reading h.tables)) c.args.encoding c.args.line_encoding i t name u j s d k directories why c.in_err-listed.ensures.err))
 
 pub returns-in_err-convert_files-clause-err : goal.returns-in_err-convert_files-clause-err
@@ -100,7 +98,7 @@ returns-in_err-convert_files-clause-err g c =
     let texts = texts_of reading c.args.dwarf.now in
     let t = tables c.args.strings.now c.args.line_strings.now in
     let i = c.in_ok-entries.entries in
-    let begins : BeginsHeader _ _ reading texts h.encoding.encoding (reading h.tables).is_big (reading h.parameters.operand_counts).is_big (left (reading h.tables)) c.args.encoding c.args.line_encoding i = record { begins = c.in_ok-entries.ensures.ok; ordered = c.in_ok-entries.ensures.order } in
+    let begins : BeginsHeader _ _ reading texts h.encoding.encoding (reading h.tables).is_big (reading h.parameters.operand_counts).is_big (left (reading h.tables)) c.args.encoding c.args.line_encoding i = record { begins = c.in_ok-entries.ensures.ok; ordered = c.in_ok-entries.ensures.order; convertible = c.in_ok-entries.ensures.convertible } in
     let name = c.in_ok-working.working in
     let j = c.working_directory.new.entries in
     let u = tables c.working_directory.new.strings c.working_directory.new.line_strings in
@@ -115,7 +113,7 @@ returns-in_err-convert_files-clause-err g c =
     let k = c.convert_directories.new.entries in
     let directories : HasDirectories _ _ reading texts h.encoding.encoding (reading h.tables).is_big (reading h.parameters.operand_counts).is_big (left (reading h.tables)) c.args.encoding c.args.line_encoding i t name u j s d k = record { working = working; first = first; directories = c.in_ok-convert_directories.ensures.ok; same = c.in_ok-convert_directories.ensures.same } in
     let f = c.in_ok-listed.listed in
-    let files_begin : BeginsFiles _ _ reading texts h.encoding.encoding (reading h.tables).is_big (reading h.parameters.operand_counts).is_big (left (reading h.tables)) c.args.encoding c.args.line_encoding i t name u j s d k directories f = record { begins = c.in_ok-listed.ensures.ok; ordered = c.in_ok-listed.ensures.order } in
+    let files_begin : BeginsFiles _ _ reading texts h.encoding.encoding (reading h.tables).is_big (reading h.parameters.operand_counts).is_big (left (reading h.tables)) c.args.encoding c.args.line_encoding i t name u j s d k directories f = record { begins = c.in_ok-listed.ensures.ok; ordered = c.in_ok-listed.ensures.order; convertible = c.in_ok-listed.ensures.convertible } in
     let v : Converting FileId = converting c.convert_directories.new.program c.in_ok-files.files.items c.convert_directories.new.strings c.convert_directories.new.line_strings in
     let first_file = ap (λ (ids : List FileId). converting c.convert_directories.new.program ids c.convert_directories.new.strings c.convert_directories.new.line_strings) (c.in_ok-files.ensures.ok ∙ ap first_ids c.tells_working_directory-is_new.ensures) in
     let why : ConvertError = c.in_err-convert_files.field-0.0 in
@@ -133,7 +131,7 @@ returns-clause-ok g c =
     let texts = texts_of reading c.args.dwarf.now in
     let t = tables c.args.strings.now c.args.line_strings.now in
     let i = c.in_ok-entries.entries in
-    let begins : BeginsHeader _ _ reading texts h.encoding.encoding (reading h.tables).is_big (reading h.parameters.operand_counts).is_big (left (reading h.tables)) c.args.encoding c.args.line_encoding i = record { begins = c.in_ok-entries.ensures.ok; ordered = c.in_ok-entries.ensures.order } in
+    let begins : BeginsHeader _ _ reading texts h.encoding.encoding (reading h.tables).is_big (reading h.parameters.operand_counts).is_big (left (reading h.tables)) c.args.encoding c.args.line_encoding i = record { begins = c.in_ok-entries.ensures.ok; ordered = c.in_ok-entries.ensures.order; convertible = c.in_ok-entries.ensures.convertible } in
     let name = c.in_ok-working.working in
     let j = c.working_directory.new.entries in
     let u = tables c.working_directory.new.strings c.working_directory.new.line_strings in
@@ -148,7 +146,7 @@ returns-clause-ok g c =
     let k = c.convert_directories.new.entries in
     let directories : HasDirectories _ _ reading texts h.encoding.encoding (reading h.tables).is_big (reading h.parameters.operand_counts).is_big (left (reading h.tables)) c.args.encoding c.args.line_encoding i t name u j s d k = record { working = working; first = first; directories = c.in_ok-convert_directories.ensures.ok; same = c.in_ok-convert_directories.ensures.same } in
     let f = c.in_ok-listed.listed in
-    let files_begin : BeginsFiles _ _ reading texts h.encoding.encoding (reading h.tables).is_big (reading h.parameters.operand_counts).is_big (left (reading h.tables)) c.args.encoding c.args.line_encoding i t name u j s d k directories f = record { begins = c.in_ok-listed.ensures.ok; ordered = c.in_ok-listed.ensures.order } in
+    let files_begin : BeginsFiles _ _ reading texts h.encoding.encoding (reading h.tables).is_big (reading h.parameters.operand_counts).is_big (left (reading h.tables)) c.args.encoding c.args.line_encoding i t name u j s d k directories f = record { begins = c.in_ok-listed.ensures.ok; ordered = c.in_ok-listed.ensures.order; convertible = c.in_ok-listed.ensures.convertible } in
     let v : Converting FileId = converting c.convert_directories.new.program c.in_ok-files.files.items c.convert_directories.new.strings c.convert_directories.new.line_strings in
     let first_file = ap (λ (ids : List FileId). converting c.convert_directories.new.program ids c.convert_directories.new.strings c.convert_directories.new.line_strings) (c.in_ok-files.ensures.ok ∙ ap first_ids c.tells_working_directory-is_new.ensures) in
     let x : Converting FileId = converting c.convert_files.new.program c.convert_files.new.ids.items c.convert_files.new.strings c.convert_files.new.line_strings in

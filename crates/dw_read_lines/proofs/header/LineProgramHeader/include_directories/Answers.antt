@@ -7,7 +7,7 @@ use Rattle.dw_read_lines.proofs.header.LineProgramHeader.include_directories.Goa
 
 pub returns-then-encoding-lt5-clause-ok : goal.returns-then-encoding-lt5-clause-ok
 returns-then-encoding-lt5-clause-ok g c =
-    rw (lt-leb 5 c.args.self.now.encoding.encoding.version (omega arith)) (record { layout = refl; input = ap left c.duplicate-input.ensures; not_ended = refl })
+    rw (lt-leb 5 c.args.self.now.encoding.encoding.version (omega arith)) (record { layout = refl; input = ap left c.duplicate-input.ensures; uncounted = refl; not_ended = refl })
 
 pub returns-in_err-entries-clause-err : goal.returns-in_err-entries-clause-err
 returns-in_err-entries-clause-err g c =
