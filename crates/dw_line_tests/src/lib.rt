@@ -3,16 +3,8 @@
 #![tactic(auto)]
 
 #[cfg(test)]
-mod byte_tests;
-#[cfg(test)]
-mod link_tests;
-#[cfg(test)]
-mod name_tests;
-#[cfg(test)]
 mod programs;
 #[cfg(test)]
-mod refusal_tests;
-#[cfg(test)]
-mod state_tests;
+mod tests;
 #[cfg(test)]
 mod writing;

@@ -1,39 +1,69 @@
-//! Programs of a few files and rows. What the calls ask for is asked at run time, so that a test
-//! owes nothing.
+//! Programs that are built by steps, so that tables can hold them. What the calls ask for is asked
+//! at run time, so that a test owes nothing.
 
-ghost use Rattle.std.specs.Prelude.{◌≡◌, true, Some, negsuc};
+ghost use Rattle.std.specs.Prelude.{◌≡◌, true, negsuc, IfOk, IfSome};
 ghost use Rattle.dw_base.specs.Spellable.{IsText};
 ghost use Rattle.dw_line.specs.LinePrograms.{IsInfo};
+ghost use Rattle.dw_line.specs.Names.{IsName};
 
 use dw_base::{
     Address, DirectoryId, Encoding, Error, FileId, Format, LineEncoding, LineStringId, Result,
+    StringId,
 };
 use dw_line::{FileInfo, LineProgram, LineRow, LineString};
 use dw_writer::Bytes;
 use std::alloc::Global;
 
-/// The row that a sequence begins with.
-pub const FIRST: LineRow = LineRow {
-    address_offset: 0,
-    file: FileId(0),
-    line: 1,
-    column: 0,
-    discriminator: 0,
-    is_statement: true,
-    basic_block: false,
-    prologue_end: false,
-    epilogue_begin: false,
-    isa: 0,
-};
+/// A text of a program, by which no byte is zero.
+#[derive(Clone, Copy)]
+pub enum Text {
+    /// `/`.
+    Root,
+    /// `/inc`.
+    Included,
+    /// `a.c`.
+    A,
+    /// `b.c`.
+    B,
+    /// `x`.
+    Source,
+}
 
-pub const NO_INFO: FileInfo = FileInfo {
-    timestamp: 0,
-    size: 0,
-    md5: None,
-    source: None,
-};
+/// The text of a file.
+#[derive(Clone, Copy)]
+pub enum Source {
+    None,
+    /// In the program itself.
+    InPlace,
+    /// By its index in `.debug_str`.
+    ByPlace(usize),
+}
 
-pub fn encoding(version: u16, format: Format, address_size: u8) -> Encoding {
+/// What is told of a file.
+#[derive(Clone, Copy)]
+pub struct Told {
+    pub timestamp: u64,
+    pub size: u64,
+    pub md5: Option<[u8; 16]>,
+    pub source: Source,
+}
+
+/// A call that adds to a program.
+#[derive(Clone, Copy)]
+pub enum Step {
+    Directory(Text),
+    /// A file of a directory.
+    File(Text, usize),
+    /// A file of the working directory, of which this is told.
+    Known(Text, usize, Told),
+    Begin(Option<Address>),
+    Row(LineRow),
+    /// A row that differs from the one before it by its offset and what holds for one row.
+    Next(u64),
+    End(u64),
+}
+
+fn encoding(version: u16, format: Format, address_size: u8) -> Encoding {
     Encoding {
         address_size,
         format,
@@ -42,7 +72,7 @@ pub fn encoding(version: u16, format: Format, address_size: u8) -> Encoding {
 }
 
 /// What a helper answers where a test calls it amiss.
-pub fn amiss<T>() -> Result<T> {
+fn amiss<T>() -> Result<T> {
     Err(Error::OffsetOutOfBounds)
 }
 
@@ -62,6 +92,18 @@ pub fn line_encoding(minimum_instruction_length: u8) -> LineEncoding
     }
 }
 
+fn bytes_of(text: Text) -> &'static [u8]
+    ensures { IsText result.now }
+{
+    match text {
+        Text::Root => b"/",
+        Text::Included => b"/inc",
+        Text::A => b"a.c",
+        Text::B => b"b.c",
+        Text::Source => b"x",
+    }
+}
+
 /// A program of the working directory `/`.
 pub fn program(alloc: Global, encoding: Encoding, minimum: u8) -> Result<LineProgram> {
     if minimum == 0 {
@@ -72,55 +114,82 @@ pub fn program(alloc: Global, encoding: Encoding, minimum: u8) -> Result<LinePro
 }
 
 /// A program whose working directory and one file are strings of `.debug_line_str`.
-pub fn named_by_place(alloc: Global, encoding: Encoding, file: usize) -> Result<LineProgram> {
+pub fn named_by_place(alloc: Global) -> Result<LineProgram> {
     let root = LineString::LineStringRef(LineStringId::new(0));
+    let encoding = encoding(5, Format::Dwarf32, 8);
     let mut program = LineProgram::new(alloc, encoding, line_encoding(1), root)?;
     if program.is_none() || program.directory_count() == 0 {
         return amiss();
     }
-    let name = LineString::LineStringRef(LineStringId::new(file));
+    let name = LineString::LineStringRef(LineStringId::new(1));
     program.add_file(name, DirectoryId::new(0), None)?;
     Ok(program)
 }
 
-/// Adds a directory.
-pub fn add_directory(alloc: Global, program: &mut LineProgram, name: &[u8]) -> Result<DirectoryId>
-    requires { IsText name.now }
-{
+fn add_directory(alloc: Global, program: &mut LineProgram, text: Text) -> Result<usize> {
+    let name = bytes_of(text);
     if program.is_none() || name.is_empty() {
         return amiss();
     }
-    program.add_directory(LineString::String(Bytes::new(alloc, name)?))
+    let id = program.add_directory(LineString::String(Bytes::new(alloc, name)?))?;
+    Ok(id.index())
 }
 
-/// Adds a file of a directory.
-pub fn add_file(
+fn add_file(
     alloc: Global,
     program: &mut LineProgram,
-    name: &[u8],
+    text: Text,
     directory: usize,
     info: Option<FileInfo>,
-) -> Result<FileId>
-    requires name { IsText name.now }
-    requires text { IsInfo info }
+) -> Result<usize>
+    requires { IsInfo info }
 {
+    let name = bytes_of(text);
     if program.is_none() || name.is_empty() || directory >= program.directory_count() {
         return amiss();
     }
     let name = LineString::String(Bytes::new(alloc, name)?);
-    program.add_file(name, DirectoryId::new(directory), info)
+    let id = program.add_file(name, DirectoryId::new(directory), info)?;
+    Ok(id.index())
 }
 
-/// Begins a sequence.
-pub fn begin(program: &mut LineProgram, address: Option<Address>) -> Result<()> {
+fn source_of(alloc: Global, source: Source) -> Result<Option<LineString>>
+    ensures { IfOk result (λ s. IfSome s IsName) }
+{
+    match source {
+        Source::None => Ok(None),
+        Source::InPlace => {
+            let bytes = Bytes::new(alloc, bytes_of(Text::Source))?;
+            Ok(Some(LineString::String(bytes)))
+        }
+        Source::ByPlace(index) => Ok(Some(LineString::StringRef(StringId::new(index)))),
+    }
+}
+
+fn add_known(
+    alloc: Global,
+    program: &mut LineProgram,
+    text: Text,
+    directory: usize,
+    told: Told,
+) -> Result<usize> {
+    let info = FileInfo {
+        timestamp: told.timestamp,
+        size: told.size,
+        md5: told.md5,
+        source: source_of(alloc, told.source)?,
+    };
+    add_file(alloc, program, text, directory, Some(info))
+}
+
+fn begin(program: &mut LineProgram, address: Option<Address>) -> Result<()> {
     if program.is_none() || program.in_sequence() {
         return amiss();
     }
     program.begin_sequence(address)
 }
 
-/// Adds a row.
-pub fn add_row(program: &mut LineProgram, row: LineRow) -> Result<()> {
+fn add_row(program: &mut LineProgram, row: LineRow) -> Result<()> {
     let minimum = program.line_encoding().minimum_instruction_length as u64;
     if minimum == 0 || row.address_offset % minimum != 0 {
         return amiss();
@@ -135,8 +204,18 @@ pub fn add_row(program: &mut LineProgram, row: LineRow) -> Result<()> {
     program.generate_row()
 }
 
-/// Ends a sequence.
-pub fn end(program: &mut LineProgram, offset: u64) -> Result<()> {
+fn add_next(program: &mut LineProgram, offset: u64) -> Result<()> {
+    if !program.in_sequence() {
+        return amiss();
+    }
+    let row = LineRow {
+        address_offset: offset,
+        ..*program.row()
+    };
+    add_row(program, row)
+}
+
+fn end(program: &mut LineProgram, offset: u64) -> Result<()> {
     let minimum = program.line_encoding().minimum_instruction_length as u64;
     if minimum == 0 || offset % minimum != 0 {
         return amiss();
@@ -147,46 +226,32 @@ pub fn end(program: &mut LineProgram, offset: u64) -> Result<()> {
     program.end_sequence(offset)
 }
 
-/// A program of a file `a.c` in which a sequence was begun.
-pub fn begun(
+/// Takes a step, and gives the index of what has one, and otherwise 0.
+pub fn take(alloc: Global, program: &mut LineProgram, step: Step) -> Result<usize> {
+    match step {
+        Step::Directory(text) => return add_directory(alloc, program, text),
+        Step::File(text, directory) => return add_file(alloc, program, text, directory, None),
+        Step::Known(text, directory, told) => {
+            return add_known(alloc, program, text, directory, told);
+        }
+        Step::Begin(address) => begin(program, address)?,
+        Step::Row(row) => add_row(program, row)?,
+        Step::Next(offset) => add_next(program, offset)?,
+        Step::End(offset) => end(program, offset)?,
+    }
+    Ok(0)
+}
+
+/// A program of the working directory `/` after steps.
+pub fn built(
     alloc: Global,
     encoding: Encoding,
     minimum: u8,
-    address: Option<Address>,
+    steps: &[Step],
 ) -> Result<LineProgram> {
     let mut program = program(alloc, encoding, minimum)?;
-    add_file(alloc, &mut program, b"a.c", 0, None)?;
-    begin(&mut program, address)?;
-    Ok(program)
-}
-
-/// A program of one sequence of one row, which ends at the row's offset.
-pub fn of_row(alloc: Global, encoding: Encoding, row: LineRow) -> Result<LineProgram> {
-    let mut program = begun(alloc, encoding, 1, None)?;
-    add_row(&mut program, row)?;
-    end(&mut program, row.address_offset)?;
-    Ok(program)
-}
-
-/// A program of version 2 with a directory, of whose file all is told.
-pub fn with_directory(alloc: Global) -> Result<LineProgram> {
-    let mut program = program(alloc, encoding(2, Format::Dwarf32, 4), 1)?;
-    add_directory(alloc, &mut program, b"/inc")?;
-    let info = FileInfo {
-        timestamp: 3,
-        size: 200,
-        ..NO_INFO
-    };
-    add_file(alloc, &mut program, b"a.c", 1, Some(info))?;
-    Ok(program)
-}
-
-/// What is told of a file of this text.
-pub fn with_source(source: LineString) -> FileInfo
-    ensures { result.source ≡ Some source }
-{
-    FileInfo {
-        source: Some(source),
-        ..NO_INFO
+    for step in steps {
+        take(alloc, &mut program, *step)?;
     }
+    Ok(program)
 }

@@ -6,10 +6,6 @@ use dw_strings::{LineStringTable, StringTable};
 use dw_writer::{DebugLine, EndianVec, FaultVec, RelocVec, Relocation, Writer};
 use std::alloc::Global;
 
-pub const LITTLE: RunTimeEndian = RunTimeEndian::Little;
-
-pub const BIG: RunTimeEndian = RunTimeEndian::Big;
-
 /// The value of a hex digit.
 fn digit(byte: u8) -> Option<u8> {
     match byte {
@@ -19,20 +15,15 @@ fn digit(byte: u8) -> Option<u8> {
     }
 }
 
-/// The bytes that a text of hex digits spells, in which spaces don't count.
-fn bytes_of(alloc: Global, hex: &str) -> Result<Vec<u8>> {
-    let mut bytes = Vec::new(alloc);
-    let mut high = None;
-    for low in hex.bytes().filter_map(digit) {
-        match high {
-            Some(digit) => {
-                bytes.push(low.wrapping_add(16u8.wrapping_mul(digit)))?;
-                high = None;
-            }
-            None => high = Some(low),
+/// Tells that a text of hex digits, in which spaces don't count, spells these bytes.
+fn is_spelled(bytes: &[u8], hex: &str) -> bool {
+    let mut digits = hex.bytes().filter_map(digit);
+    for byte in bytes {
+        if (digits.next(), digits.next()) != (Some(byte / 16), Some(byte % 16)) {
+            return false;
         }
     }
-    Ok(bytes)
+    digits.next().is_none()
 }
 
 /// Strings of `.debug_str` at 0 and 2.
@@ -51,6 +42,19 @@ fn line_strings(alloc: Global) -> Result<LineStringTable> {
     Ok(strings)
 }
 
+/// Writes a program for a unit of an encoding, and gives its place.
+fn write<W: Writer>(
+    alloc: Global,
+    program: &LineProgram,
+    unit: Encoding,
+    w: &mut DebugLine<W>,
+) -> Result<usize> {
+    let strings = strings(alloc)?;
+    let line_strings = line_strings(alloc)?;
+    let place = program.write(w, unit, &line_strings, &strings)?;
+    Ok(place.0)
+}
+
 /// Tells that a program is written as these bytes.
 pub fn is_written(
     alloc: Global,
@@ -58,12 +62,9 @@ pub fn is_written(
     endian: RunTimeEndian,
     hex: &str,
 ) -> Result<bool> {
-    let strings = strings(alloc)?;
-    let line_strings = line_strings(alloc)?;
     let mut w = DebugLine::from(EndianVec::new(alloc, endian));
-    let place = program.write(&mut w, program.encoding(), &line_strings, &strings)?;
-    let bytes = bytes_of(alloc, hex)?;
-    Ok(place.0 == 0 && w.0.slice() == bytes.as_slice())
+    let place = write(alloc, program, program.encoding(), &mut w)?;
+    Ok(place == 0 && is_spelled(w.0.slice(), hex))
 }
 
 /// Tells that a writer of relocations gets these bytes, and these relocations.
@@ -73,43 +74,33 @@ pub fn is_relocated(
     hex: &str,
     relocations: &[Relocation],
 ) -> Result<bool> {
-    let strings = strings(alloc)?;
-    let line_strings = line_strings(alloc)?;
-    let mut w = DebugLine::from(RelocVec::new(alloc, LITTLE));
-    program.write(&mut w, program.encoding(), &line_strings, &strings)?;
-    let bytes = bytes_of(alloc, hex)?;
-    Ok(w.0.slice() == bytes.as_slice() && w.0.relocations() == relocations)
+    let mut w = DebugLine::from(RelocVec::new(alloc, RunTimeEndian::Little));
+    write(alloc, program, program.encoding(), &mut w)?;
+    Ok(is_spelled(w.0.slice(), hex) && w.0.relocations() == relocations)
 }
 
 /// Why a program is refused for a unit of an encoding.
-pub fn refusal(alloc: Global, program: &LineProgram, unit: Encoding) -> Result<Option<Error>> {
-    let strings = strings(alloc)?;
-    let line_strings = line_strings(alloc)?;
-    let mut w = DebugLine::from(EndianVec::new(alloc, LITTLE));
-    match program.write(&mut w, unit, &line_strings, &strings) {
-        Ok(_) => Ok(None),
-        Err(error) => Ok(Some(error)),
-    }
+pub fn refusal(alloc: Global, program: &LineProgram, unit: Encoding) -> Option<Error> {
+    let mut w = DebugLine::from(EndianVec::new(alloc, RunTimeEndian::Little));
+    write(alloc, program, unit, &mut w).err()
 }
 
 /// The place of a second program behind a first one.
 pub fn second_place(alloc: Global, program: &LineProgram) -> Result<usize> {
-    let strings = strings(alloc)?;
-    let line_strings = line_strings(alloc)?;
-    let mut w = DebugLine::from(EndianVec::new(alloc, LITTLE));
-    program.write(&mut w, program.encoding(), &line_strings, &strings)?;
-    let place = program.write(&mut w, program.encoding(), &line_strings, &strings)?;
-    Ok(place.0)
+    let mut w = DebugLine::from(EndianVec::new(alloc, RunTimeEndian::Little));
+    write(alloc, program, program.encoding(), &mut w)?;
+    write(alloc, program, program.encoding(), &mut w)
 }
 
-/// Tells that a write leaves what stood before it where this call of the writer fails.
-pub fn is_kept_in_front(alloc: Global, program: &LineProgram, failing: u64) -> Result<bool> {
-    let strings = strings(alloc)?;
-    let line_strings = line_strings(alloc)?;
-    let mut w = DebugLine::from(FaultVec::new(alloc, LITTLE, vec![in alloc; failing]?));
+/// What a write answers where this call of the writer fails, if it leaves what stood before it.
+pub fn fault(alloc: Global, program: &LineProgram, failing: u64) -> Result<Option<Error>> {
+    let calls = vec![in alloc; failing]?;
+    let mut w = DebugLine::from(FaultVec::new(alloc, RunTimeEndian::Little, calls));
     w.0.write(&[1, 2, 3])?;
-    match program.write(&mut w, program.encoding(), &line_strings, &strings) {
-        Err(Error::WriteFault) => Ok(w.0.slice().starts_with(&[1, 2, 3])),
-        _ => Ok(false),
+    let answer = write(alloc, program, program.encoding(), &mut w);
+    if w.0.slice().starts_with(&[1, 2, 3]) {
+        Ok(answer.err())
+    } else {
+        Ok(None)
     }
 }

@@ -1,9 +1,8 @@
 mod entries;
 mod refusals;
 
-use dw_base::{BigEndian, LittleEndian};
-use dw_read::{EndianSlice, Reader};
-use dw_read_frames::{CieOrFde, CommonInformationEntry, PartialFrameDescriptionEntry};
+use dw_base::LittleEndian;
+use dw_read::EndianSlice;
 
 pub(crate) type Little<'a> = EndianSlice<'a, LittleEndian>;
 
@@ -31,26 +30,4 @@ pub(crate) const WIDE_FRAME: &[u8] = b"\xff\xff\xff\xff\x00\x00\x00\x00\x00\x00\
 
 pub(crate) fn little(bytes: &[u8]) -> Little<'_> {
     EndianSlice::new(bytes, LittleEndian)
-}
-
-pub(crate) fn big(bytes: &[u8]) -> EndianSlice<'_, BigEndian> {
-    EndianSlice::new(bytes, BigEndian)
-}
-
-/// The entry where it is a CIE.
-pub(crate) fn cie<R: Reader>(entry: Option<CieOrFde<R>>) -> Option<CommonInformationEntry<R>> {
-    match entry {
-        Some(CieOrFde::Cie(cie)) => Some(cie),
-        _ => None,
-    }
-}
-
-/// The entry where it is an FDE.
-pub(crate) fn fde<R: Reader>(
-    entry: Option<CieOrFde<R>>,
-) -> Option<PartialFrameDescriptionEntry<R>> {
-    match entry {
-        Some(CieOrFde::Fde(partial)) => Some(partial),
-        _ => None,
-    }
 }

@@ -3,10 +3,12 @@
 #![tactic(auto)]
 
 #[cfg(test)]
-mod expression_tests;
+mod expressions;
 #[cfg(test)]
-mod line_program_tests;
+mod lines;
 #[cfg(test)]
-mod list_tests;
+mod showing;
 #[cfg(test)]
 mod tests;
+#[cfg(test)]
+mod values;

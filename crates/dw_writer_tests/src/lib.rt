@@ -3,8 +3,10 @@
 #![tactic(auto)]
 
 #[cfg(test)]
-mod pointer_tests;
+mod calls;
 #[cfg(test)]
-mod tests;
+mod relocation_tests;
+#[cfg(test)]
+mod section_tests;
 #[cfg(test)]
 mod vector_tests;

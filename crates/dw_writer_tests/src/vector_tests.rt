@@ -1,63 +1,51 @@
-//! Each call over the three vectors, what relocating writers record, and when failing ones fail.
+//! Plain vectors and vectors of faults: what they hold, what they refuse, and their copies.
 
-use dw_base::{Address, Error, Format, Result, RunTimeEndian, SectionId, one_fault_more};
-use dw_writer::{
-    EndianVec, FaultVec, RelocVec, RelocateWriter, Relocation, RelocationTarget, Section, Sections,
-    Writer,
+ghost use Rattle.std.specs.Prelude.{◌≡◌, IfOk};
+
+use crate::calls::Call::{
+    Address, Bytes, BytesAt, Length, LengthAt, Offset, OffsetAt, Pointer, Reference, Sdata,
+    Sleb128, U8, U8At, U16, U16At, U32, U32At, U64, U64At, U128, Udata, UdataAt, Uleb128,
 };
-use std::alloc::Global;
+use crate::calls::{Answer, Call, FAULT, Held, SYMBOL, first_unanswered, first_wrong, leaves};
+use dw_base::Address::Constant;
+use dw_base::RunTimeEndian::{Big, Little};
+use dw_base::constants::{
+    DW_EH_PE_absptr, DW_EH_PE_pcrel, DW_EH_PE_sdata2, DW_EH_PE_sdata4, DW_EH_PE_sdata8,
+    DW_EH_PE_sleb128, DW_EH_PE_textrel, DW_EH_PE_udata2, DW_EH_PE_udata4, DW_EH_PE_udata8,
+    DW_EH_PE_uleb128,
+};
+use dw_base::{
+    BigEndian, DwEhPe, Error, Format, LittleEndian, RunTimeEndian, SectionId, one_fault_more,
+};
+use dw_writer::{EndianVec, FaultVec, Relocation, Writer};
+use std::alloc::AllocError;
 use std::test::Fail;
 
-/// Bytes as they are, and one number of each width.
-fn write_fixed<W: Writer>(w: &mut W) -> Result<()> {
-    w.write(&[1, 2])?;
-    w.write_u8(3)?;
-    w.write_u16(0x0405)?;
-    w.write_u32(0x0607_0809)?;
-    w.write_u64(0x0a0b_0c0d_0e0f_1011)
-}
-
-/// The widest number, numbers by their widths, and LEB128.
-fn write_numbers<W: Writer>(w: &mut W) -> Result<()> {
-    w.write_u128(0x1213_1415_1617_1819_1a1b_1c1d_1e1f_2021)?;
-    w.write_udata(0x2223, 2)?;
-    w.write_sdata(-2, 2)?;
-    w.write_uleb128(0x81)?;
-    w.write_sleb128(-0x80)
-}
-
-/// A length that is put in later, an address, and offsets.
-fn write_places<W: Writer>(w: &mut W) -> Result<()> {
-    let place = w.write_initial_length(Format::Dwarf64)?;
-    w.write_initial_length_at(place, 0x2425, Format::Dwarf64)?;
-    w.write_address(Address::Constant(0x2627), 2)?;
-    w.write_offset(0x28, SectionId::DebugStr, 1)?;
-    w.write_offset(0x292a, SectionId::DebugLine, 8)
-}
-
-/// Each call that patches a number of one width, over what the calls before left.
-fn patch_fixed<W: Writer>(w: &mut W) -> Result<()> {
-    w.write_u8_at(2, 0x33)?;
-    w.write_u16_at(3, 0x3435)?;
-    w.write_u32_at(5, 0x3637_3839)?;
-    w.write_u64_at(9, 0x3a3b_3c3d_3e3f_4041)
-}
-
-/// The other calls that patch.
-fn patch_others<W: Writer>(w: &mut W) -> Result<()> {
-    w.write_offset_at(0, 0x3132, SectionId::DebugInfo, 2)?;
-    w.write_udata_at(33, 0x4243, 2)?;
-    w.write_at(35, &[0x44, 0x45])
-}
-
-/// Each call that adds or patches, once, but for symbols.
-fn write_each<W: Writer>(w: &mut W) -> Result<()> {
-    write_fixed(w)?;
-    write_numbers(w)?;
-    write_places(w)?;
-    patch_fixed(w)?;
-    patch_others(w)
-}
+/// Bytes, a number of each width, numbers by their widths, and LEB128; a length, an address and
+/// offsets; and then each call that patches.
+pub const EACH: &[Call] = &[
+    Bytes(&[1, 2]),
+    U8(3),
+    U16(0x0405),
+    U32(0x0607_0809),
+    U64(0x0a0b_0c0d_0e0f_1011),
+    U128(0x1213_1415_1617_1819_1a1b_1c1d_1e1f_2021),
+    Udata(0x2223, 2),
+    Sdata(-2, 2),
+    Uleb128(0x81),
+    Sleb128(-0x80),
+    Length(0x2425, Format::Dwarf64),
+    Address(Constant(0x2627), 2),
+    Offset(0x28, SectionId::DebugStr, 1),
+    Offset(0x292a, SectionId::DebugLine, 8),
+    U8At(2, 0x33),
+    U16At(3, 0x3435),
+    U32At(5, 0x3637_3839),
+    U64At(9, 0x3a3b_3c3d_3e3f_4041),
+    OffsetAt(0, 0x3132, SectionId::DebugInfo, 2),
+    UdataAt(33, 0x4243, 2),
+    BytesAt(35, &[0x44, 0x45]),
+];
 
 const BIG: [u8; 64] = [
     0x31, 0x32, 0x33, 0x34, 0x35, 0x36, 0x37, 0x38, 0x39, 0x3a, 0x3b, 0x3c, 0x3d, 0x3e, 0x3f, 0x40,
@@ -73,339 +61,289 @@ const LITTLE: [u8; 64] = [
     0x00, 0x00, 0x00, 0x00, 0x00, 0x27, 0x26, 0x28, 0x2a, 0x29, 0x00, 0x00, 0x00, 0x00, 0x00, 0x00,
 ];
 
-/// A record of an offset.
-fn offset_at(offset: usize, size: u8, section: SectionId, addend: i64) -> Relocation {
-    Relocation {
-        offset,
-        size,
-        target: RelocationTarget::Section(section),
-        addend,
-        eh_pe: None,
-    }
-}
+/// Encodings with the application pcrel, and with the bit that says indirect.
+pub const PCREL_SDATA4: DwEhPe = DwEhPe(0x1b);
 
-/// A record of a symbol's address.
-fn symbol_at(offset: usize, size: u8, symbol: usize, addend: i64) -> Relocation {
-    Relocation {
-        offset,
-        size,
-        target: RelocationTarget::Symbol(symbol),
-        addend,
-        eh_pe: None,
-    }
-}
+const INDIRECT_UDATA2: DwEhPe = DwEhPe(0x82);
 
-/// What a plain vector holds after each call.
-fn written_plainly(alloc: Global, order: RunTimeEndian) -> Result<EndianVec<RunTimeEndian>> {
-    let mut w = EndianVec::new(alloc, order);
-    write_each(&mut w)?;
-    Ok(w)
-}
+/// Two below zero, in two's complement.
+const MINUS_TWO: u64 = 0xffff_ffff_ffff_fffe;
 
-/// What a vector of faults holds that has none.
-fn written_without_faults(alloc: Global, order: RunTimeEndian) -> Result<FaultVec<RunTimeEndian>> {
-    let mut w = FaultVec::new(alloc, order, Vec::new(alloc));
-    write_each(&mut w)?;
-    Ok(w)
-}
+const SIXTEEN: &[Call] = &[U128(0x0001_0203_0405_0607_0809_0a0b_0c0d_0e0f)];
 
-/// What a relocating vector holds.
-fn relocated(alloc: Global, order: RunTimeEndian) -> Result<RelocVec<RunTimeEndian>> {
-    let mut w = RelocVec::new(alloc, order);
-    write_each(&mut w)?;
-    Ok(w)
-}
-
-#[test]
-fn plain_vectors_hold_the_table(rt: HostRuntime) -> std::result::Result<(), Fail> {
-    for (order, table) in [(RunTimeEndian::Big, BIG), (RunTimeEndian::Little, LITTLE)] {
-        assert!(rt; written_plainly(rt.alloc(), order)?.slice() == table.as_slice());
-    }
-    Ok(())
-}
-
-#[test]
-fn vectors_of_faults_hold_the_table(rt: HostRuntime) -> std::result::Result<(), Fail> {
-    for (order, table) in [(RunTimeEndian::Big, BIG), (RunTimeEndian::Little, LITTLE)] {
-        assert!(rt; written_without_faults(rt.alloc(), order)?.slice() == table.as_slice());
-    }
-    Ok(())
-}
-
-/// The table with zeros for its three offsets.
-fn without_offsets(mut table: [u8; 64]) -> [u8; 64] {
-    for i in [0, 1, 55, 56, 57, 58, 59, 60, 61, 62, 63] {
-        table[i] = 0;
-    }
-    table
-}
-
-#[test]
-fn relocating_vectors_leave_offsets_out(rt: HostRuntime) -> std::result::Result<(), Fail> {
-    for (order, table) in [(RunTimeEndian::Big, BIG), (RunTimeEndian::Little, LITTLE)] {
-        let w = relocated(rt.alloc(), order)?;
-        assert!(rt; w.slice() == without_offsets(table).as_slice());
-    }
-    Ok(())
-}
-
-#[test]
-fn relocating_vectors_record_offsets(rt: HostRuntime) -> std::result::Result<(), Fail> {
-    let records = [
-        offset_at(55, 1, SectionId::DebugStr, 0x28),
-        offset_at(56, 8, SectionId::DebugLine, 0x292a),
-        offset_at(0, 2, SectionId::DebugInfo, 0x3132),
-    ];
-    for order in [RunTimeEndian::Big, RunTimeEndian::Little] {
-        let w = relocated(rt.alloc(), order)?;
-        assert!(rt; w.relocations() == records.as_slice());
-    }
-    Ok(())
-}
+/// Calls, and the bytes that they leave in a vector of this order.
+const HELD: &[(RunTimeEndian, &[Call], &[u8])] = &[
+    (Big, EACH, &BIG),
+    (Little, EACH, &LITTLE),
+    (
+        Big,
+        SIXTEEN,
+        &[0, 1, 2, 3, 4, 5, 6, 7, 8, 9, 10, 11, 12, 13, 14, 15],
+    ),
+    (
+        Little,
+        SIXTEEN,
+        &[15, 14, 13, 12, 11, 10, 9, 8, 7, 6, 5, 4, 3, 2, 1, 0],
+    ),
+    // The examples of DWARF 5, 7.6 and appendix C.
+    (
+        Little,
+        &[
+            Uleb128(2),
+            Uleb128(127),
+            Uleb128(128),
+            Uleb128(129),
+            Uleb128(12857),
+            Uleb128(624485),
+        ],
+        b"\x02\x7f\x80\x01\x81\x01\xb9\x64\xe5\x8e\x26",
+    ),
+    (
+        Little,
+        &[
+            Sleb128(2),
+            Sleb128(-2),
+            Sleb128(127),
+            Sleb128(-127),
+            Sleb128(128),
+            Sleb128(-128),
+        ],
+        b"\x02\x7e\xff\x00\x81\x7f\x80\x01\x80\x7f",
+    ),
+    (
+        Little,
+        &[Uleb128(u64::MAX), Sleb128(i64::MIN)],
+        b"\xff\xff\xff\xff\xff\xff\xff\xff\xff\x01\x80\x80\x80\x80\x80\x80\x80\x80\x80\x7f",
+    ),
+    (
+        Big,
+        &[
+            Length(2, Format::Dwarf32),
+            Bytes(b"hi"),
+            Length(2, Format::Dwarf64),
+            Bytes(b"hi"),
+        ],
+        b"\0\0\0\x02hi\xff\xff\xff\xff\0\0\0\0\0\0\0\x02hi",
+    ),
+    // A pointer in each format; the last but one counts from its own place, which is 35.
+    (
+        Little,
+        &[
+            Pointer(Constant(0x0102), DW_EH_PE_absptr, 4),
+            Pointer(Constant(0x80), DW_EH_PE_uleb128, 4),
+            Pointer(Constant(0x0304), DW_EH_PE_udata2, 4),
+            Pointer(Constant(5), DW_EH_PE_udata4, 4),
+            Pointer(Constant(6), DW_EH_PE_udata8, 4),
+            Pointer(Constant(MINUS_TWO), DW_EH_PE_sleb128, 4),
+            Pointer(Constant(MINUS_TWO), DW_EH_PE_sdata2, 4),
+            Pointer(Constant(MINUS_TWO), DW_EH_PE_sdata4, 4),
+            Pointer(Constant(MINUS_TWO), DW_EH_PE_sdata8, 4),
+            Pointer(Constant(33), PCREL_SDATA4, 4),
+            Pointer(Constant(7), INDIRECT_UDATA2, 4),
+        ],
+        &[
+            0x02, 0x01, 0x00, 0x00, 0x80, 0x01, 0x04, 0x03, 0x05, 0x00, 0x00, 0x00, 0x06, 0x00,
+            0x00, 0x00, 0x00, 0x00, 0x00, 0x00, 0x7e, 0xfe, 0xff, 0xfe, 0xff, 0xff, 0xff, 0xfe,
+            0xff, 0xff, 0xff, 0xff, 0xff, 0xff, 0xff, 0xfe, 0xff, 0xff, 0xff, 0x07, 0x00,
+        ],
+    ),
+];
 
 #[test]
-fn relocating_vectors_tell_what_they_are(rt: HostRuntime) -> std::result::Result<(), Fail> {
-    for order in [RunTimeEndian::Big, RunTimeEndian::Little] {
-        let w = relocated(rt.alloc(), order)?;
-        assert!(rt; w.len() == 64 && w.writer().len() == 64 && w.endian() == order);
-    }
-    Ok(())
-}
-
-/// A relocating vector of four symbols' addresses, two of which are patched.
-fn of_symbols(alloc: Global) -> Result<RelocVec<RunTimeEndian>> {
-    let mut w = RelocVec::new(alloc, RunTimeEndian::Little);
-    for (symbol, addend, size) in [
-        (1, 0x1234_5678, 4),
-        (0, i64::MIN, 8),
-        (usize::MAX, i64::MAX, 1),
-        (2, -1, 2),
-    ] {
-        w.write_address(Address::Symbol { symbol, addend }, size)?;
-    }
-    // A patch may write over a place, and a place may have two records.
-    w.write_u8_at(3, 9)?;
-    w.write_offset_at(4, 7, SectionId::EhFrame, 8)?;
-    Ok(w)
-}
-
-#[test]
-fn records_symbols(rt: HostRuntime) -> std::result::Result<(), Fail> {
-    let w = of_symbols(rt.alloc())?;
-    assert!(rt; w.slice() == b"\0\0\0\x09\0\0\0\0\0\0\0\0\0\0\0".as_slice());
-    let records = [
-        symbol_at(0, 4, 1, 0x1234_5678),
-        symbol_at(4, 8, 0, i64::MIN),
-        symbol_at(12, 1, usize::MAX, i64::MAX),
-        symbol_at(13, 2, 2, -1),
-        offset_at(4, 8, SectionId::EhFrame, 7),
-    ];
-    assert!(rt; w.relocations() == records.as_slice());
-    Ok(())
-}
-
-const SYMBOL: Address = Address::Symbol {
-    symbol: 0,
-    addend: 0,
-};
-
-/// An offset that has no room in an addend.
-const TOO_LARGE: usize = 0x8000_0000_0000_0000;
-
-/// A relocating vector of no bytes.
-fn new_relocating(alloc: Global) -> RelocVec<RunTimeEndian> {
-    RelocVec::new(alloc, RunTimeEndian::Little)
-}
-
-/// Tells that a vector got no byte and no record.
-fn is_untouched(w: &RelocVec<RunTimeEndian>) -> bool {
-    w.len() == 0 && w.relocations().is_empty()
-}
-
-/// Tells that a relocating vector refuses an address for this reason, and stays as it was.
-fn is_address_refused(alloc: Global, address: Address, size: u8, why: Error) -> bool {
-    let mut w = new_relocating(alloc);
-    w.write_address(address, size) == Err(why) && is_untouched(&w)
-}
-
-/// The same for an offset.
-fn is_offset_refused(alloc: Global, val: usize, size: u8, why: Error) -> bool {
-    let mut w = new_relocating(alloc);
-    w.write_offset(val, SectionId::DebugStr, size) == Err(why) && is_untouched(&w)
-}
-
-/// The same for an offset over bytes.
-fn is_patch_refused(alloc: Global, place: usize, val: usize, size: u8, why: Error) -> bool {
-    let mut w = new_relocating(alloc);
-    w.write_offset_at(place, val, SectionId::DebugStr, size) == Err(why) && is_untouched(&w)
-}
-
-#[test]
-fn refuses_addresses_without_a_record(rt: HostRuntime) -> std::result::Result<(), Fail> {
-    let alloc = rt.alloc();
-    let large = Address::Constant(256);
-    assert!(rt; is_address_refused(alloc, SYMBOL, 3, Error::UnsupportedWordSize(3)));
-    assert!(rt; is_address_refused(alloc, large, 1, Error::ValueTooLarge));
-    Ok(())
-}
-
-#[test]
-fn refuses_offsets_without_a_record(rt: HostRuntime) -> std::result::Result<(), Fail> {
-    let alloc = rt.alloc();
-    assert!(rt; is_offset_refused(alloc, TOO_LARGE, 0, Error::UnsupportedWordSize(0)));
-    assert!(rt; is_offset_refused(alloc, TOO_LARGE, 8, Error::ValueTooLarge));
-    Ok(())
-}
-
-#[test]
-fn refuses_patches_without_a_record(rt: HostRuntime) -> std::result::Result<(), Fail> {
-    for (place, val, size, why) in [
-        (0, TOO_LARGE, 8, Error::ValueTooLarge),
-        (1, 0, 4, Error::OffsetOutOfBounds),
-        (0, 0, 4, Error::LengthOutOfBounds),
-    ] {
-        assert!(rt;
-            is_patch_refused(rt.alloc(), place, val, size, why),
-            "at {place}"
+fn holds_what_calls_leave(rt: HostRuntime) {
+    for (i, (order, calls, bytes)) in HELD.iter().enumerate() {
+        let plain = EndianVec::new(rt.alloc(), *order);
+        let faulty = FaultVec::new(rt.alloc(), *order, Vec::new(rt.alloc()));
+        let is_plain = leaves(plain, calls, bytes, &[]);
+        assert_eq!(rt;
+            (i, is_plain, leaves(faulty, calls, bytes, &[])),
+            (i, true, true)
         );
     }
+}
+
+const NUMBERS: &[Call] = &[
+    U8(0x01),
+    U16(0x0203),
+    U32(0x0405_0607),
+    U64(0x0809_0a0b_0c0d_0e0f),
+    Udata(0x1011, 2),
+    Sdata(-2, 4),
+];
+
+/// The orders that are chosen when the program is built.
+#[test]
+fn puts_numbers_in_fixed_orders(rt: HostRuntime) {
+    let big = [
+        0x01, 0x02, 0x03, 0x04, 0x05, 0x06, 0x07, 0x08, 0x09, 0x0a, 0x0b, 0x0c, 0x0d, 0x0e, 0x0f,
+        0x10, 0x11, 0xff, 0xff, 0xff, 0xfe,
+    ];
+    let little = [
+        0x01, 0x03, 0x02, 0x07, 0x06, 0x05, 0x04, 0x0f, 0x0e, 0x0d, 0x0c, 0x0b, 0x0a, 0x09, 0x08,
+        0x11, 0x10, 0xfe, 0xff, 0xff, 0xff,
+    ];
+    let is_big = leaves(EndianVec::new(rt.alloc(), BigEndian), NUMBERS, &big, &[]);
+    let is_little = leaves(
+        EndianVec::new(rt.alloc(), LittleEndian),
+        NUMBERS,
+        &little,
+        &[],
+    );
+    assert_eq!(rt; (is_big, is_little), (true, true));
+}
+
+/// The bytes, without a copy.
+#[test]
+fn hands_its_bytes_out(rt: HostRuntime) -> std::result::Result<(), Fail> {
+    let mut w = EndianVec::new(rt.alloc(), LittleEndian);
+    w.write(b"abc")?;
+    assert_eq!(rt; w.into_vec().as_slice(), b"abc".as_slice());
+    Ok(())
+}
+
+/// Four zeros, and calls that a vector of these refuses that records nothing.
+const REFUSED: &[Answer] = &[
+    (U32(0), Ok(())),
+    (Udata(0, 3), Err(Error::UnsupportedWordSize(3))),
+    (Udata(256, 1), Err(Error::ValueTooLarge)),
+    (Sdata(128, 1), Err(Error::ValueTooLarge)),
+    (Sdata(-129, 1), Err(Error::ValueTooLarge)),
+    (Address(SYMBOL, 8), Err(Error::InvalidAddress)),
+    (Reference(0, 4), Err(Error::InvalidReference)),
+    (U16At(5, 1), Err(Error::OffsetOutOfBounds)),
+    (U16At(3, 1), Err(Error::LengthOutOfBounds)),
+    (
+        LengthAt(0, 0xffff_fff0, Format::Dwarf32),
+        Err(Error::InitialLengthOverflow),
+    ),
+    (
+        Pointer(Constant(0), DW_EH_PE_absptr, 3),
+        Err(Error::UnsupportedWordSize(3)),
+    ),
+    (
+        Pointer(Constant(0x1_0000), DW_EH_PE_udata2, 8),
+        Err(Error::ValueTooLarge),
+    ),
+    (
+        Pointer(Constant(0x8000), DW_EH_PE_sdata2, 8),
+        Err(Error::ValueTooLarge),
+    ),
+    (
+        Pointer(Constant(0), DwEhPe(5), 8),
+        Err(Error::UnsupportedPointerEncoding(DwEhPe(5))),
+    ),
+    (
+        Pointer(Constant(0), DW_EH_PE_textrel, 8),
+        Err(Error::UnsupportedPointerEncoding(DW_EH_PE_textrel)),
+    ),
+    (
+        Pointer(SYMBOL, DW_EH_PE_pcrel, 8),
+        Err(Error::InvalidAddress),
+    ),
+];
+
+#[test]
+fn refuses_calls_and_adds_nothing(rt: HostRuntime) {
+    let plain = EndianVec::new(rt.alloc(), Big);
+    let faulty = FaultVec::new(rt.alloc(), Big, Vec::new(rt.alloc()));
+    let wrong = first_unanswered(plain, REFUSED, &[0; 4]);
+    assert_eq!(rt;
+        (wrong, first_unanswered(faulty, REFUSED, &[0; 4])),
+        (None, None)
+    );
+}
+
+/// A copy under a bound, which promises that clones are the same writers.
+fn copy_of<W: Writer + Clone>(w: &W) -> std::result::Result<W, AllocError>
+    requires { (s n : W) → W.is_clone s n → W.meaning n ≡ W.meaning s }
+    ensures { IfOk result (λ n. W.meaning n ≡ W.meaning w.now) }
+{
+    w.clone()
+}
+
+/// Calls of a writer, those of a copy that is made behind the first ones, and what each has then.
+pub struct Fork {
+    pub before: &'static [Answer],
+    pub own: (&'static [Answer], &'static [u8], &'static [Relocation]),
+    pub copied: (&'static [Answer], &'static [u8], &'static [Relocation]),
+}
+
+/// Tells that a writer and its copy answer what they should, and get their own bytes and records.
+pub fn forks<W: Writer + Clone + Held>(
+    mut w: W,
+    fork: &Fork,
+) -> std::result::Result<bool, AllocError>
+    requires { (s n : W) → W.is_clone s n → W.meaning n ≡ W.meaning s }
+{
+    let before = first_wrong(&mut w, fork.before);
+    let mut copy = copy_of(&w)?;
+    let (calls, bytes, records) = fork.own;
+    let own = first_wrong(&mut w, calls).is_none() && w.bytes() == bytes && w.records() == records;
+    let (calls, bytes, records) = fork.copied;
+    let copied = first_wrong(&mut copy, calls).is_none()
+        && copy.bytes() == bytes
+        && copy.records() == records;
+    Ok(before.is_none() && own && copied)
+}
+
+const PATCHED: Fork = Fork {
+    before: &[
+        (Address(Constant(0x1234), 8), Ok(())),
+        (Offset(0x56, SectionId::DebugStr, 4), Ok(())),
+    ],
+    own: (
+        &[
+            (OffsetAt(8, 0x78, SectionId::DebugStr, 4), Ok(())),
+            (UdataAt(0, 0x9abc, 2), Ok(())),
+            (U16At(2, 0x0102), Ok(())),
+            (U8At(4, 0x03), Ok(())),
+        ],
+        b"\xbc\x9a\x02\x01\x03\0\0\0\x78\0\0\0",
+        &[],
+    ),
+    copied: (
+        &[(U16(0x0304), Ok(()))],
+        b"\x34\x12\0\0\0\0\0\0\x56\0\0\0\x04\x03",
+        &[],
+    ),
+};
+
+/// Of the calls that write bytes, those with the numbers 0, 3, 5 and 6 fail. A call whose width is
+/// amiss is refused before it is counted. A copy counts its own calls on, from those that were made
+/// before it.
+const FAILING: Fork = Fork {
+    before: &[
+        (Bytes(&[1]), FAULT),
+        (U16(0x0102), Ok(())),
+        (Udata(1, 3), Err(Error::UnsupportedWordSize(3))),
+        (U8At(9, 1), Err(Error::OffsetOutOfBounds)),
+        (U8At(0, 9), FAULT),
+        (Offset(7, SectionId::DebugStr, 1), Ok(())),
+    ],
+    own: (
+        &[
+            (OffsetAt(0, 9, SectionId::DebugStr, 1), FAULT),
+            (Address(Constant(9), 1), FAULT),
+            (U8At(0, 9), Ok(())),
+        ],
+        b"\x09\x02\x07",
+        &[],
+    ),
+    copied: (&[(Uleb128(0), FAULT)], b"\x01\x02\x07", &[]),
+};
+
+#[test]
+fn copies_are_apart(rt: HostRuntime) -> std::result::Result<(), Fail> {
+    assert!(rt; forks(EndianVec::new(rt.alloc(), LittleEndian), &PATCHED)?);
+    let calls = vec![in rt.alloc(); 0, 3, 5, 6]?;
+    assert!(rt; forks(FaultVec::new(rt.alloc(), Big, calls), &FAILING)?);
     Ok(())
 }
 
 #[test]
-fn refuses_references(rt: HostRuntime) -> std::result::Result<(), Fail> {
-    let mut w = new_relocating(rt.alloc());
-    assert!(rt; w.write_reference(0, 4) == Err(Error::InvalidReference) && is_untouched(&w));
-    let mut plain = EndianVec::new(rt.alloc(), RunTimeEndian::Big);
-    assert!(rt; plain.write_reference(0, 4) == Err(Error::InvalidReference));
-    Ok(())
-}
-
-#[test]
-fn records_the_largest_offset(rt: HostRuntime) -> std::result::Result<(), Fail> {
-    let mut w = new_relocating(rt.alloc());
-    w.write_offset(TOO_LARGE - 1, SectionId::DebugStr, 1)?;
-    let record = offset_at(0, 1, SectionId::DebugStr, i64::MAX);
-    assert!(rt; w.relocations() == [record].as_slice());
-    Ok(())
-}
-
-/// A vector of one record, and a copy that was made before each of them got one thing more.
-fn record_and_copy(alloc: Global) -> Result<(RelocVec<RunTimeEndian>, RelocVec<RunTimeEndian>)> {
-    let mut w = RelocVec::new(alloc, RunTimeEndian::Big);
-    w.write_offset(1, SectionId::DebugStr, 2)?;
-    let mut copy = w.clone()?;
-    w.write_offset(2, SectionId::DebugLine, 1)?;
-    copy.write_u8(5)?;
-    Ok((w, copy))
-}
-
-#[test]
-fn clones_records(rt: HostRuntime) -> std::result::Result<(), Fail> {
-    let (w, copy) = record_and_copy(rt.alloc())?;
-    let first = offset_at(0, 2, SectionId::DebugStr, 1);
-    let second = offset_at(2, 1, SectionId::DebugLine, 2);
-    assert!(rt; w.relocations() == [first, second].as_slice());
-    assert!(rt; copy.relocations() == [first].as_slice());
-    Ok(())
-}
-
-#[test]
-fn clones_bytes_beside_records(rt: HostRuntime) -> std::result::Result<(), Fail> {
-    let (w, copy) = record_and_copy(rt.alloc())?;
-    assert!(rt; w.slice() == b"\0\0\0".as_slice() && copy.slice() == b"\0\0\x05".as_slice());
-    Ok(())
-}
-
-const FAULT: Result<()> = Err(Error::WriteFault);
-
-/// Tells that the first call of these and the last fail, and those fail before any call whose width
-/// or place is amiss.
-fn fail_at_first<W: Writer>(w: &mut W) -> Result<bool> {
-    let first = w.write(&[1]) == FAULT;
-    w.write_u16(0x0102)?;
-    let width = w.write_udata(1, 3) == Err(Error::UnsupportedWordSize(3));
-    let place = w.write_u8_at(9, 1) == Err(Error::OffsetOutOfBounds);
-    let last = w.write_u8_at(0, 9) == FAULT;
-    w.write_offset(7, SectionId::DebugStr, 1)?;
-    Ok(first && width && place && last)
-}
-
-/// Tells that two calls fail, and then one doesn't.
-fn fail_next<W: Writer>(w: &mut W) -> Result<bool> {
-    let offset = w.write_offset_at(0, 9, SectionId::DebugStr, 1) == FAULT;
-    let address = w.write_address(Address::Constant(9), 1) == FAULT;
-    w.write_u8_at(0, 9)?;
-    Ok(offset && address)
-}
-
-/// A vector that fails at four calls.
-fn failing(alloc: Global) -> Result<FaultVec<RunTimeEndian>> {
-    let calls = vec![in alloc; 0, 3, 5, 6]?;
-    Ok(FaultVec::new(alloc, RunTimeEndian::Big, calls))
-}
-
-#[test]
-fn fails_at_chosen_calls(rt: HostRuntime) -> std::result::Result<(), Fail> {
-    let mut w = failing(rt.alloc())?;
-    assert!(rt; fail_at_first(&mut w)?);
-    assert!(rt; fail_next(&mut w)?);
-    assert!(rt; w.slice() == b"\x09\x02\x07".as_slice());
-    Ok(())
-}
-
-/// Whether a vector fails as it should, and a copy that was made between its faults.
-fn faults_and_copy(alloc: Global) -> Result<(bool, FaultVec<RunTimeEndian>)> {
-    let mut w = failing(alloc)?;
-    let first = fail_at_first(&mut w)?;
-    let copy = w.clone()?;
-    let next = fail_next(&mut w)?;
-    Ok((first && next, copy))
-}
-
-#[test]
-fn clones_count_their_own_calls(rt: HostRuntime) -> std::result::Result<(), Fail> {
-    let (has_failed, mut copy) = faults_and_copy(rt.alloc())?;
-    assert!(rt; has_failed && copy.write_uleb128(0) == FAULT);
-    assert!(rt; copy.slice() == b"\x01\x02\x07".as_slice());
-    Ok(())
-}
-
-#[test]
-fn vectors_of_faults_are_plain(rt: HostRuntime) -> std::result::Result<(), Fail> {
-    let mut w = failing(rt.alloc())?;
-    assert!(rt; w.write_address(SYMBOL, 8) == Err(Error::InvalidAddress));
-    assert!(rt; w.write_reference(0, 4) == Err(Error::InvalidReference));
-    Ok(())
-}
-
-#[test]
-fn counts_faults_to_their_end(rt: HostRuntime) -> std::result::Result<(), Fail> {
-    assert!(rt; one_fault_more(7) == 8 && one_fault_more(u64::MAX) == u64::MAX);
-    Ok(())
-}
-
-#[test]
-fn makes_sections_of_relocating_vectors(rt: HostRuntime) -> std::result::Result<(), Fail> {
-    let mut sections = Sections::new(rt.alloc(), new_relocating(rt.alloc()))?;
-    let info = sections.debug_info.section_mut();
-    info.write_offset(5, SectionId::DebugAbbrev, 4)?;
-    info.write_u8(8)?;
-    let record = offset_at(0, 4, SectionId::DebugAbbrev, 5);
-    assert!(rt; sections.debug_info.0.slice() == b"\0\0\0\0\x08".as_slice());
-    assert!(rt; sections.debug_info.section().relocations() == [record].as_slice());
-    assert!(rt; sections.debug_abbrev.0.len() == 0);
-    Ok(())
-}
-
-#[test]
-fn makes_sections_of_failing_vectors(rt: HostRuntime) -> std::result::Result<(), Fail> {
-    let calls = vec![in rt.alloc(); 1]?;
-    let w = FaultVec::new(rt.alloc(), RunTimeEndian::Little, calls);
-    let mut sections = Sections::new(rt.alloc(), w)?;
-    sections.debug_line.section_mut().write_u8(1)?;
-    assert!(rt; sections.debug_line.section_mut().write_u8(2) == FAULT);
-    sections.debug_loc.section_mut().write_u8(3)?;
-    assert!(rt; sections.debug_line.0.slice() == b"\x01".as_slice());
-    Ok(())
+fn counts_faults_to_their_end(rt: HostRuntime) {
+    assert_eq!(rt;
+        (one_fault_more(7), one_fault_more(u64::MAX)),
+        (8, u64::MAX)
+    );
 }

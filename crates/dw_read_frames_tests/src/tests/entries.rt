@@ -1,140 +1,164 @@
 //! The entries of three sections, with their bytes by hand.
 
-use crate::tests::{DEBUG_FRAME, EH_FRAME, Little, WIDE_FRAME, big, cie, fde, little};
-use dw_base::{DwEhPe, Format, Register};
-use dw_read::{ReadResult, Reader};
+use crate::tests::{DEBUG_FRAME, EH_FRAME, WIDE_FRAME, little};
+use dw_base::{BigEndian, DwEhPe, Encoding, Format, Register};
+use dw_read::{EndianSlice, ReadResult, Reader};
 use dw_read_frames::{
-    CallFrameInstruction, CallFrameInstructionIter, CommonInformationEntry, DebugFrame, EhFrame,
-    UnwindSection,
+    CallFrameInstruction, CallFrameInstructionIter, CieOrFde, DebugFrame, EhFrame, UnwindSection,
 };
-use std::test::Fail;
 
-/// Whether there are so many instructions, each of which can be read.
-fn has_count<R: Reader>(
-    mut instructions: CallFrameInstructionIter<R>,
-    count: usize,
-) -> ReadResult<bool> {
-    for _ in 0..count {
+/// How many instructions there are, at most 8.
+fn count<R: Reader>(mut instructions: CallFrameInstructionIter<R>) -> ReadResult<usize> {
+    for number in 0..8 {
         if instructions.next()?.is_none() {
-            return Ok(false);
+            return Ok(number);
         }
     }
-    Ok(instructions.next()?.is_none())
+    Ok(8)
 }
 
-fn debug_frame() -> DebugFrame<Little<'static>> {
-    DebugFrame::new(little(DEBUG_FRAME), 4)
+/// The place and the encoding of a CIE, its factors and column, its pointers, and how many
+/// instructions it has.
+type Common = (
+    (usize, Encoding),
+    (u64, i64, Register),
+    (Option<(DwEhPe, u64)>, Option<DwEhPe>, Option<DwEhPe>, bool),
+    usize,
+);
+
+/// The first entry of a section, where it is a CIE.
+fn common<R: Reader, S: UnwindSection<R>>(section: &S) -> ReadResult<Option<Common>> {
+    let Some(CieOrFde::Cie(cie)) = section.entries().next()? else {
+        return Ok(None);
+    };
+    Ok(Some((
+        (cie.offset(), cie.encoding()),
+        (
+            cie.code_alignment_factor(),
+            cie.data_alignment_factor(),
+            cie.return_address_register(),
+        ),
+        (
+            cie.personality_with_encoding(),
+            cie.lsda_encoding(),
+            cie.fde_address_encoding(),
+            cie.is_signal_trampoline(),
+        ),
+        count(cie.instructions())?,
+    )))
 }
 
-fn eh_frame() -> EhFrame<Little<'static>> {
-    EhFrame::new(little(EH_FRAME), 8)
+/// The place of an FDE and that of its CIE, its addresses and its data, and how many instructions
+/// it has.
+type Frame = ((usize, usize), (u64, u64, Option<u64>), usize);
+
+/// The second entry of a section, where it is an FDE.
+fn frame<R: Reader, S: UnwindSection<R>>(section: &S) -> ReadResult<Option<Frame>> {
+    let mut entries = section.entries();
+    entries.next()?;
+    let Some(CieOrFde::Fde(partial)) = entries.next()? else {
+        return Ok(None);
+    };
+    let places = (partial.offset(), partial.cie_offset());
+    let frame = partial.parse(section.cie_from_offset(places.1)?)?;
+    let addresses = (frame.initial_address(), frame.len(), frame.lsda());
+    Ok(Some((places, addresses, count(frame.instructions())?)))
 }
 
-fn common_debug() -> ReadResult<Option<CommonInformationEntry<Little<'static>>>> {
-    Ok(cie(debug_frame().entries().next()?))
+/// Whether each of four entries of a section is there.
+fn are_there<R: Reader, S: UnwindSection<R>>(section: &S) -> ReadResult<[bool; 4]> {
+    let mut entries = section.entries();
+    let mut answers = [false; 4];
+    for answer in &mut answers {
+        *answer = entries.next()?.is_some();
+    }
+    Ok(answers)
 }
 
-fn common_eh() -> ReadResult<Option<CommonInformationEntry<Little<'static>>>> {
-    Ok(cie(eh_frame().entries().next()?))
+/// What is known of a section.
+type Facts = (
+    ReadResult<Option<Common>>,
+    ReadResult<Option<Frame>>,
+    ReadResult<[bool; 4]>,
+);
+
+fn facts<R: Reader, S: UnwindSection<R>>(section: &S) -> Facts {
+    (common(section), frame(section), are_there(section))
 }
+
+const DEBUG: Facts = (
+    Ok(Some((
+        (
+            0,
+            Encoding {
+                address_size: 4,
+                format: Format::Dwarf32,
+                version: 1,
+            },
+        ),
+        (1, -4, Register(8)),
+        (None, None, None, false),
+        4,
+    ))),
+    Ok(Some(((20, 0), (0x1000, 32, None), 3))),
+    Ok([true, true, false, false]),
+);
+
+const EH: Facts = (
+    Ok(Some((
+        (
+            0,
+            Encoding {
+                address_size: 8,
+                format: Format::Dwarf32,
+                version: 1,
+            },
+        ),
+        (1, -8, Register(16)),
+        (
+            Some((DwEhPe(0x9b), 0x100)),
+            Some(DwEhPe(0x1b)),
+            Some(DwEhPe(0x1b)),
+            true,
+        ),
+        3,
+    ))),
+    Ok(Some(((32, 0), (0x10, 64, Some(0x200)), 2))),
+    Ok([true, true, false, false]),
+);
+
+const WIDE: Facts = (
+    Ok(Some((
+        (
+            0,
+            Encoding {
+                address_size: 4,
+                format: Format::Dwarf64,
+                version: 4,
+            },
+        ),
+        (4, -4, Register(128)),
+        (None, None, None, false),
+        0,
+    ))),
+    Ok(Some(((28, 0), (0x1000, 32, None), 0))),
+    Ok([true, true, false, false]),
+);
 
 #[test]
-fn reads_a_cie_of_debug_frame(rt: HostRuntime) -> Result<(), Fail> {
-    let common = common_debug()?.ok_or("no CIE")?;
-    let encoding = common.encoding();
-    assert_eq!(rt;
-        (common.offset(), encoding.version, encoding.address_size),
-        (0, 1, 4)
-    );
-    let factors = (
-        common.code_alignment_factor(),
-        common.data_alignment_factor(),
-    );
-    assert_eq!(rt; factors, (1, -4));
-    assert_eq!(rt; common.return_address_register(), Register(8));
-    assert_eq!(rt; common.fde_address_encoding(), None);
-    assert!(rt; has_count(common.instructions(), 4)?);
-    Ok(())
+fn reads_entries(rt: HostRuntime) {
+    let answers = [
+        facts(&DebugFrame::new(little(DEBUG_FRAME), 4)) == DEBUG,
+        facts(&EhFrame::new(little(EH_FRAME), 8)) == EH,
+        facts(&DebugFrame::new(EndianSlice::new(WIDE_FRAME, BigEndian), 8)) == WIDE,
+    ];
+    assert_eq!(rt; answers, [true; 3]);
 }
 
-#[test]
-fn reads_an_fde_of_debug_frame(rt: HostRuntime) -> Result<(), Fail> {
-    let mut entries = debug_frame().entries();
-    let common = cie(entries.next()?).ok_or("no CIE")?;
-    let partial = fde(entries.next()?).ok_or("no FDE")?;
-    assert_eq!(rt; (partial.offset(), partial.cie_offset()), (20, 0));
-    let frame = partial.parse(common)?;
-    assert_eq!(rt;
-        (frame.initial_address(), frame.len(), frame.lsda()),
-        (0x1000, 32, None)
-    );
-    assert!(rt; has_count(frame.instructions(), 3)?);
-    assert!(rt; entries.next()?.is_none());
-    Ok(())
-}
-
-#[test]
-fn reads_a_cie_of_eh_frame(rt: HostRuntime) -> Result<(), Fail> {
-    let common = common_eh()?.ok_or("no CIE")?;
-    assert_eq!(rt;
-        common.personality_with_encoding(),
-        Some((DwEhPe(0x9b), 0x100))
-    );
-    let pointers = (common.lsda_encoding(), common.fde_address_encoding());
-    assert_eq!(rt; pointers, (Some(DwEhPe(0x1b)), Some(DwEhPe(0x1b))));
-    assert!(rt; common.is_signal_trampoline());
-    assert_eq!(rt; common.return_address_register(), Register(16));
-    assert!(rt; has_count(common.instructions(), 3)?);
-    Ok(())
-}
-
-#[test]
-fn reads_an_fde_of_eh_frame(rt: HostRuntime) -> Result<(), Fail> {
-    let frames = eh_frame();
-    let mut entries = frames.entries();
-    assert!(rt; entries.next()?.is_some());
-    let partial = fde(entries.next()?).ok_or("no FDE")?;
-    assert_eq!(rt; partial.cie_offset(), 0);
-    let frame = partial.parse(frames.cie_from_offset(0)?)?;
-    assert_eq!(rt;
-        (frame.initial_address(), frame.len(), frame.lsda()),
-        (0x10, 64, Some(0x200))
-    );
-    assert!(rt; has_count(frame.instructions(), 2)?);
-    Ok(())
-}
-
-#[test]
-fn ends_at_the_length_0(rt: HostRuntime) -> Result<(), Fail> {
-    let mut entries = eh_frame().entries();
-    let is_there = (entries.next()?.is_some(), entries.next()?.is_some());
-    assert_eq!(rt; is_there, (true, true));
-    let is_there = (entries.next()?.is_some(), entries.next()?.is_some());
-    assert_eq!(rt; is_there, (false, false));
-    Ok(())
-}
-
-#[test]
-fn reads_the_wide_format(rt: HostRuntime) -> Result<(), Fail> {
-    let mut entries = DebugFrame::new(big(WIDE_FRAME), 8).entries();
-    let common = cie(entries.next()?).ok_or("no CIE")?;
-    let encoding = common.encoding();
-    assert_eq!(rt;
-        (encoding.format, encoding.address_size),
-        (Format::Dwarf64, 4)
-    );
-    assert_eq!(rt; common.return_address_register(), Register(128));
-    let partial = fde(entries.next()?).ok_or("no FDE")?;
-    assert_eq!(rt; partial.offset(), 28);
-    let frame = partial.parse(common)?;
-    assert_eq!(rt; (frame.initial_address(), frame.len()), (0x1000, 32));
-    assert!(rt; entries.next()?.is_none());
-    Ok(())
-}
-
-#[test]
-fn reads_instructions(rt: HostRuntime) -> Result<(), Fail> {
-    let mut instructions = common_debug()?.ok_or("no CIE")?.instructions();
+/// Whether the first three instructions of a CIE are those of `DEBUG_FRAME`.
+fn has_instructions() -> ReadResult<[bool; 3]> {
+    let frames = DebugFrame::new(little(DEBUG_FRAME), 4);
+    let mut instructions = frames.cie_from_offset(0)?.instructions();
     let is_frame = matches!(
         instructions.next()?,
         Some(CallFrameInstruction::DefCfa {
@@ -150,7 +174,10 @@ fn reads_instructions(rt: HostRuntime) -> Result<(), Fail> {
         })
     );
     let is_nop = matches!(instructions.next()?, Some(CallFrameInstruction::Nop));
-    assert_eq!(rt; (is_frame, is_rule, is_nop), (true, true, true));
-    assert!(rt; has_count(instructions, 1)?);
-    Ok(())
+    Ok([is_frame, is_rule, is_nop])
+}
+
+#[test]
+fn reads_instructions(rt: HostRuntime) {
+    assert_eq!(rt; has_instructions(), Ok([true; 3]));
 }
