@@ -1,15 +1,12 @@
-mod branches;
-mod expressions;
-mod location_lists;
-mod range_lists;
+//! Units to convert in, and what addresses and entries become.
 
 use dw_base::{
     Address, DebugInfoOffset, DebugInfoRef, LittleEndian, UnitEntryId, UnitId, UnitOffset,
 };
-use dw_convert::{ConvertDebugInfoRef, expression};
-use dw_expr::Expression;
-use dw_read::{EndianSlice, Expression as ReadExpression, ReadError, ReadResult};
-use dw_read_units::{Dwarf, Unit, UnitRef};
+use dw_convert::ConvertDebugInfoRef;
+use dw_lists::Range;
+use dw_read::{EndianSlice, ReadError, ReadResult};
+use dw_read_units::{Dwarf, Unit};
 use dw_sources::{ConvertError, ConvertResult};
 use std::alloc::Global;
 
@@ -99,22 +96,44 @@ impl ConvertDebugInfoRef for Evens {
     }
 }
 
-/// An expression of the unit of version 5 that has addresses.
-pub(crate) fn converted(alloc: Global, bytes: &[u8]) -> ConvertResult<Expression> {
-    let dwarf = sections(FIVE_AT, b"");
-    let unit = first(alloc, &dwarf)?;
-    let both = UnitRef {
-        dwarf: &dwarf,
-        unit: &unit,
+/// An item of a list, where the default location has no range.
+pub(crate) type Item = Option<Range>;
+
+macro_rules! base {
+    ($address:expr) => {
+        Some(Range::BaseAddress {
+            address: Address::Constant($address),
+        })
     };
-    let read = ReadExpression(section(bytes));
-    let encoding = both.encoding();
-    expression(
-        alloc,
-        read,
-        encoding,
-        Some(both),
-        &|address| moved(address),
-        &Evens,
-    )
 }
+
+macro_rules! pair {
+    ($begin:expr, $end:expr) => {
+        Some(Range::OffsetPair {
+            begin: $begin,
+            end: $end,
+        })
+    };
+}
+
+macro_rules! ends {
+    ($begin:expr, $end:expr) => {
+        Some(Range::StartEnd {
+            begin: Address::Constant($begin),
+            end: Address::Constant($end),
+        })
+    };
+}
+
+macro_rules! start {
+    ($begin:expr, $length:expr) => {
+        Some(Range::StartLength {
+            begin: Address::Constant($begin),
+            length: $length,
+        })
+    };
+}
+
+mod expressions;
+mod location_lists;
+mod range_lists;

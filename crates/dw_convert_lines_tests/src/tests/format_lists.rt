@@ -39,7 +39,10 @@ const NO_DIRECTORY: Option<ConvertError> = Some(ConvertError::InvalidDirectoryIn
 const TABLES: [(&str, Option<ConvertError>); 19] = [
     ("010108 01 2f00  020108020b 01 612e6300 00", TAKEN),
     // twice a content that isn't known
-    ("010108 01 2f00  03010882400b82400b 01 612e6300 07 08", TAKEN),
+    (
+        "010108 01 2f00  03010882400b82400b 01 612e6300 07 08",
+        TAKEN,
+    ),
     // values in the description: of a known content, of an unknown one, without entries
     ("010108 01 2f00  0201080221 01 612e6300", UNSUPPORTED),
     ("010108 01 2f00  020108824021 01 612e6300", UNSUPPORTED),
