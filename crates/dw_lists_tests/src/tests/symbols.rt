@@ -1,79 +1,109 @@
-use super::{LITTLE, SYMBOL, encoding};
+//! Range lists in sections that record relocations.
+
+use super::{EQUAL, LITTLE, SYMBOL, encoding, write};
 use dw_base::{Address, Error, Format, Result, RunTimeEndian};
-use dw_lists::{Range, RangeList, RangeListTable};
+use dw_lists::Range;
 use dw_writer::{RelocVec, Relocation, RelocationTarget, Sections};
 use std::alloc::Global;
-use std::test::Fail;
 
-/// Writes a list of one item to sections that record relocations.
-fn recorded(
-    alloc: Global,
-    range: Range,
-    version: u16,
-) -> Result<Sections<RelocVec<RunTimeEndian>>> {
-    let mut table = RangeListTable::new(alloc);
-    table.add(RangeList(vec![in alloc; range]?))?;
-    let mut sections = Sections::new(alloc, RelocVec::new(alloc, LITTLE))?;
-    table.write(&mut sections, encoding(version, Format::Dwarf32, 2), false)?;
-    Ok(sections)
+macro_rules! record {
+    ($offset:expr, $addend:expr) => {
+        Relocation {
+            offset: $offset,
+            size: 2,
+            target: RelocationTarget::Symbol(1),
+            addend: $addend,
+            eh_pe: None,
+        }
+    };
 }
 
-/// A record of symbol 1.
-fn record(offset: usize, addend: i64) -> Relocation {
-    Relocation {
-        offset,
-        size: 2,
-        target: RelocationTarget::Symbol(1),
-        addend,
-        eh_pe: None,
-    }
-}
+const THREE: Range = Range::StartLength {
+    begin: SYMBOL,
+    length: 3,
+};
 
-/// Three bytes from a symbol on.
-fn item() -> Range {
-    Range::StartLength {
-        begin: SYMBOL,
-        length: 3,
-    }
-}
-
-#[test]
-fn ends_at_symbols_are_left_to_a_linker(rt: HostRuntime) -> std::result::Result<(), Fail> {
-    let sections = recorded(rt.alloc(), item(), 4)?;
-    let records = [record(0, -1), record(2, 2)];
-    assert!(rt; sections.debug_ranges.0.slice() == [0; 8].as_slice());
-    assert!(rt; sections.debug_ranges.0.relocations() == records.as_slice());
-    Ok(())
-}
-
-#[test]
-fn a_symbol_of_version_5_is_recorded_once(rt: HostRuntime) -> std::result::Result<(), Fail> {
-    let sections = recorded(rt.alloc(), item(), 5)?;
-    let bytes = [
-        0x11, 0, 0, 0, 5, 0, 2, 0, 1, 0, 0, 0, 4, 0, 0, 0, 7, 0, 0, 3, 0,
-    ];
-    assert!(rt; sections.debug_rnglists.0.slice() == bytes.as_slice());
-    assert!(rt; sections.debug_rnglists.0.relocations() == [record(17, -1)].as_slice());
-    Ok(())
-}
-
-#[test]
-fn equal_symbols_are_equal_ends(rt: HostRuntime) -> std::result::Result<(), Fail> {
-    let alloc = rt.alloc();
-    let other = Address::Symbol {
+/// A range from a symbol to its next byte.
+const UNEQUAL: Range = Range::StartEnd {
+    begin: SYMBOL,
+    end: Address::Symbol {
         symbol: 1,
         addend: 0,
+    },
+};
+
+/// Sections that record relocations.
+fn recording(alloc: Global) -> Result<Sections<RelocVec<RunTimeEndian>>> {
+    Sections::new(alloc, RelocVec::new(alloc, LITTLE))
+}
+
+/// Whether a list, with addresses of two bytes, leaves these bytes and records in the
+/// section of its version.
+fn is_recorded(
+    alloc: Global,
+    version: u16,
+    list: &[Range],
+    bytes: &[u8],
+    records: &[Relocation],
+) -> Result<bool> {
+    let mut sections = recording(alloc)?;
+    let encoding = encoding(version, Format::Dwarf32, 2);
+    let answer = write(alloc, &[list], &mut sections, encoding, false);
+    let is_there = if version == 5 {
+        has(&sections.debug_rnglists.0, bytes, records)
+    } else {
+        has(&sections.debug_ranges.0, bytes, records)
     };
-    let equal = Range::StartEnd {
-        begin: SYMBOL,
-        end: SYMBOL,
-    };
-    let unequal = Range::StartEnd {
-        begin: SYMBOL,
-        end: other,
-    };
-    assert!(rt; matches!(recorded(alloc, equal, 4), Err(Error::InvalidRange)));
-    assert!(rt; recorded(alloc, unequal, 4).is_ok());
-    assert!(rt; recorded(alloc, equal, 5).is_ok());
-    Ok(())
+    answer.and(Ok(is_there))
+}
+
+fn has(section: &RelocVec<RunTimeEndian>, bytes: &[u8], records: &[Relocation]) -> bool {
+    section.slice() == bytes && section.relocations() == records
+}
+
+/// A version and a list, what the call answers, and the bytes and records of the section.
+const RECORDED: [(u16, &[Range], Result<bool>, &[u8], &[Relocation]); 5] = [
+    (
+        4,
+        &[THREE],
+        Ok(true),
+        &[0; 8],
+        &[record!(0, -1), record!(2, 2)],
+    ),
+    (
+        5,
+        &[THREE],
+        Ok(true),
+        &[
+            0x11, 0, 0, 0, 5, 0, 2, 0, 1, 0, 0, 0, 4, 0, 0, 0, 7, 0, 0, 3, 0,
+        ],
+        &[record!(17, -1)],
+    ),
+    // Equal symbols are equal ends, which are refused up to version 4.
+    (4, &[EQUAL], Err(Error::InvalidRange), &[], &[]),
+    (
+        4,
+        &[UNEQUAL],
+        Ok(true),
+        &[0; 8],
+        &[record!(0, -1), record!(2, 0)],
+    ),
+    (
+        5,
+        &[EQUAL],
+        Ok(true),
+        &[
+            0x12, 0, 0, 0, 5, 0, 2, 0, 1, 0, 0, 0, 4, 0, 0, 0, 6, 0, 0, 0, 0, 0,
+        ],
+        &[record!(17, -1), record!(19, -1)],
+    ),
+];
+
+#[test]
+fn symbols_are_left_to_a_linker(rt: HostRuntime) {
+    for (number, case) in RECORDED.iter().enumerate() {
+        let (version, list, wanted, bytes, records) = *case;
+        let answer = is_recorded(rt.alloc(), version, list, bytes, records);
+        assert_eq!(rt; (number, answer), (number, wanted));
+    }
 }
