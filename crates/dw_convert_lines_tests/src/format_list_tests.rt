@@ -1,19 +1,21 @@
 //! Descriptions of directories and files that can't be converted, and some that can (DWARF 5,
 //! 6.2.4 and 6.2.4.1).
 
-use crate::tests::{BIG, SAME, bytes_of, refusal};
+use crate::converting::{add_bytes, refusal};
+use dw_base::RunTimeEndian::Big;
 use dw_read::ReadError;
 use dw_sources::{ConvertError, ConvertResult};
 use std::alloc::Global;
 use std::test::Fail;
 
-// A header of version 5 up to its directories, whose lengths are still to tell.
+/// A header of version 5 up to its directories, whose lengths are still to tell.
 const HEADER: &str = "00000000 0005 0400 00000000 010101fb0e0d 000101010100000001000001";
 
 /// The program of these directories and files, without instructions.
 fn program(alloc: Global, tables: &str) -> ConvertResult<Vec<u8>> {
-    let mut bytes = bytes_of(alloc, HEADER)?;
-    bytes.append(&mut bytes_of(alloc, tables)?)?;
+    let mut bytes = Vec::new(alloc);
+    add_bytes(&mut bytes, HEADER)?;
+    add_bytes(&mut bytes, tables)?;
     let size = (bytes.len() % 256) as u8;
     if let Some(length) = bytes.get_mut(3) {
         *length = size.wrapping_sub(4);
@@ -32,10 +34,10 @@ const CUT: Option<ConvertError> = Some(ConvertError::Read(ReadError::UnexpectedE
 
 const NO_DIRECTORY: Option<ConvertError> = Some(ConvertError::InvalidDirectoryIndex);
 
-// The parts of directories, the directories, the parts of files and the files: a content and a form
-// each, of which 01 is a path, 02 a directory's number, 03 a time, 04 a size, 05 a checksum, 8140 a
-// text and 8240 a content that isn't known; 08 is a string, 0b a byte, 1e sixteen bytes and 21 a
-// value that would stand behind the form.
+/// The parts of directories, the directories, the parts of files and the files: a content and a form
+/// each, of which 01 is a path, 02 a directory's number, 03 a time, 04 a size, 05 a checksum, 8140 a
+/// text and 8240 a content that isn't known; 08 is a string, 0b a byte, 1e sixteen bytes and 21 a
+/// value that would stand behind the form.
 const TABLES: [(&str, Option<ConvertError>); 19] = [
     ("010108 01 2f00  020108020b 01 612e6300 00", TAKEN),
     // twice a content that isn't known
@@ -73,7 +75,7 @@ const TABLES: [(&str, Option<ConvertError>); 19] = [
 fn refuses_descriptions_that_no_program_has(rt: HostRuntime) -> Result<(), Fail> {
     for (tables, refused) in &TABLES {
         let bytes = program(rt.alloc(), tables)?;
-        assert!(rt; refusal(rt.alloc(), BIG, bytes.as_slice(), SAME) == *refused);
+        assert!(rt; refusal(rt.alloc(), Big, bytes.as_slice(), None) == *refused);
     }
     Ok(())
 }
