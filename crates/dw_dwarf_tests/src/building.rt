@@ -1,53 +1,162 @@
-//! Units that tests build, entry by entry.
+//! Units that tests build from tables of calls.
 
-ghost use Rattle.std.specs.Prelude.{◌≢◌};
-
+use dw_base::DebugMacroOffset;
 use dw_base::constants::DW_AT_sibling;
-use dw_base::{DwAt, DwTag, Error, Result, UnitEntryId};
-use dw_unit::{AttributeValue, Bytes, Unit};
+use dw_dwarf::{
+    Address, AttributeValue, Bytes, DebugInfoRef, DwAt, DwTag, EntryMut, Error, Range, RangeList,
+    RangeListId, Result, Unit, UnitEntryId,
+};
 use std::alloc::Global;
 
-/// The value of a string.
-pub(crate) fn string(alloc: Global, text: &[u8]) -> Result<AttributeValue> {
-    Ok(AttributeValue::String(Bytes::new(alloc, text)?))
+/// The value of an attribute.
+pub(crate) enum Value {
+    Text(&'static [u8]),
+    Data1(u8),
+    Udata(u64),
+    UnitRef(UnitEntryId),
+    InfoRef(DebugInfoRef),
+    Address(Address),
+    Macros(usize),
+    Ranges(usize),
 }
 
-/// Adds an entry, which gets the next number.
-pub(crate) fn add(unit: &mut Unit, parent: usize, tag: DwTag) -> Result<()>
-    requires { tag.0 ≢ 0 }
-{
-    if unit.is_freed() || parent >= unit.reserved() || unit.reserved() == usize::MAX {
-        return Err(Error::InvalidReference);
+/// A call of a handle of an entry.
+pub(crate) enum Change {
+    Reserve(usize),
+    Sibling(bool),
+    Set(DwAt, Value),
+    Delete(DwAt),
+    /// Puts a value in the place of that under a name, by `get_mut`.
+    Replace(DwAt, Value),
+    /// Puts a value in the place of the first attribute's, which has this name, by a walk.
+    ReplaceFirst(DwAt, Value),
+}
+
+/// A call of a unit.
+pub(crate) enum Call {
+    Reserve,
+    /// A parent and a tag.
+    Add(usize, DwTag),
+    /// A reserved id, a parent and a tag.
+    AddReserved(usize, usize, DwTag),
+    /// An entry and a call of its handle.
+    Change(usize, Change),
+    /// A range list of one item.
+    List(Range),
+    Skip,
+}
+
+/// The value, in memory of its own.
+pub(crate) fn value_of(alloc: Global, value: &Value) -> Result<AttributeValue> {
+    Ok(match value {
+        Value::Text(text) => AttributeValue::String(Bytes::new(alloc, text)?),
+        Value::Data1(number) => AttributeValue::Data1(*number),
+        Value::Udata(number) => AttributeValue::Udata(*number),
+        Value::UnitRef(entry) => AttributeValue::UnitRef(*entry),
+        Value::InfoRef(entry) => AttributeValue::DebugInfoRef(*entry),
+        Value::Address(address) => AttributeValue::Address(*address),
+        Value::Macros(place) => AttributeValue::DebugMacroRef(DebugMacroOffset(*place)),
+        Value::Ranges(index) => AttributeValue::RangeListRef(RangeListId::new(*index)),
+    })
+}
+
+/// Sets an attribute of an entry.
+fn set(entry: &mut EntryMut<'_>, name: DwAt, value: AttributeValue) -> Result<()> {
+    if name.0 == 0 || name == DW_AT_sibling {
+        return Err(Error::InvalidAttributeValue);
     }
-    unit.add(UnitEntryId::new(parent), tag)?;
+    entry.set(name, value)
+}
+
+/// Replaces the value under a name.
+fn replace(entry: &mut EntryMut<'_>, name: DwAt, value: AttributeValue) -> Result<()> {
+    match entry.get_mut(name) {
+        Some(old) => *old = value,
+        None => return Err(Error::InvalidAttributeValue),
+    }
     Ok(())
 }
 
-/// Sets an attribute of the entry of a number.
-pub(crate) fn set(unit: &mut Unit, entry: usize, name: DwAt, value: AttributeValue) -> Result<()>
-    requires named { name.0 ≢ 0 }
-    requires not_sibling { name ≢ DW_AT_sibling }
-{
-    if entry >= unit.count() {
-        return Err(Error::InvalidReference);
+/// Replaces the value of the first attribute, which has this name.
+fn replace_first(entry: &mut EntryMut<'_>, name: DwAt, value: AttributeValue) -> Result<()> {
+    match entry.attrs_mut().next() {
+        Some(mut attribute) if attribute.name() == name => attribute.set(value),
+        _ => return Err(Error::InvalidAttributeValue),
     }
-    unit.get_mut(UnitEntryId::new(entry)).set(name, value)
-}
-
-/// Lets an entry tell the place past its children.
-pub(crate) fn set_sibling(unit: &mut Unit, entry: usize) -> Result<()> {
-    if entry >= unit.count() {
-        return Err(Error::InvalidReference);
-    }
-    unit.get_mut(UnitEntryId::new(entry)).set_sibling(true);
     Ok(())
 }
 
-/// Takes an attribute of an entry away.
-pub(crate) fn delete(unit: &mut Unit, entry: usize, name: DwAt) -> Result<()> {
-    if entry >= unit.count() {
+/// Makes a call of the handle of an entry.
+fn make_change(alloc: Global, unit: &mut Unit, index: usize, change: &Change) -> Result<()> {
+    if index >= unit.count() {
         return Err(Error::InvalidReference);
     }
-    unit.get_mut(UnitEntryId::new(entry)).delete(name);
+    let mut entry = unit.get_mut(UnitEntryId::new(index));
+    match change {
+        Change::Reserve(additional) => entry.reserve(*additional)?,
+        Change::Sibling(sibling) => entry.set_sibling(*sibling),
+        Change::Set(name, value) => set(&mut entry, *name, value_of(alloc, value)?)?,
+        Change::Delete(name) => entry.delete(*name),
+        Change::Replace(name, value) => replace(&mut entry, *name, value_of(alloc, value)?)?,
+        Change::ReplaceFirst(name, value) => {
+            replace_first(&mut entry, *name, value_of(alloc, value)?)?;
+        }
+    }
+    Ok(())
+}
+
+/// Adds the entry of a reserved id, which isn't reserved then.
+fn add_reserved(
+    unit: &mut Unit,
+    child: UnitEntryId,
+    parent: UnitEntryId,
+    tag: DwTag,
+) -> Result<()> {
+    if unit.is_freed() || !unit.is_reserved(child) || parent.0 >= unit.reserved() || tag.0 == 0 {
+        return Err(Error::InvalidReference);
+    }
+    unit.add_reserved(child, parent, tag)?;
+    if unit.is_reserved(child) {
+        return Err(Error::InvalidReference);
+    }
+    Ok(())
+}
+
+/// Makes a call of a unit. One that the unit's state forbids is `InvalidReference`.
+fn make_call(alloc: Global, unit: &mut Unit, call: &Call) -> Result<()> {
+    let takes_entries = !unit.is_freed() && unit.reserved() < usize::MAX;
+    match call {
+        Call::Reserve if takes_entries => {
+            unit.reserve();
+            Ok(())
+        }
+        Call::Add(parent, tag) if takes_entries && *parent < unit.reserved() && tag.0 != 0 => {
+            unit.add(UnitEntryId::new(*parent), *tag)?;
+            Ok(())
+        }
+        Call::AddReserved(child, parent, tag) => add_reserved(
+            unit,
+            UnitEntryId::new(*child),
+            UnitEntryId::new(*parent),
+            *tag,
+        ),
+        Call::Change(index, change) => make_change(alloc, unit, *index, change),
+        Call::List(range) => {
+            unit.ranges.add(RangeList(vec![in alloc; *range]?))?;
+            Ok(())
+        }
+        Call::Skip if !unit.is_written() => {
+            unit.skip();
+            Ok(())
+        }
+        _ => Err(Error::InvalidReference),
+    }
+}
+
+/// Makes calls of a unit, one after another.
+pub(crate) fn make_calls(alloc: Global, unit: &mut Unit, calls: &[Call]) -> Result<()> {
+    for call in calls {
+        make_call(alloc, unit, call)?;
+    }
     Ok(())
 }

@@ -1,102 +1,96 @@
 //! One unit alone, written into memory.
 
-ghost use Rattle.std.specs.Prelude.{IfOk};
 ghost use Rattle.dw_writer.specs.Sections.{NoFixups};
 
-use crate::building::{add, set};
+use crate::building::{Call, Change, Value, make_calls};
+use crate::plans::{ROOT_INFO, ROOT_TABLE, VERSION_5, new_sections, place_of};
 use dw_base::constants::{DW_AT_type, DW_TAG_base_type};
-use dw_base::{DebugInfoRef, Encoding, Error, Format, LittleEndian, Result, UnitId};
-use dw_dwarf::DwarfUnit;
-use dw_unit::{AttributeValue, Unit};
-use dw_writer::{EndianVec, Sections};
+use dw_dwarf::{
+    DebugInfoRef, DwarfUnit, Error, LineString, LittleEndian, Result, Sections, UnitEntryId, UnitId,
+};
+use dw_writer::FaultVec;
 use std::alloc::Global;
 use std::test::Fail;
 
-/// Version 5, 8-byte addresses, the 32-bit format.
-const ENCODING: Encoding = Encoding {
-    address_size: 8,
-    format: Format::Dwarf32,
-    version: 5,
-};
+const FIRST_ROOT: DebugInfoRef = DebugInfoRef::Entry(UnitId(0), UnitEntryId(0));
 
-fn new_sections(alloc: Global) -> Result<Sections<EndianVec<LittleEndian>>>
-    ensures { IfOk result NoFixups }
+/// An entry that names the root of a unit 0 by its place in `.debug_info`.
+const NAMES_FIRST_ROOT: &[Call] = &[
+    Call::Add(0, DW_TAG_base_type),
+    Call::Change(1, Change::Set(DW_AT_type, Value::InfoRef(FIRST_ROOT))),
+];
+
+/// What came of a unit that was written alone: why it was refused, whether a root alone is all that
+/// was written, how many entries it has, and where its root stands.
+type Alone = (Option<Error>, bool, usize, Option<(u64, usize)>);
+
+/// Makes calls of a unit, and writes it.
+fn write(
+    alloc: Global,
+    calls: &[Call],
+    dwarf: &mut DwarfUnit,
+    sections: &mut Sections<FaultVec<LittleEndian>>,
+) -> Result<Alone>
+    requires { NoFixups sections.old }
 {
-    Sections::new(alloc, EndianVec::new(alloc, LittleEndian))
-}
-
-/// The sections of a unit that is written alone.
-fn write_alone(dwarf: &mut DwarfUnit, alloc: Global) -> Result<Sections<EndianVec<LittleEndian>>> {
-    let mut sections = new_sections(alloc)?;
+    make_calls(alloc, &mut dwarf.unit, calls)?;
     if dwarf.unit.is_written() {
         return Err(Error::InvalidReference);
     }
-    dwarf.write(&mut sections)?;
-    Ok(sections)
+    let refusal = dwarf.write(sections).err();
+    let unit = &dwarf.unit;
+    let is_root = unit.is_written()
+        && sections.debug_info.0.slice() == ROOT_INFO
+        && sections.debug_abbrev.0.slice() == ROOT_TABLE;
+    Ok((refusal, is_root, unit.count(), place_of(unit, 0)))
 }
 
-/// The header counts the nine bytes behind its length: version, the type of a compile unit, address
-/// size, the table's place, and the root's code (DWARF 5, 7.5.1.1).
+/// Makes calls of a unit, and writes it into new sections.
+fn write_into_new(alloc: Global, calls: &[Call], dwarf: &mut DwarfUnit) -> Result<Alone> {
+    let mut sections = new_sections(alloc, Vec::new(alloc))?;
+    write(alloc, calls, dwarf, &mut sections)
+}
+
+/// Writes a unit that is made by these calls.
+fn write_alone(alloc: Global, calls: &[Call]) -> Result<Alone> {
+    let mut dwarf = DwarfUnit::new(alloc, VERSION_5)?;
+    write_into_new(alloc, calls, &mut dwarf)
+}
+
+/// The root stands behind the header of twelve bytes. A unit alone has no number, so that a
+/// reference by the place in `.debug_info` can't even name its own root.
 #[test]
-fn writes_its_unit(rt: HostRuntime) -> std::result::Result<(), Fail> {
-    let mut dwarf = DwarfUnit::new(rt.alloc(), ENCODING)?;
-    let sections = write_alone(&mut dwarf, rt.alloc())?;
+fn writes_a_unit_alone(rt: HostRuntime) -> std::result::Result<(), Fail> {
     assert_eq!(rt;
         (
-            sections.debug_info.0.slice(),
-            sections.debug_abbrev.0.slice()
+            write_alone(rt.alloc(), &[])?,
+            write_alone(rt.alloc(), NAMES_FIRST_ROOT)?
         ),
         (
-            [9, 0, 0, 0, 5, 0, 1, 8, 0, 0, 0, 0, 1].as_slice(),
-            [1, 0x11, 0, 0, 0, 0].as_slice()
+            (None, true, 1, Some((12, 12))),
+            (Some(Error::InvalidReference), false, 2, None)
         )
     );
     Ok(())
 }
 
-/// Where the root of a unit stands that was written.
-fn root_place(unit: &Unit) -> Option<u64> {
-    if !unit.is_written() {
-        return None;
-    }
-    unit.offsets()?.unit_offset(unit.root())
+/// Adds strings, and tells whether they are found in their tables.
+fn finds(dwarf: &mut DwarfUnit) -> Result<bool> {
+    let line = LineString::LineStringRef(dwarf.line_strings.add(b"/tmp")?);
+    let other = LineString::StringRef(dwarf.strings.add(b"a.c")?);
+    Ok(
+        dwarf.get_line_string(&line) == b"/tmp".as_slice()
+            && dwarf.get_line_string(&other) == b"a.c".as_slice(),
+    )
 }
 
-/// The root stands behind the header of twelve bytes.
+/// The same of a new unit.
+fn finds_in_new(alloc: Global) -> Result<bool> {
+    let mut dwarf = DwarfUnit::new(alloc, VERSION_5)?;
+    finds(&mut dwarf)
+}
+
 #[test]
-fn keeps_the_place_of_its_root(rt: HostRuntime) -> std::result::Result<(), Fail> {
-    let mut dwarf = DwarfUnit::new(rt.alloc(), ENCODING)?;
-    write_alone(&mut dwarf, rt.alloc())?;
-    assert_eq!(rt; root_place(&dwarf.unit), Some(12));
-    Ok(())
-}
-
-/// A unit with an entry that names the root of a unit 0 by its place in `.debug_info`.
-fn with_own_root(alloc: Global) -> Result<DwarfUnit> {
-    let mut dwarf = DwarfUnit::new(alloc, ENCODING)?;
-    let root = DebugInfoRef::Entry(UnitId::new(0), dwarf.unit.root());
-    add(&mut dwarf.unit, 0, DW_TAG_base_type)?;
-    set(
-        &mut dwarf.unit,
-        1,
-        DW_AT_type,
-        AttributeValue::DebugInfoRef(root),
-    )?;
-    Ok(dwarf)
-}
-
-/// A unit alone has no number, so that such a reference can't even name its own root.
-#[test]
-fn refuses_a_reference_to_its_own_root(rt: HostRuntime) -> std::result::Result<(), Fail> {
-    let mut dwarf = with_own_root(rt.alloc())?;
-    let refusal = write_alone(&mut dwarf, rt.alloc()).err();
-    assert_eq!(rt;
-        (refusal, dwarf.unit.count()),
-        (Some(Error::InvalidReference), 2)
-    );
-    assert_eq!(rt;
-        (dwarf.unit.is_written(), dwarf.unit.offsets().is_some()),
-        (false, false)
-    );
-    Ok(())
+fn finds_the_strings_of_line_programs(rt: HostRuntime) {
+    assert_eq!(rt; finds_in_new(rt.alloc()), Ok(true));
 }

@@ -1,4 +1,5 @@
-//! The tests of `dw_dwarf`. They stand over the finished crate: beside its code they would have it
+//! The tests of `dw_dwarf` and `dw_unit` by calls. What scripts can build stands among the cases of
+//! `dwarf_build`. The tests stand over the finished crates: beside their code they would have it
 //! proved a second time.
 #![tactic(auto)]
 
@@ -7,12 +8,10 @@ mod building;
 #[cfg(test)]
 mod dwarf_unit_tests;
 #[cfg(test)]
-mod line_tests;
-#[cfg(test)]
-mod range_tests;
+mod plans;
 #[cfg(test)]
 mod relocation_tests;
 #[cfg(test)]
 mod tests;
 #[cfg(test)]
-mod unit_table_tests;
+mod unit_tests;

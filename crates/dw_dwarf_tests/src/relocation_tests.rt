@@ -1,167 +1,210 @@
-//! Units, written with relocations.
+//! Units, written with relocations. Zeros stand for what a linker puts in.
 
-use crate::building::set;
-use dw_base::constants::{DW_AT_low_pc, DW_AT_macros, DW_AT_type};
-use dw_base::{
-    Address, DebugInfoRef, DebugMacroOffset, Encoding, Error, Format, LittleEndian, Result,
-    SectionId, UnitEntryId, UnitId,
+use crate::building::{Call, Change, Value};
+use crate::plans::{Outcome, Plan, ROOT, write_units};
+use dw_base::constants::{DW_AT_low_pc, DW_AT_macros, DW_AT_ranges, DW_AT_type};
+use dw_dwarf::{
+    Address, DebugInfoRef, Error, LittleEndian, Range, Result, SectionId, Sections, UnitEntryId,
+    UnitId,
 };
-use dw_dwarf::Dwarf;
-use dw_unit::{AttributeValue, LineProgram, Unit};
-use dw_writer::{RelocVec, Relocation, RelocationTarget, Sections};
+use dw_writer::{RelocVec, Relocation, RelocationTarget};
 use std::alloc::Global;
 use std::test::Fail;
 
-/// A unit of version 5 in `.debug_info`: its length, the version, the type of a compile unit, the
-/// address size, the place of its table, the code of its root, an address, and an offset (DWARF 5,
-/// 7.5.1.1). Zeros stand for what a linker puts in.
-const INFO: [u8; 25] = [
-    21, 0, 0, 0, 5, 0, 1, 8, 0, 0, 0, 0, 1, 0, 0, 0, 0, 0, 0, 0, 0, 0, 0, 0, 0,
-];
+/// Units with why they are refused, or the bytes and relocations that they are written as.
+struct Row {
+    name: &'static str,
+    units: &'static [Plan],
+    refusal: Option<Error>,
+    info: &'static [u8],
+    abbrevs: &'static [u8],
+    in_info: &'static [Relocation],
+    in_lists: &'static [Relocation],
+}
 
-/// Its table: code 1, `DW_TAG_compile_unit`, no children; `DW_AT_low_pc` as `DW_FORM_addr`,
-/// `DW_AT_macros` as `DW_FORM_sec_offset` (DWARF 5, 7.5.3).
-const ABBREVS: [u8; 10] = [1, 0x11, 0, 0x11, 1, 0x79, 0x17, 0, 0, 0];
+/// What a linker puts into the first unit: the start of the table's section.
+const FIRST_TABLE: Relocation = Relocation {
+    offset: 8,
+    size: 4,
+    target: RelocationTarget::Section(SectionId::DebugAbbrev),
+    addend: 0,
+    eh_pe: None,
+};
 
-/// What a linker puts in: the start of the table's section, an address 16 bytes behind symbol 3,
-/// and a place in `.debug_macro`.
-const RELOCATIONS: [Relocation; 3] = [
-    Relocation {
-        offset: 8,
-        size: 4,
-        target: RelocationTarget::Section(SectionId::DebugAbbrev),
+/// An address 16 bytes behind symbol 3.
+const SYMBOL: Address = Address::Symbol {
+    symbol: 3,
+    addend: 16,
+};
+
+/// 16 bytes behind symbol 0.
+const RANGE: Range = Range::StartLength {
+    begin: Address::Symbol {
+        symbol: 0,
         addend: 0,
-        eh_pe: None,
     },
-    Relocation {
-        offset: 13,
-        size: 8,
-        target: RelocationTarget::Symbol(3),
-        addend: 16,
-        eh_pe: None,
+    length: 16,
+};
+
+const NEXT_ROOT: DebugInfoRef = DebugInfoRef::Entry(UnitId(1), UnitEntryId(0));
+
+const ROWS: &[Row] = &[
+    // Behind the root's code an address and an offset (DWARF 5, 7.5.1.1). The table has code 1,
+    // DW_TAG_compile_unit, no children, DW_AT_low_pc as DW_FORM_addr and DW_AT_macros as
+    // DW_FORM_sec_offset (7.5.3).
+    Row {
+        name: "a symbol and a place in another section",
+        units: &[Plan {
+            calls: &[
+                Call::Change(0, Change::Set(DW_AT_low_pc, Value::Address(SYMBOL))),
+                Call::Change(0, Change::Set(DW_AT_macros, Value::Macros(0x22))),
+            ],
+            ..ROOT
+        }],
+        refusal: None,
+        info: &[
+            21, 0, 0, 0, 5, 0, 1, 8, 0, 0, 0, 0, 1, 0, 0, 0, 0, 0, 0, 0, 0, 0, 0, 0, 0,
+        ],
+        abbrevs: &[1, 0x11, 0, 0x11, 1, 0x79, 0x17, 0, 0, 0],
+        in_info: &[
+            FIRST_TABLE,
+            Relocation {
+                offset: 13,
+                size: 8,
+                target: RelocationTarget::Symbol(3),
+                addend: 16,
+                ..FIRST_TABLE
+            },
+            Relocation {
+                offset: 21,
+                target: RelocationTarget::Section(SectionId::DebugMacro),
+                addend: 0x22,
+                ..FIRST_TABLE
+            },
+        ],
+        in_lists: &[],
     },
-    Relocation {
-        offset: 21,
-        size: 4,
-        target: RelocationTarget::Section(SectionId::DebugMacro),
-        addend: 0x22,
-        eh_pe: None,
+    // The table of the second unit stands at 8, and its root at 12 behind the 17 bytes of the
+    // first. The reference comes last, as it is filled in once both units stand.
+    Row {
+        name: "a reference across units",
+        units: &[
+            Plan {
+                calls: &[Call::Change(0, Change::Set(DW_AT_type, Value::InfoRef(NEXT_ROOT)))],
+                ..ROOT
+            },
+            ROOT,
+        ],
+        refusal: None,
+        info: &[
+            13, 0, 0, 0, 5, 0, 1, 8, 0, 0, 0, 0, 1, 0, 0, 0, 0, 9, 0, 0, 0, 5, 0, 1, 8, 0, 0, 0, 0,
+            1,
+        ],
+        abbrevs: &[1, 0x11, 0, 0x49, 0x10, 0, 0, 0, 1, 0x11, 0, 0, 0, 0],
+        in_info: &[
+            FIRST_TABLE,
+            Relocation {
+                offset: 25,
+                addend: 8,
+                ..FIRST_TABLE
+            },
+            Relocation {
+                offset: 13,
+                target: RelocationTarget::Section(SectionId::DebugInfo),
+                addend: 29,
+                ..FIRST_TABLE
+            },
+        ],
+        in_lists: &[],
+    },
+    // The index of the list and its offset entry hang on no section's start, but the place of the
+    // first offset entry does (DWARF 5, 7.28).
+    Row {
+        name: "the base of range lists",
+        units: &[Plan {
+            calls: &[
+                Call::List(RANGE),
+                Call::Change(0, Change::Set(DW_AT_ranges, Value::Ranges(0))),
+            ],
+            ..ROOT
+        }],
+        refusal: None,
+        info: &[14, 0, 0, 0, 5, 0, 1, 8, 0, 0, 0, 0, 1, 0, 0, 0, 0, 0],
+        abbrevs: &[1, 0x11, 0, 0x55, 0x23, 0x74, 0x17, 0, 0, 0],
+        in_info: &[
+            FIRST_TABLE,
+            Relocation {
+                offset: 14,
+                target: RelocationTarget::Section(SectionId::DebugRngLists),
+                addend: 12,
+                ..FIRST_TABLE
+            },
+        ],
+        in_lists: &[Relocation {
+            offset: 17,
+            size: 8,
+            target: RelocationTarget::Symbol(0),
+            ..FIRST_TABLE
+        }],
+    },
+    // A writer that records takes no offset that isn't below 2^63.
+    Row {
+        name: "a place past the largest addend",
+        units: &[Plan {
+            calls: &[
+                Call::Change(0, Change::Set(DW_AT_low_pc, Value::Address(SYMBOL))),
+                Call::Change(0, Change::Set(DW_AT_macros, Value::Macros(1 << 63))),
+            ],
+            is_written: false,
+            ..ROOT
+        }],
+        refusal: Some(Error::ValueTooLarge),
+        info: &[],
+        abbrevs: &[],
+        in_info: &[],
+        in_lists: &[],
     },
 ];
 
-/// A `Dwarf` of one unit whose root names a symbol and a place in `.debug_macro`.
-fn dwarf_of(alloc: Global, macros: usize) -> Result<Dwarf> {
-    let encoding = Encoding {
-        address_size: 8,
-        format: Format::Dwarf32,
-        version: 5,
-    };
-    let mut unit = Unit::new(alloc, encoding, LineProgram::none())?;
-    let root = unit.root();
-    let mut entry = unit.get_mut(root);
-    let address = Address::Symbol {
-        symbol: 3,
-        addend: 16,
-    };
-    entry.set(DW_AT_low_pc, AttributeValue::Address(address))?;
-    let macros = AttributeValue::DebugMacroRef(DebugMacroOffset(macros));
-    entry.set(DW_AT_macros, macros)?;
-    let mut dwarf = Dwarf::new(alloc);
-    dwarf.units.add(unit)?;
-    Ok(dwarf)
+/// Tells whether the sections hold the bytes and the relocations that they are to.
+fn holds(row: &Row, sections: &Sections<RelocVec<LittleEndian>>) -> bool {
+    let is_written = (
+        sections.debug_info.0.slice(),
+        sections.debug_abbrev.0.slice(),
+    ) == (row.info, row.abbrevs);
+    let is_recorded = (
+        sections.debug_info.0.relocations(),
+        sections.debug_rnglists.0.relocations(),
+    ) == (row.in_info, row.in_lists);
+    is_written && is_recorded && sections.debug_abbrev.0.relocations().is_empty()
+}
+
+/// What came of a row: its outcomes, and whether the sections hold what they are to.
+type Written = ([Outcome; 2], bool);
+
+/// Writes the units of a row into these sections.
+fn write_row(
+    alloc: Global,
+    row: &Row,
+    sections: &mut Sections<RelocVec<LittleEndian>>,
+) -> Result<Written> {
+    let outcomes = write_units(alloc, row.units, sections)?;
+    Ok((outcomes, row.refusal.is_some() || holds(row, sections)))
+}
+
+/// Writes the units of a row into new sections.
+fn run_row(alloc: Global, row: &Row) -> Result<Written> {
+    let mut sections = Sections::new(alloc, RelocVec::new(alloc, LittleEndian))?;
+    write_row(alloc, row, &mut sections)
 }
 
 #[test]
 fn records_what_a_linker_puts_in(rt: HostRuntime) -> std::result::Result<(), Fail> {
-    let mut dwarf = dwarf_of(rt.alloc(), 0x22)?;
-    let writer = RelocVec::new(rt.alloc(), LittleEndian);
-    let mut sections = Sections::new(rt.alloc(), writer)?;
-    assert_eq!(rt; dwarf.units.count(), 1);
-    dwarf.write(&mut sections)?;
-    assert_eq!(rt; sections.debug_info.0.slice(), INFO.as_slice());
-    assert_eq!(rt; sections.debug_abbrev.0.slice(), ABBREVS.as_slice());
-    assert_eq!(rt; sections.debug_info.0.relocations(), RELOCATIONS.as_slice());
-    assert!(rt; sections.debug_abbrev.0.relocations().is_empty());
-    Ok(())
-}
-
-/// Two units, the first of which names the root of the second in its last four bytes.
-const TWO_INFOS: [u8; 30] = [
-    13, 0, 0, 0, 5, 0, 1, 8, 0, 0, 0, 0, 1, 0, 0, 0, 0, 9, 0, 0, 0, 5, 0, 1, 8, 0, 0, 0, 0, 1,
-];
-
-/// Their tables, the second of which stands at 8, and the root of the second unit, at 12 behind the
-/// 17 bytes of the first. The reference comes last, as it is filled in once both units stand.
-const TWO_RELOCATIONS: [Relocation; 3] = [
-    Relocation {
-        offset: 8,
-        size: 4,
-        target: RelocationTarget::Section(SectionId::DebugAbbrev),
-        addend: 0,
-        eh_pe: None,
-    },
-    Relocation {
-        offset: 25,
-        size: 4,
-        target: RelocationTarget::Section(SectionId::DebugAbbrev),
-        addend: 8,
-        eh_pe: None,
-    },
-    Relocation {
-        offset: 13,
-        size: 4,
-        target: RelocationTarget::Section(SectionId::DebugInfo),
-        addend: 29,
-        eh_pe: None,
-    },
-];
-
-/// A unit of version 5 that has its root alone.
-fn root_alone(alloc: Global) -> Result<Unit> {
-    let encoding = Encoding {
-        address_size: 8,
-        format: Format::Dwarf32,
-        version: 5,
-    };
-    Unit::new(alloc, encoding, LineProgram::none())
-}
-
-/// Two roots, the first of which names the second.
-fn naming_the_next(alloc: Global) -> Result<Dwarf> {
-    let mut first = root_alone(alloc)?;
-    let second_root = DebugInfoRef::Entry(UnitId::new(1), UnitEntryId::new(0));
-    let reference = AttributeValue::DebugInfoRef(second_root);
-    set(&mut first, 0, DW_AT_type, reference)?;
-    let mut dwarf = Dwarf::new(alloc);
-    dwarf.units.add(first)?;
-    dwarf.units.add(root_alone(alloc)?)?;
-    Ok(dwarf)
-}
-
-#[test]
-fn records_a_reference_across_units_once(rt: HostRuntime) -> std::result::Result<(), Fail> {
-    let mut dwarf = naming_the_next(rt.alloc())?;
-    let writer = RelocVec::new(rt.alloc(), LittleEndian);
-    let mut sections = Sections::new(rt.alloc(), writer)?;
-    dwarf.write(&mut sections)?;
-    assert_eq!(rt; sections.debug_info.0.slice(), TWO_INFOS.as_slice());
-    assert_eq!(rt;
-        sections.debug_info.0.relocations(),
-        TWO_RELOCATIONS.as_slice()
-    );
-    assert!(rt; sections.debug_info_fixups.is_empty());
-    Ok(())
-}
-
-/// A writer that records takes no offset that isn't below 2^63.
-#[test]
-fn refuses_what_it_cannot_record(rt: HostRuntime) -> std::result::Result<(), Fail> {
-    let mut dwarf = dwarf_of(rt.alloc(), 1 << 63)?;
-    let writer = RelocVec::new(rt.alloc(), LittleEndian);
-    let mut sections = Sections::new(rt.alloc(), writer)?;
-    let answer = dwarf.write(&mut sections);
-    assert_eq!(rt; answer, Err(Error::ValueTooLarge));
-    assert_eq!(rt; dwarf.units.count(), 1);
-    assert!(rt; !dwarf.units.get(UnitId::new(0)).is_written());
+    for row in ROWS {
+        assert_eq!(rt;
+            (row.name, run_row(rt.alloc(), row)?),
+            (row.name, ([(row.refusal, None); 2], true))
+        );
+    }
     Ok(())
 }

@@ -1,140 +1,343 @@
-//! A unit, written into memory.
+//! Units, written into memory.
 
-use crate::building::{add, delete, set, set_sibling, string};
-use dw_base::constants::{
-    DW_AT_byte_size, DW_AT_name, DW_AT_type, DW_TAG_base_type, DW_TAG_variable,
+use crate::building::{Call, Change, Value};
+use crate::plans::{
+    Outcome, Plan, ROOT, ROOT_INFO, ROOT_TABLE, VERSION_5, new_sections, write_units,
 };
-use dw_base::{DwEhPe, Encoding, Error, Format, Result, RunTimeEndian, UnitEntryId, UnitId};
-use dw_dwarf::Dwarf;
-use dw_unit::{AttributeValue, Bytes, LineProgram, Unit};
-use dw_writer::{DebugInfoFixup, EndianVec, FaultVec, Sections};
+use dw_base::DwEhPe;
+use dw_base::constants::{
+    DW_AT_byte_size, DW_AT_name, DW_AT_producer, DW_AT_type, DW_TAG_base_type, DW_TAG_subprogram,
+    DW_TAG_variable,
+};
+use dw_dwarf::{
+    DebugInfoRef, Encoding, Error, Format, LittleEndian, Result, Sections, UnitEntryId, UnitId,
+};
+use dw_writer::{DebugInfoFixup, FaultVec};
 use std::alloc::Global;
 use std::test::Fail;
 
-/// A unit of version 5 in `.debug_info`: its length, the version, the type of a compile unit, the
-/// address size, the place of its table, and the code of its root (DWARF 5, 7.5.1.1).
-const VERSION_5: [u8; 13] = [9, 0, 0, 0, 5, 0, 1, 8, 0, 0, 0, 0, 1];
-
-/// The same in version 4, which tells no type, and the address size last (DWARF 4, 7.5.1.1).
-const VERSION_4: [u8; 12] = [8, 0, 0, 0, 4, 0, 0, 0, 0, 0, 8, 1];
-
-/// The table of a root alone in `.debug_abbrev`: code 1, `DW_TAG_compile_unit`, no children, no
-/// attributes, no other declaration (DWARF 5, 7.5.3).
-const ROOT_TABLE: [u8; 6] = [1, 0x11, 0, 0, 0, 0];
-
-/// 8-byte addresses in the 32-bit format.
-fn encoding(version: u16) -> Encoding {
-    Encoding {
-        address_size: 8,
-        format: Format::Dwarf32,
-        version,
-    }
+/// The units of two `Dwarf`s that are written into the same sections, why the second one is
+/// refused, and all that `.debug_info` and `.debug_abbrev` then hold.
+struct Row {
+    name: &'static str,
+    before: &'static [Plan],
+    units: &'static [Plan],
+    refusal: Option<Error>,
+    bytes: Option<(&'static [u8], &'static [u8])>,
 }
 
-/// A `Dwarf` of one unit.
-fn dwarf_of(alloc: Global, encoding: Encoding) -> Result<Dwarf> {
-    let mut dwarf = Dwarf::new(alloc);
-    dwarf
-        .units
-        .add(Unit::new(alloc, encoding, LineProgram::none())?)?;
-    Ok(dwarf)
-}
+const VERSION_4: Encoding = Encoding {
+    version: 4,
+    ..VERSION_5
+};
 
-/// New sections, the lowest byte first.
-fn new_sections(alloc: Global) -> Result<Sections<EndianVec<RunTimeEndian>>> {
-    Sections::new(alloc, EndianVec::new(alloc, RunTimeEndian::Little))
-}
+const VERSION_6: Encoding = Encoding {
+    version: 6,
+    ..VERSION_5
+};
 
-#[test]
-fn writes_a_unit_once(rt: HostRuntime) -> std::result::Result<(), Fail> {
-    let mut dwarf = dwarf_of(rt.alloc(), encoding(5))?;
-    let mut sections = new_sections(rt.alloc())?;
-    for _ in 0..2 {
-        assert_eq!(rt; dwarf.units.count(), 1);
-        dwarf.write(&mut sections)?;
-        assert_eq!(rt; dwarf.units.count(), 1);
-        assert!(rt; dwarf.units.get(UnitId::new(0)).is_written());
-        assert_eq!(rt; sections.debug_info.0.slice(), VERSION_5.as_slice());
-        assert_eq!(rt; sections.debug_abbrev.0.slice(), ROOT_TABLE.as_slice());
-    }
-    Ok(())
-}
+const ONE_ROOT: &[Plan] = &[ROOT];
 
-/// The units of both versions, the second of which tells that its table stands behind the first.
-const BOTH_VERSIONS: [u8; 25] = [
-    9, 0, 0, 0, 5, 0, 1, 8, 0, 0, 0, 0, 1, 8, 0, 0, 0, 4, 0, 6, 0, 0, 0, 8, 1,
+/// A root of version 4.
+const ROOT_4: Plan = Plan {
+    encoding: VERSION_4,
+    ..ROOT
+};
+
+/// A variable, a base type, and an id without an entry. Once they are written the base type comes
+/// first, behind the root, which has one byte.
+const TYPES: Plan = Plan {
+    calls: &[
+        Call::Add(0, DW_TAG_variable),
+        Call::Add(0, DW_TAG_base_type),
+        Call::Reserve,
+    ],
+    children: &[UnitEntryId(2), UnitEntryId(1)],
+    ..ROOT
+};
+
+/// Two functions: the first one's name is replaced by a walk, the second one's by its name.
+const FUNCTIONS: Plan = Plan {
+    encoding: VERSION_4,
+    calls: &[
+        Call::Change(0, Change::Set(DW_AT_producer, Value::Text(b"root"))),
+        Call::Add(0, DW_TAG_subprogram),
+        Call::Add(0, DW_TAG_subprogram),
+        Call::Change(2, Change::Set(DW_AT_name, Value::Text(b"tmp"))),
+        Call::Change(2, Change::Set(DW_AT_name, Value::Text(b"child2"))),
+        Call::Change(1, Change::Set(DW_AT_name, Value::Text(b"tmp"))),
+        Call::Change(1, Change::ReplaceFirst(DW_AT_name, Value::Text(b"child1"))),
+    ],
+    children: &[UnitEntryId(1), UnitEntryId(2)],
+    places: &[
+        (0, Some((11, 11))),
+        (1, Some((17, 17))),
+        (2, Some((25, 25))),
+    ],
+    ..ROOT
+};
+
+/// A variable with a place past its child, a name that is replaced, a size that is deleted, and a
+/// type that is replaced.
+const CHANGED: Plan = Plan {
+    calls: &[
+        Call::Add(0, DW_TAG_variable),
+        Call::Add(1, DW_TAG_base_type),
+        Call::Change(1, Change::Sibling(true)),
+        Call::Change(1, Change::Set(DW_AT_name, Value::Text(b"a"))),
+        Call::Change(1, Change::Set(DW_AT_byte_size, Value::Data1(4))),
+        Call::Change(1, Change::Set(DW_AT_type, Value::Udata(0))),
+        Call::Change(1, Change::Delete(DW_AT_byte_size)),
+        Call::Change(
+            1,
+            Change::Replace(DW_AT_type, Value::UnitRef(UnitEntryId(0))),
+        ),
+        Call::Change(1, Change::ReplaceFirst(DW_AT_name, Value::Text(b"b"))),
+    ],
+    children: &[UnitEntryId(1)],
+    ..ROOT
+};
+
+const FIRST_ROOT: DebugInfoRef = DebugInfoRef::Entry(UnitId(0), UnitEntryId(0));
+
+const NO_ENTRY: DebugInfoRef = DebugInfoRef::Entry(UnitId(1), UnitEntryId(1));
+
+const ROWS: &[Row] = &[
+    Row {
+        name: "a root",
+        before: &[],
+        units: ONE_ROOT,
+        refusal: None,
+        bytes: Some((ROOT_INFO, ROOT_TABLE)),
+    },
+    // No type of the unit, and the address size last (DWARF 4, 7.5.1.1).
+    Row {
+        name: "a changed encoding",
+        before: &[],
+        units: &[ROOT_4],
+        refusal: None,
+        bytes: Some((&[8, 0, 0, 0, 4, 0, 0, 0, 0, 0, 8, 1], ROOT_TABLE)),
+    },
+    // The second unit tells that its table stands behind the first.
+    Row {
+        name: "behind what stands",
+        before: ONE_ROOT,
+        units: &[ROOT_4],
+        refusal: None,
+        bytes: Some((
+            &[
+                9, 0, 0, 0, 5, 0, 1, 8, 0, 0, 0, 0, 1, 8, 0, 0, 0, 4, 0, 6, 0, 0, 0, 8, 1,
+            ],
+            &[1, 0x11, 0, 0, 0, 0, 1, 0x11, 0, 0, 0, 0],
+        )),
+    },
+    // A unit whose root has one child, with a place past its own child, a name, and the root as its
+    // type.
+    Row {
+        name: "entries that are changed",
+        before: &[],
+        units: &[CHANGED],
+        refusal: None,
+        bytes: Some((
+            &[
+                23, 0, 0, 0, 5, 0, 1, 8, 0, 0, 0, 0, 1, 2, 26, 0, 0, 0, b'b', 0, 12, 0, 0, 0, 3, 0,
+                0,
+            ],
+            &[
+                1, 0x11, 1, 0, 0, 2, 0x34, 1, 1, 0x13, 3, 8, 0x49, 0x13, 0, 0, 3, 0x24, 0, 0, 0, 0,
+            ],
+        )),
+    },
+    // Behind the 13 bytes of a root.
+    Row {
+        name: "places behind what stands",
+        before: ONE_ROOT,
+        units: &[Plan {
+            places: &[
+                (0, Some((12, 25))),
+                (2, Some((13, 26))),
+                (1, Some((14, 27))),
+                (3, None),
+                (9, None),
+            ],
+            ..TYPES
+        }],
+        refusal: None,
+        bytes: None,
+    },
+    Row {
+        name: "places in three units",
+        before: &[],
+        units: &[
+            FUNCTIONS,
+            Plan {
+                encoding: Encoding {
+                    address_size: 4,
+                    format: Format::Dwarf64,
+                    version: 2,
+                },
+                places: &[(0, Some((23, 57)))],
+                ..ROOT
+            },
+            Plan {
+                encoding: Encoding {
+                    address_size: 4,
+                    ..VERSION_5
+                },
+                places: &[(0, Some((12, 70)))],
+                ..ROOT
+            },
+        ],
+        refusal: None,
+        bytes: None,
+    },
+    // In a unit that isn't looked at the variable still comes first.
+    Row {
+        name: "a refused unit between two",
+        before: &[],
+        units: &[
+            Plan {
+                places: &[(2, Some((13, 13)))],
+                ..TYPES
+            },
+            Plan {
+                encoding: VERSION_6,
+                is_written: false,
+                places: &[(0, None)],
+                ..ROOT
+            },
+            Plan {
+                encoding: VERSION_4,
+                is_written: false,
+                children: &[UnitEntryId(1), UnitEntryId(2)],
+                places: &[(0, None)],
+                ..TYPES
+            },
+        ],
+        refusal: Some(Error::UnsupportedVersion(6)),
+        bytes: None,
+    },
+    // Every unit is written, and no later call takes the reference for filled in.
+    Row {
+        name: "a reference that leads nowhere",
+        before: &[],
+        units: &[
+            Plan {
+                calls: &[Call::Change(0, Change::Set(DW_AT_type, Value::InfoRef(NO_ENTRY)))],
+                ..ROOT
+            },
+            ROOT,
+        ],
+        refusal: Some(Error::InvalidReference),
+        bytes: None,
+    },
+    Row {
+        name: "a reference to a unit that was skipped",
+        before: &[],
+        units: &[
+            Plan {
+                calls: &[Call::Skip],
+                places: &[(0, None)],
+                ..ROOT
+            },
+            Plan {
+                calls: &[Call::Change(0, Change::Set(DW_AT_type, Value::InfoRef(FIRST_ROOT)))],
+                ..ROOT
+            },
+        ],
+        refusal: Some(Error::InvalidReference),
+        bytes: None,
+    },
 ];
 
-/// Their tables.
-const BOTH_TABLES: [u8; 12] = [1, 0x11, 0, 0, 0, 0, 1, 0x11, 0, 0, 0, 0];
+/// Adds a reference to be fixed up to each of the two lists of location lists.
+fn push_fixups(sections: &mut Sections<FaultVec<LittleEndian>>) -> Result<()> {
+    let fixup = DebugInfoFixup {
+        offset: 0,
+        size: 4,
+        unit: UnitId(0),
+        entry: UnitEntryId(0),
+    };
+    sections.debug_loc_fixups.push(fixup)?;
+    sections.debug_loclists_fixups.push(fixup)
+}
 
+/// How many references are left to be fixed up, in each of the three lists.
+fn fixup_counts(sections: &Sections<FaultVec<LittleEndian>>) -> [usize; 3] {
+    [
+        sections.debug_info_fixups.len(),
+        sections.debug_loc_fixups.len(),
+        sections.debug_loclists_fixups.len(),
+    ]
+}
+
+/// What came of a row: the outcomes of both of its `Dwarf`s, whether the sections hold the bytes
+/// that they are to, and how many references are left to be fixed up.
+type Written = ([Outcome; 2], [Outcome; 2], bool, [usize; 3]);
+
+/// Writes the units of a row into these sections.
+fn write_row(
+    alloc: Global,
+    row: &Row,
+    sections: &mut Sections<FaultVec<LittleEndian>>,
+) -> Result<Written> {
+    let before = write_units(alloc, row.before, sections)?;
+    push_fixups(sections)?;
+    let outcomes = write_units(alloc, row.units, sections)?;
+    let holds = match row.bytes {
+        Some((info, abbrevs)) => {
+            sections.debug_info.0.slice() == info && sections.debug_abbrev.0.slice() == abbrevs
+        }
+        None => true,
+    };
+    Ok((before, outcomes, holds, fixup_counts(sections)))
+}
+
+/// Writes the units of a row into new sections.
+fn run_row(alloc: Global, row: &Row) -> Result<Written> {
+    let mut sections = new_sections(alloc, Vec::new(alloc))?;
+    write_row(alloc, row, &mut sections)
+}
+
+/// Where a write succeeds no reference is left to be fixed up, also none that was there before.
 #[test]
-fn writes_behind_what_stands(rt: HostRuntime) -> std::result::Result<(), Fail> {
-    let mut sections = new_sections(rt.alloc())?;
-    for version in [5, 4] {
-        let mut dwarf = dwarf_of(rt.alloc(), encoding(version))?;
-        assert_eq!(rt; dwarf.units.count(), 1);
-        dwarf.write(&mut sections)?;
+fn writes_units_behind_others(rt: HostRuntime) -> std::result::Result<(), Fail> {
+    for row in ROWS {
+        let (before, outcomes, holds, fixups) = run_row(rt.alloc(), row)?;
+        assert_eq!(rt;
+            (row.name, before, outcomes, holds),
+            (row.name, [(None, None); 2], [(row.refusal, None); 2], true)
+        );
+        assert!(rt; row.refusal.is_some() || fixups == [0; 3], "{}", row.name);
     }
-    assert_eq!(rt; sections.debug_info.0.slice(), BOTH_VERSIONS.as_slice());
-    assert_eq!(rt; sections.debug_abbrev.0.slice(), BOTH_TABLES.as_slice());
     Ok(())
 }
 
-/// Each section's writer fails at its call of this number, until there is none: each fault is told,
-/// and the unit isn't written.
+/// What comes of a root where the call of this number fails in each section's writer.
+fn write_faulty(alloc: Global, call: u64) -> Result<[Outcome; 2]> {
+    let failing = vec![in alloc; call]?;
+    let mut sections = new_sections(alloc, failing)?;
+    write_units(alloc, ONE_ROOT, &mut sections)
+}
+
+/// Each fault is told, and the unit isn't written then, until there is none.
 #[test]
 fn answers_each_fault(rt: HostRuntime) -> std::result::Result<(), Fail> {
     let mut failed = false;
     let mut written = false;
     for call in 0..20 {
-        let failing = vec![in rt.alloc(); call]?;
-        let mut dwarf = dwarf_of(rt.alloc(), encoding(5))?;
-        let writer = FaultVec::new(rt.alloc(), RunTimeEndian::Little, failing);
-        let mut sections = Sections::new(rt.alloc(), writer)?;
-        assert_eq!(rt; dwarf.units.count(), 1);
-        let answer = dwarf.write(&mut sections);
-        assert_eq!(rt; dwarf.units.count(), 1);
-        assert_eq!(rt;
-            dwarf.units.get(UnitId::new(0)).is_written(),
-            answer.is_ok()
-        );
-        match answer {
-            Ok(()) => {
-                assert_eq!(rt; sections.debug_info.0.slice(), VERSION_5.as_slice());
-                written = true;
-            }
-            Err(error) => {
-                assert_eq!(rt; error, Error::WriteFault);
-                failed = true;
-            }
-        }
+        let [outcome, _] = write_faulty(rt.alloc(), call)?;
+        let fails = outcome.0.is_some();
+        let want = if fails {
+            (Some(Error::WriteFault), Some(0))
+        } else {
+            (None, None)
+        };
+        assert_eq!(rt; (call, outcome), (call, want));
+        failed |= fails;
+        written |= !fails;
     }
     assert!(rt; failed && written);
-    Ok(())
-}
-
-/// No reference is left to be fixed up, also none that was there before.
-#[test]
-fn leaves_no_fixup(rt: HostRuntime) -> std::result::Result<(), Fail> {
-    let mut dwarf = dwarf_of(rt.alloc(), encoding(5))?;
-    let mut sections = new_sections(rt.alloc())?;
-    let fixup = DebugInfoFixup {
-        offset: 0,
-        size: 4,
-        unit: UnitId::new(0),
-        entry: UnitEntryId::new(0),
-    };
-    sections.debug_loc_fixups.push(fixup)?;
-    sections.debug_loclists_fixups.push(fixup)?;
-    assert_eq!(rt; sections.debug_loc_fixups.len(), 1);
-    assert_eq!(rt; sections.debug_loclists_fixups.len(), 1);
-    assert_eq!(rt; dwarf.units.count(), 1);
-    dwarf.write(&mut sections)?;
-    assert!(rt; sections.debug_info_fixups.is_empty());
-    assert!(rt; sections.debug_loc_fixups.is_empty());
-    assert!(rt; sections.debug_loclists_fixups.is_empty());
-    assert_eq!(rt; sections.debug_info.0.slice(), VERSION_5.as_slice());
     Ok(())
 }
 
@@ -182,95 +385,5 @@ fn says_why_it_refused(rt: HostRuntime) -> std::result::Result<(), Fail> {
     ] {
         assert_eq!(rt; format!(in rt.alloc(); "{error}")?.as_str(), text);
     }
-    Ok(())
-}
-
-#[test]
-fn keeps_a_refused_unit(rt: HostRuntime) -> std::result::Result<(), Fail> {
-    let mut dwarf = dwarf_of(rt.alloc(), encoding(6))?;
-    let mut sections = new_sections(rt.alloc())?;
-    assert_eq!(rt; dwarf.units.count(), 1);
-    let answer = dwarf.write(&mut sections);
-    assert_eq!(rt; answer, Err(Error::UnsupportedVersion(6)));
-    assert_eq!(rt; dwarf.units.count(), 1);
-    let unit = dwarf.units.get(UnitId::new(0));
-    assert!(rt; !unit.is_written());
-    assert_eq!(rt; unit.version(), 6);
-    Ok(())
-}
-
-#[test]
-fn writes_a_changed_encoding(rt: HostRuntime) -> std::result::Result<(), Fail> {
-    let mut dwarf = dwarf_of(rt.alloc(), encoding(5))?;
-    let mut sections = new_sections(rt.alloc())?;
-    assert_eq!(rt; dwarf.units.count(), 1);
-    let id = dwarf.units.id(0);
-    dwarf.units.get_mut(id).set_encoding(encoding(4));
-    assert_eq!(rt; dwarf.units.count(), 1);
-    assert_eq!(rt; dwarf.units.get(id).encoding(), encoding(4));
-    dwarf.write(&mut sections)?;
-    assert_eq!(rt; sections.debug_info.0.slice(), VERSION_4.as_slice());
-    assert_eq!(rt; sections.debug_abbrev.0.slice(), ROOT_TABLE.as_slice());
-    Ok(())
-}
-
-/// New sections into which a unit was written.
-fn written(alloc: Global, unit: Unit) -> Result<Sections<EndianVec<RunTimeEndian>>> {
-    let mut dwarf = Dwarf::new(alloc);
-    dwarf.units.add(unit)?;
-    let mut sections = new_sections(alloc)?;
-    dwarf.write(&mut sections)?;
-    Ok(sections)
-}
-
-/// A unit whose root has one child, with a place past its own child, a name, and the root as its
-/// type.
-const CHANGED: [u8; 27] = [
-    23, 0, 0, 0, 5, 0, 1, 8, 0, 0, 0, 0, 1, 2, 26, 0, 0, 0, b'b', 0, 12, 0, 0, 0, 3, 0, 0,
-];
-
-/// Its abbreviations.
-const CHANGED_TABLE: [u8; 22] = [
-    1, 0x11, 1, 0, 0, 2, 0x34, 1, 1, 0x13, 3, 8, 0x49, 0x13, 0, 0, 3, 0x24, 0, 0, 0, 0,
-];
-
-/// Adds a variable with a place past its child, a name, a size that is deleted, and a type.
-fn add_a_parent(alloc: Global, unit: &mut Unit) -> Result<()> {
-    add(unit, 0, DW_TAG_variable)?;
-    add(unit, 1, DW_TAG_base_type)?;
-    set_sibling(unit, 1)?;
-    set(unit, 1, DW_AT_name, string(alloc, b"a")?)?;
-    set(unit, 1, DW_AT_byte_size, AttributeValue::Data1(4))?;
-    set(unit, 1, DW_AT_type, AttributeValue::Udata(0))?;
-    delete(unit, 1, DW_AT_byte_size)
-}
-
-/// Changes values of an entry: the type by its name, and the name by a walk.
-fn change(alloc: Global, unit: &mut Unit, id: UnitEntryId) -> Result<()> {
-    if id.index() >= unit.count() {
-        return Err(Error::InvalidReference);
-    }
-    let mut entry = unit.get_mut(id);
-    if let Some(value) = entry.get_mut(DW_AT_type) {
-        *value = AttributeValue::UnitRef(UnitEntryId::new(0));
-    }
-    let attributes = entry.attrs_mut();
-    'attributes: while let Some(mut attribute) = attributes.next() {
-        if attribute.name() == DW_AT_name {
-            let name = Bytes::new(alloc, b"b")?;
-            attribute.set(AttributeValue::String(name));
-        }
-    }
-    Ok(())
-}
-
-#[test]
-fn changes_an_entry_through_its_handle(rt: HostRuntime) -> std::result::Result<(), Fail> {
-    let mut unit = Unit::new(rt.alloc(), encoding(5), LineProgram::none())?;
-    add_a_parent(rt.alloc(), &mut unit)?;
-    change(rt.alloc(), &mut unit, UnitEntryId::new(1))?;
-    let sections = written(rt.alloc(), unit)?;
-    assert_eq!(rt; sections.debug_info.0.slice(), CHANGED.as_slice());
-    assert_eq!(rt; sections.debug_abbrev.0.slice(), CHANGED_TABLE.as_slice());
     Ok(())
 }

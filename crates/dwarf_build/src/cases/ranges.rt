@@ -286,6 +286,22 @@ status 0
 .debug_rnglists 07 0010000000000000 10 00 04 01 02 00
 .debug_info 0e000000 0500 01 08 00000000 01 01 0c000000
 
+# The first list has the index 0, and up to version 4 the place 0.
+
+case the first list of version 4
+script unit 4 8 32 / range 0 len 0x1000 0x10 / set 0 0 DW_AT_ranges range_ref 0
+status 0
+.debug_abbrev 01 11 00 55 17 00 00 00
+.debug_ranges 0010000000000000 1010000000000000 0000000000000000 0000000000000000
+.debug_info 0c000000 0400 00000000 08 01 00000000
+
+case the first list of version 5
+script unit 5 8 32 / range 0 len 0x1000 0x10 / set 0 0 DW_AT_ranges range_ref 0
+status 0
+.debug_abbrev 01 11 00 55 23 74 17 00 00 00
+.debug_rnglists 17000000 0500 08 00 01000000 04000000 07 0010000000000000 10 00
+.debug_info 0e000000 0500 01 08 00000000 01 00 0c000000
+
 # Each unit has a table of its own.
 case lists of two units
 script unit 5 8 32 / unit 5 8 32 / range 0 pair 1 2 / range 1 pair 3 4
@@ -321,6 +337,13 @@ status 0
 .debug_ranges 00100000 10100000 00000000 00000000
 .debug_info 0c000000 0400 00000000 04 01 00000000
 
+case a length with a base of 0
+script unit 4 4 32 / range 0 len 0x1000 0x10 / set 0 0 DW_AT_low_pc address 0
+status 0
+.debug_abbrev 01 11 00 11 01 00 00 00
+.debug_ranges 00100000 10100000 00000000 00000000
+.debug_info 0c000000 0400 00000000 04 01 00000000
+
 case a pair with a base
 script unit 4 4 32 / range 0 pair 1 2 / set 0 0 DW_AT_low_pc address 1
 status 0
@@ -340,6 +363,11 @@ script unit 4 4 32 / range 0 ends 0x1000 0x1010 / set 0 0 DW_AT_low_pc udata 0
 status 3
 text refused: UnexpectedBaseAddress
 
+case a length with a base is refused
+script unit 4 4 32 / range 0 len 0x1000 0x10 / set 0 0 DW_AT_low_pc address 1
+status 3
+text refused: UnexpectedBaseAddress
+
 case a length behind a base is refused
 script unit 3 4 32 / range 0 base 0 len 0x1000 0x10
 status 3
@@ -347,6 +375,11 @@ text refused: UnexpectedBaseAddress
 
 case a pair without a base is refused
 script unit 4 4 32 / range 0 pair 1 2
+status 3
+text refused: MissingBaseAddress
+
+case a pair with a base of 0 is refused
+script unit 4 4 32 / range 0 pair 1 2 / set 0 0 DW_AT_low_pc address 0
 status 3
 text refused: MissingBaseAddress
 
@@ -433,5 +466,5 @@ script range 9 base 0 default
 status 2
 text line 1: unknown word
 
-end 91
+end 96
 ";
