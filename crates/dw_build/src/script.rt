@@ -119,7 +119,8 @@ impl Script {
 
     fn set_order(&mut self, endian: RunTimeEndian) -> Result<(), CommandError>
         ensures ok { OnOk result
-            (after_command (script_in self.old) (Command.Order endian) ≡ Ok (script_in self.new)) }
+            (after_command (script_in self.old) (Command.Order endian)
+            ≡ Ok (script_in self.new)) }
         ensures err { IfErr result
             (RefusedFor (after_command (script_in self.old) (Command.Order endian))) }
     {
@@ -133,7 +134,8 @@ impl Script {
 
     fn add_unit(&mut self, alloc: Global, encoding: Encoding) -> Result<(), CommandError>
         ensures ok { OnOk result
-            (after_command (script_in self.old) (Command.Unit encoding) ≡ Ok (script_in self.new)) }
+            (after_command (script_in self.old) (Command.Unit encoding)
+            ≡ Ok (script_in self.new)) }
         ensures err { IfErr result
             (RefusedFor (after_command (script_in self.old) (Command.Unit encoding))) }
     {

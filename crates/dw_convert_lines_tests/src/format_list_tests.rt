@@ -34,10 +34,10 @@ const CUT: Option<ConvertError> = Some(ConvertError::Read(ReadError::UnexpectedE
 
 const NO_DIRECTORY: Option<ConvertError> = Some(ConvertError::InvalidDirectoryIndex);
 
-/// The parts of directories, the directories, the parts of files and the files: a content and a form
-/// each, of which 01 is a path, 02 a directory's number, 03 a time, 04 a size, 05 a checksum, 8140 a
-/// text and 8240 a content that isn't known; 08 is a string, 0b a byte, 1e sixteen bytes and 21 a
-/// value that would stand behind the form.
+/// The parts of directories, the directories, the parts of files and the files: a content and a
+/// form each, of which 01 is a path, 02 a directory's number, 03 a time, 04 a size, 05 a checksum,
+/// 8140 a text and 8240 a content that isn't known; 08 is a string, 0b a byte, 1e sixteen bytes and
+/// 21 a value that would stand behind the form.
 const TABLES: [(&str, Option<ConvertError>); 19] = [
     ("010108 01 2f00  020108020b 01 612e6300 00", TAKEN),
     // twice a content that isn't known
