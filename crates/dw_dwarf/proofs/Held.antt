@@ -4,6 +4,11 @@ use Rattle.std.proofs.lemmas.List.Elements.{All-head, All-tail}
 use Rattle.std.proofs.Common.{sym, ◌∙◌, ap, subst}
 use Rattle.dw_base.specs.declared.error.Error.{Error}
 use Rattle.dw_writer.specs.Texts.{Text, followed}
+use Rattle.dw_writer.specs.Drafts.{Info, started, filled_text}
+use Rattle.dw_writer.specs.Layout.{start_of}
+use Rattle.dw_writer.specs.Sections.{NoFixups}
+use Rattle.dw_base.specs.declared.section_id.SectionId.TheVariants.{DebugInfo}
+use Rattle.std.proofs.lemmas.Bool.{or_parts}
 use Rattle.dw_writer.specs.Contents.{Meaning}
 use Rattle.dw_writer.specs.Layout.{Layout}
 use Rattle.dw_writer.specs.Resolved.{resolved}
@@ -15,27 +20,29 @@ use Rattle.dw_writer.specs.Meaning.{Model, Adds, Appends}
 use Rattle.dw_strings.specs.Strings.{string_bytes}
 use Rattle.dw_line.specs.Parts.{sizes, texts}
 use Rattle.dw_line.specs.LinePrograms.{line_program_size, line_program_text}
-use Rattle.dw_unit.specs.Built.{Built, Numbered, at_zero, settled_at, numbered_from, whole_file}
-use Rattle.dw_unit.specs.Elsewhere.{End, Ends, Elsewhere, end_of, ends_of, line_size, line_text, range_size, range_text, new_size, new_text, AppendsBehind, AppendsAllRanges}
-use Rattle.dw_unit.specs.Pending.{Kept, units_draft, tables_of, info_at, info_of}
+use Rattle.dw_unit.specs.Built.{Built, Numbered, at_begin, at_zero, settled_at, numbered_from}
+use Rattle.dw_unit.specs.Elsewhere.{End, Ends, Elsewhere, end_of, ends_of, line_size, line_text, range_size, range_text, location_size, new_size, new_text, unit_tables, past_ends, AppendsBehind, AppendsAllRanges}
+use Rattle.dw_unit.specs.Pending.{Kept, AreInRow, units_draft, tables_of, locations_draft, info_at, info_of}
+use Rattle.dw_unit.specs.ReferenceFaults.{lists_refer_wrong, references_fail}
 use Rattle.dw_unit.specs.UnitFaults.{holes_fail}
 use Rattle.dw_unit.specs.UnitValue.{UnitValue}
 use Rattle.dw_unit.specs.Valid.{AreWritable}
+use Rattle.dw_unit.specs.Whole.{settled}
 use Rattle.dw_unit.specs.Written.{AppendsUnits, CompletesAny, to_write}
+use Rattle.dw_unit.proofs.Filling.{holes_lead}
 use Rattle.dw_unit.proofs.Files.{empty_tidy, resolved-empty, resolved-plain, units_held, units_resolved}
 use Rattle.dw_unit.proofs.PendingSteps.{pending_none}
 use Rattle.dw_unit.proofs.TableLaws.{info_kept, unwritten_keeps, to_write-unwritten}
 use Rattle.dw_dwarf.specs.DwarfValue.{DwarfValue}
-use Rattle.dw_dwarf.specs.Lists.{InOrder, FindAllLists}
+use Rattle.dw_expr.proofs.ExpressionsThere.{ArePlaced}
+use Rattle.dw_dwarf.specs.Lists.{InOrder, FindAllLists, FindAllLocations}
+use Rattle.dw_dwarf.proofs.TextsAlone.{followed_by, behind_nothing, filled_alone, filled_told}
+use Rattle.dw_dwarf.proofs.LocationsThere.{placed_is, locations_all_there}
+use Rattle.dw_dwarf.proofs.LocationsFound.{all_located}
 use Rattle.dw_dwarf.proofs.RangesThere.{ranges_all_there}
 use Rattle.dw_dwarf.proofs.ListsFound.{all_found}
 use Rattle.dw_dwarf.specs.Valid.{IsUnwritten, AreUnwritten, found_from, found_in, empty_end, empty_ends, settled_units}
-use Rattle.dw_dwarf.specs.Written.{AreNewPlain, AreNew, SectionTexts, dwarf_lines, dwarf_ranges, Orders, one_order, HoldsDwarf, ResolvesTo, AddsLines, AddsStrings, KeepsOthers}
-
-followed_by : (t : Text) → followed (Some []) t ≡ t
-unfolding followed
-followed_by None = refl
-followed_by (Some xs) = refl
+use Rattle.dw_dwarf.specs.Written.{AreNewPlain, AreNew, SectionTexts, dwarf_lines, dwarf_ranges, Orders, one_order, HoldsDwarf, ResolvesTo, ResolveLocations, AddsLines, AddsStrings, KeepsOthers}
 
 -- what is added to an empty writer stands there alone
 told_alone : (a b : Meaning) (xs : List ℕ) → a.bytes ≡ Some [] → Adds a b xs → b.bytes ≡ Some xs
@@ -50,11 +57,16 @@ some_is x y h = cc
 end_is : (m : Meaning) (plain : Bool) → m.size ≡ 0 → m.is_plain ≡ plain → end_of m ≡ empty_end plain
 end_is m plain none kind = ap (λ n. let e : End = record { size = n; is_plain = m.is_plain } in e) none ∙ ap (λ b. let e : End = record { size = 0; is_plain = b } in e) kind
 
-pub ends_are : (a b c : Meaning) (plain : Bool) → a.size ≡ 0 → a.is_plain ≡ plain → b.size ≡ 0 → b.is_plain ≡ plain → c.size ≡ 0 → c.is_plain ≡ plain →
-    ◌≡◌ {A = Ends} (record { lines = end_of a; ranges = end_of b; range_lists = end_of c }) (empty_ends plain)
-ends_are a b c plain a0 ak b0 bk c0 ck =
-    let ends = λ (x y z : End). let e : Ends = record { lines = x; ranges = y; range_lists = z } in e in
-    ap (λ x. ends x (end_of b) (end_of c)) (end_is a plain a0 ak) ∙ ap (λ y. ends (empty_end plain) y (end_of c)) (end_is b plain b0 bk) ∙ ap (ends (empty_end plain) (empty_end plain)) (end_is c plain c0 ck)
+pub ends_are : (a b c e f : Meaning) (plain : Bool) → a.size ≡ 0 → a.is_plain ≡ plain → b.size ≡ 0 → b.is_plain ≡ plain → c.size ≡ 0 → c.is_plain ≡ plain → e.size ≡ 0 → e.is_plain ≡ plain → f.size ≡ 0 → f.is_plain ≡ plain →
+    ◌≡◌ {A = Ends} (record { lines = end_of a; ranges = end_of b; range_lists = end_of c; locations = end_of e; location_lists = end_of f }) (empty_ends plain)
+ends_are a b c e f plain a0 ak b0 bk c0 ck e0 ek f0 fk =
+    let ends = λ (v w x y z : End). let es : Ends = record { lines = v; ranges = w; range_lists = x; locations = y; location_lists = z } in es in
+    let none = empty_end plain in
+    ap (λ v. ends v (end_of b) (end_of c) (end_of e) (end_of f)) (end_is a plain a0 ak)
+    ∙ ap (λ w. ends none w (end_of c) (end_of e) (end_of f)) (end_is b plain b0 bk)
+    ∙ ap (λ x. ends none none x (end_of e) (end_of f)) (end_is c plain c0 ck)
+    ∙ ap (λ y. ends none none none y (end_of f)) (end_is e plain e0 ek)
+    ∙ ap (λ z. ends none none none none z) (end_is f plain f0 fk)
 
 -- Line programs
 
@@ -72,13 +84,6 @@ texts_as text (u ∷ us) all big l =
 pub lines_as : (d : DwarfValue) → AreUnwritten d → (big : Bool) (l : Layout) → dwarf_lines d big l ≡ added_lines d big l
 lines_as d unwritten big l = ap (λ t. followed t (texts (line_program_text d.strings d.line_strings) d.line_programs big l)) (texts_as (line_text d.line_strings d.strings) d.units unwritten big l)
 
--- what is told behind nothing is what was added
-pub behind_nothing : (t u : Text) (bytes : List ℕ) → ((ys : List ℕ) → t ≡ Some ys → ys ≡ []) → followed t u ≡ Some bytes → u ≡ Some bytes
-unfolding followed
-behind_nothing None u bytes none h = absurd (let x : ◌≡◌ {A = Text} None (Some bytes) = h in cc)
-behind_nothing (Some ys) None bytes none h = absurd (let x : ◌≡◌ {A = Text} None (Some bytes) = h in cc)
-behind_nothing (Some ys) (Some xs) bytes none h = ap (λ zs. Some (zs ++ xs)) (sym (none ys refl)) ∙ h
-
 -- over an empty plain writer they stand there
 lines_held : (old new : Meaning) (d : DwarfValue) → IsEmptyPlainWriter old old.is_big → (new.is_plain ≡ true → new.records ≡ []) →
     AppendsBehind old new (sizes (new_size line_size) d.units + sizes line_program_size d.line_programs) (added_lines d) →
@@ -91,14 +96,6 @@ lines_held old new d empty law p =
     let here = sym (p.text_is.resolves tidy at_zero) ∙ resolved-plain new plain (law plain) ∙ told in
     let nothing = resolved-plain old empty.plain empty.records ∙ empty.bytes in
     (front.added, told, behind_nothing (resolved at_zero old) (added_lines d old.is_big at_zero) front.added (λ ys is. sym (some_is [] ys (sym nothing ∙ is))) here)
-
--- what units find where their own parts begin at these places
-abbrev found_at : List (List ℕ) → List (List ℕ) → ℕ → Bool → ℕ → Bool → ℕ → Bool → Elsewhere
-found_at line_strings strings lines a ranges b range_lists c = record {
-  line_strings = line_strings;
-  strings = strings;
-  ends = record { lines = record { size = lines; is_plain = a }; ranges = record { size = ranges; is_plain = b }; range_lists = record { size = range_lists; is_plain = c } };
-}
 
 -- what is added to an empty section is all that resolves in it
 pub resolved_alone : (old new : Meaning) (n : ℕ) (text : Model) → IsEmptyWriter old old.is_big → Appends old new n text → (l : Layout) (xs : List ℕ) → resolved l new ≡ Some xs → text new.is_big l ≡ Some xs
@@ -127,26 +124,50 @@ module _ {W : Type 0} (meaning : W → Meaning) (old new : Sections W) (d : Dwar
       texts_as (range_text true) d.units unwritten (meaning new.debug_rnglists.0).is_big l ∙ resolved_alone (meaning old.debug_rnglists.0) (meaning new.debug_rnglists.0) _ _ empty p.range_lists l xs h
 
 -- the numbers of units don't hang on whether writers are plain
-numbered-plain : (n : ℕ) (line_strings strings : List (List ℕ)) (a b : Bool) (c d e f : Bool) (lines ranges range_lists : ℕ) (us : List UnitValue) →
-    numbered_from n (found_at line_strings strings lines a ranges c range_lists e) us ≡ numbered_from n (found_at line_strings strings lines b ranges d range_lists f) us
-numbered-plain n line_strings strings a b c d e f lines ranges range_lists [] = refl
-numbered-plain n line_strings strings a b c d e f lines ranges range_lists (u ∷ us) =
-    ap (λ xs. settled_at n (found_at line_strings strings lines a ranges c range_lists e) u ∷ xs)
-    (numbered-plain (suc n) line_strings strings a b c d e f (lines + line_size u) (ranges + range_size false u) (range_lists + range_size true u) us)
+abbrev AreSizes : Ends → Ends → Type 0
+AreSizes a b =
+    (a.lines.size ≡ b.lines.size) × (a.ranges.size ≡ b.ranges.size) × (a.range_lists.size ≡ b.range_lists.size) × (a.locations.size ≡ b.locations.size) × (a.location_lists.size ≡ b.location_lists.size)
 
-pub units_from_begin : (e : Ends) (d : DwarfValue) → e.lines.size ≡ 0 → e.ranges.size ≡ 0 → e.range_lists.size ≡ 0 → settled_units e d ≡ settled_units (empty_ends true) d
-units_from_begin e d lines ranges range_lists =
-    let at = λ (x y z : ℕ). numbered_from 0 (found_at d.line_strings d.strings x e.lines.is_plain y e.ranges.is_plain z e.range_lists.is_plain) d.units in
-    ap (λ n. at n e.ranges.size e.range_lists.size) lines ∙ ap (λ n. at 0 n e.range_lists.size) ranges ∙ ap (at 0 0) range_lists
-    ∙ numbered-plain 0 d.line_strings d.strings e.lines.is_plain true e.ranges.is_plain true e.range_lists.is_plain true 0 0 0 d.units
+-- what units find where sections end at these places
+abbrev found_by : List (List ℕ) → List (List ℕ) → Ends → Elsewhere
+found_by line_strings strings ends = record { line_strings = line_strings; strings = strings; ends = ends }
+
+same_tables : (line_strings strings : List (List ℕ)) (a b : Ends) (u : UnitValue) → AreSizes a b → unit_tables (found_by line_strings strings a) u ≡ unit_tables (found_by line_strings strings b) u
+same_tables line_strings strings a b u h =
+    let sized = λ (v w x y z : ℕ).
+    let at = λ (n : ℕ). let e : End = record { size = n; is_plain = true } in e in
+    let e : Ends = record { lines = at v; ranges = at w; range_lists = at x; locations = at y; location_lists = at z } in
+    unit_tables (found_by line_strings strings e) u in
+    ap (λ v. sized v a.ranges.size a.range_lists.size a.locations.size a.location_lists.size) h.0
+    ∙ ap (λ w. sized b.lines.size w a.range_lists.size a.locations.size a.location_lists.size) h.1
+    ∙ ap (λ x. sized b.lines.size b.ranges.size x a.locations.size a.location_lists.size) h.2
+    ∙ ap (λ y. sized b.lines.size b.ranges.size b.range_lists.size y a.location_lists.size) h.3
+    ∙ ap (λ z. sized b.lines.size b.ranges.size b.range_lists.size b.locations.size z) h.4
+
+numbered-sizes : (n : ℕ) (line_strings strings : List (List ℕ)) (a b : Ends) (us : List UnitValue) → AreSizes a b → numbered_from n (found_by line_strings strings a) us ≡ numbered_from n (found_by line_strings strings b) us
+numbered-sizes n line_strings strings a b [] h = refl
+numbered-sizes n line_strings strings a b (u ∷ us) h =
+    let more = numbered_from (suc n) (found_by line_strings strings (past_ends a u)) us in
+    ap (λ t. let w : Numbered = record { id = n; unit = settled u; tables = t } in w ∷ more) (same_tables line_strings strings a b u h)
+    ∙ ap (λ xs. settled_at n (found_by line_strings strings b) u ∷ xs)
+    (numbered-sizes (suc n) line_strings strings (past_ends a u) (past_ends b u) us (
+      ap (λ k. k + line_size u) h.0,
+      ap (λ k. k + range_size false u) h.1,
+      ap (λ k. k + range_size true u) h.2,
+      ap (λ k. k + location_size false u) h.3,
+      ap (λ k. k + location_size true u) h.4,
+    ))
+
+pub units_from_begin : (e : Ends) (d : DwarfValue) → AreSizes e (empty_ends true) → settled_units e d ≡ settled_units (empty_ends true) d
+units_from_begin e d h = numbered-sizes 0 d.line_strings d.strings e (empty_ends true) d.units h
 
 -- What writing a table comes to where none of its units was written before, and no reference was open.
 pub record WritesWhole {W : Type 0} (meaning : W → Meaning) (old new : Sections W) (us : List Numbered) : Type 0 where
   pub kept : List Kept
   pub adds : AppendsUnits meaning old new (info_of us kept) us kept
-  pub lead : (err : Error) → IsFalse (holes_fail (info_of us kept) (meaning old.debug_info.0).is_plain (units_draft us kept).holes err)
+  pub lead : (err : Error) → IsFalse (references_fail (info_of us kept) (meaning old.debug_info.0).is_plain (ends_of meaning old) us kept err)
 
-pub writes_whole : {W : Type 0} (meaning : W → Meaning) (old new : Sections W) (d : DwarfValue) (vs : List UnitValue) → old.debug_info_fixups ≡ [] → AreUnwritten d → CompletesAny meaning old new d.units vs (found_in meaning old d) →
+pub writes_whole : {W : Type 0} (meaning : W → Meaning) (old new : Sections W) (d : DwarfValue) (vs : List UnitValue) → NoFixups old → AreUnwritten d → CompletesAny meaning old new d.units vs (found_in meaning old d) →
     WritesWhole meaning old new (settled_units (ends_of meaning old) d)
 writes_whole {W} meaning old new d vs none unwritten any =
     let p = any old [] [] none (pending_none meaning old) in
@@ -154,9 +175,61 @@ writes_whole {W} meaning old new d vs none unwritten any =
     let whole : WritesWhole meaning old new (to_write (found_in meaning old d) d.units) = record {
       kept = p.kept;
       adds = subst (λ f. AppendsUnits meaning old new f (to_write (found_in meaning old d) d.units) p.kept) info p.appends;
-      lead = λ err. subst (λ f. IsFalse (holes_fail f (meaning old.debug_info.0).is_plain (units_draft (to_write (found_in meaning old d) d.units) p.kept).holes err)) info (p.lead err);
+      lead = λ err. subst (λ f. IsFalse (references_fail f (meaning old.debug_info.0).is_plain (ends_of meaning old) (to_write (found_in meaning old d) d.units) p.kept err)) info (p.lead err);
     } in
     subst (WritesWhole meaning old new) (to_write-unwritten 0 (found_in meaning old d) d.units unwritten) whole
+
+-- where new sections end
+pub new_sizes : {W : Type 0} (meaning : W → Meaning) (old : Sections W) → AreNew meaning old → AreSizes (ends_of meaning old) (empty_ends true)
+new_sizes meaning old empty = (empty.lines.size, empty.ranges.size, empty.range_lists.size, empty.locations.size, empty.location_lists.size)
+
+-- Location lists over new sections
+module _ {W : Type 0} (meaning : W → Meaning) (old new : Sections W) (d : DwarfValue) (w : WritesWhole meaning old new (settled_units (empty_ends true) d)) where
+  abbrev ns : List Numbered
+  ns = settled_units (empty_ends true) d
+
+  pub row_from_begin : (meaning old.debug_info.0).size ≡ 0 → (meaning old.debug_abbrev.0).size ≡ 0 → AreInRow at_begin ns w.kept
+  row_from_begin info abbrevs =
+      subst (λ n. AreInRow (record { info = n; abbrevs = 0 }) ns w.kept) info
+      (subst (λ n. AreInRow (record { info = (meaning old.debug_info.0).size; abbrevs = n }) ns w.kept) abbrevs w.adds.units.in_row)
+
+  pub locations_resolved : AreNew meaning old → ResolveLocations meaning new d
+  locations_resolved empty = record {
+    kept = w.kept;
+    in_row = row_from_begin empty.info.size empty.abbrevs.size;
+    locations = filled_alone (meaning old.debug_loc.0) (meaning new.debug_loc.0) (info_of ns w.kept) (locations_draft ns false) empty.locations w.adds.lists.locations;
+    location_lists = filled_alone (meaning old.debug_loclists.0) (meaning new.debug_loclists.0) (info_of ns w.kept) (locations_draft ns true) empty.location_lists w.adds.lists.location_lists;
+  }
+
+  -- the places of their references fit, where no symbols can be written
+  module _ (old_plain : (meaning old.debug_loc.0).is_plain ≡ true) (new_plain : (meaning old.debug_loclists.0).is_plain ≡ true) where
+    abbrev info : Info
+    info = info_of ns w.kept
+
+    lists_lead : (err : Error) → IsFalse (lists_refer_wrong info (ends_of meaning old) ns err)
+    lists_lead err = (or_parts (holes_fail info (meaning old.debug_info.0).is_plain (units_draft ns w.kept).holes err) (lists_refer_wrong info (ends_of meaning old) ns err) (w.lead err)).1
+
+    parts_lead : (err : Error) → IsFalse (holes_fail info (meaning old.debug_loc.0).is_plain (locations_draft ns false).holes err) × IsFalse (holes_fail info (meaning old.debug_loclists.0).is_plain (locations_draft ns true).holes err)
+    parts_lead err = or_parts (holes_fail info (meaning old.debug_loc.0).is_plain (locations_draft ns false).holes err) (holes_fail info (meaning old.debug_loclists.0).is_plain (locations_draft ns true).holes err) (lists_lead err)
+
+    lists_placed : (five : Bool) → ArePlaced (started (start_of at_zero DebugInfo) info) (locations_draft ns five).holes
+    lists_placed false =
+        placed_is (started 0 info) (locations_draft ns false).holes (holes_lead info (locations_draft ns false).holes (λ err. subst (λ b. IsFalse (holes_fail info b (locations_draft ns false).holes err)) old_plain (parts_lead err).0))
+    lists_placed true =
+        placed_is (started 0 info) (locations_draft ns true).holes (holes_lead info (locations_draft ns true).holes (λ err. subst (λ b. IsFalse (holes_fail info b (locations_draft ns true).holes err)) new_plain (parts_lead err).1))
+
+    -- their texts are there
+    pub lists_there : AreUnwritten d → (plain : Bool) (at : ℕ) → AreWritable plain (found_from (empty_ends true) d) at d.units → (five big : Bool) → (xs : List ℕ) × (filled_text info (locations_draft ns five) big at_zero ≡ Some xs)
+    lists_there unwritten plain at writable five big =
+        locations_all_there (started (start_of at_zero DebugInfo) info) big at_zero five 0 (found_from (empty_ends true) d) plain refl refl at d.units unwritten writable (lists_placed five)
+
+    -- and each list is found in them
+    pub lists_found : AreUnwritten d → (plain : Bool) (at : ℕ) → AreWritable plain (found_from (empty_ends true) d) at d.units → (old_big new_big : Bool) (xs ys : List ℕ) →
+        filled_text info (locations_draft ns false) old_big at_zero ≡ Some xs → filled_text info (locations_draft ns true) new_big at_zero ≡ Some ys →
+        FindAllLocations (record { is_big = old_big; bytes = xs }) (record { is_big = new_big; bytes = ys }) (started (start_of at_zero DebugInfo) info) (found_from (empty_ends true) d) d.units
+    lists_found unwritten plain at writable old_big new_big xs ys p q =
+        all_located (record { is_big = old_big; bytes = xs }) (record { is_big = new_big; bytes = ys }) (started (start_of at_zero DebugInfo) info) 0 (found_from (empty_ends true) d) plain at [] xs [] ys d.units refl refl unwritten w.adds.lists.located writable
+        refl refl p refl refl q
 
 module _ {W : Type 0} (meaning : W → Meaning) (old new : Sections W) (d : DwarfValue) (whole : WritesWhole meaning old new (settled_units (ends_of meaning old) d)) where
   abbrev us : List Numbered
@@ -187,8 +260,8 @@ module _ {W : Type 0} (meaning : W → Meaning) (old new : Sections W) (d : Dwar
           ap (λ zs. zs ++ tables_of us) (sym none) ∙ some_is (ys ++ tables_of us) abbrevs k
 
   -- the places of their own parts are counted from the begins of the sections
-  from_begin : (meaning old.debug_line.0).size ≡ 0 → (meaning old.debug_ranges.0).size ≡ 0 → (meaning old.debug_rnglists.0).size ≡ 0 → us ≡ settled_units (empty_ends true) d
-  from_begin lines ranges range_lists = units_from_begin (ends_of meaning old) d lines ranges range_lists
+  from_begin : AreSizes (ends_of meaning old) (empty_ends true) → us ≡ settled_units (empty_ends true) d
+  from_begin sizes = units_from_begin (ends_of meaning old) d sizes
 
   pub dwarf_resolved : AreNew meaning old → AreUnwritten d → AddsLines meaning old new d → AppendsAllRanges meaning old new d.units → ResolvesTo meaning new d
   dwarf_resolved empty unwritten lines ranges = record {
@@ -198,7 +271,7 @@ module _ {W : Type 0} (meaning : W → Meaning) (old new : Sections W) (d : Dwar
         let here = subst (λ b. Built (record { units = us; layout = l } ∷ []) b info abbrevs) (sym all_added.units.same.order)
         (subst (Built (record { units = us; layout = l } ∷ []) m.is_big info) (tables_resolved empty.abbrevs l abbrevs told_abbrevs) built)
         in
-        subst (λ ns. Built (record { units = ns; layout = l } ∷ []) (meaning new.debug_info.0).is_big info abbrevs) (from_begin empty.lines.size empty.ranges.size empty.range_lists.size) here;
+        subst (λ ns. Built (record { units = ns; layout = l } ∷ []) (meaning new.debug_info.0).is_big info abbrevs) (from_begin (new_sizes meaning old empty)) here;
     lines = λ l bytes told.
         let m = meaning old.debug_line.0 in
         let adds_text = lines.text_is.resolves (empty_tidy m.is_big m empty.lines) l in
@@ -206,6 +279,7 @@ module _ {W : Type 0} (meaning : W → Meaning) (old new : Sections W) (d : Dwar
         ∙ behind_nothing (resolved l m) (added_lines d m.is_big l) bytes (λ ys is. resolved-empty m.is_big l m ys empty.lines is) (sym adds_text ∙ told);
     ranges = ranges_resolved meaning old new d unwritten ranges empty.ranges;
     range_lists = range_lists_resolved meaning old new d unwritten ranges empty.range_lists;
+    locations = locations_resolved meaning old new d (subst (WritesWhole meaning old new) (from_begin (new_sizes meaning old empty)) whole) empty;
   }
 
   pub dwarf_held : ((w : W) → (meaning w).is_plain ≡ true → (meaning w).records ≡ []) → AreNewPlain meaning old → AreUnwritten d → AddsLines meaning old new d → AppendsAllRanges meaning old new d.units →
@@ -214,7 +288,7 @@ module _ {W : Type 0} (meaning : W → Meaning) (old new : Sections W) (d : Dwar
       let m = meaning old.debug_info.0 in
       let plain : (meaning new.debug_info.0).is_plain ≡ true = all_added.units.same.kind ∙ empty.writers.debug_info.plain in
       let held = units_held m.is_big m (meaning new.debug_info.0) (meaning old.debug_abbrev.0).size us ks empty.writers.debug_info (law new.debug_info.0 plain) empty.writers.debug_abbrev.size all_added.units in
-      let stays : Sections W = record old { debug_abbrev = new.debug_abbrev; debug_str = new.debug_str; debug_line_str = new.debug_line_str; debug_line = new.debug_line; debug_ranges = new.debug_ranges; debug_rnglists = new.debug_rnglists; debug_info = new.debug_info; debug_info_fixups = new.debug_info_fixups; debug_loc_fixups = new.debug_loc_fixups; debug_loclists_fixups = new.debug_loclists_fixups } in
+      let stays : Sections W = record old { debug_abbrev = new.debug_abbrev; debug_str = new.debug_str; debug_line_str = new.debug_line_str; debug_line = new.debug_line; debug_ranges = new.debug_ranges; debug_rnglists = new.debug_rnglists; debug_loc = new.debug_loc; debug_loclists = new.debug_loclists; debug_info = new.debug_info; debug_info_fixups = new.debug_info_fixups; debug_loc_fixups = new.debug_loc_fixups; debug_loclists_fixups = new.debug_loclists_fixups } in
       let kept = λ (f : Sections W → W) (h : (meaning (f stays)).bytes ≡ Some []). let P : Sections W → Type 0 = λ s. (meaning (f s)).bytes ≡ Some [] in subst P (sym others) h in
       let line = lines_held (meaning old.debug_line.0) (meaning new.debug_line.0) d empty.writers.debug_line (law new.debug_line.0) lines in
       let there = λ (five : Bool) (big : Bool). ranges_all_there five (found_in meaning old d) (meaning old.debug_info.0).is_plain empty.writers.debug_ranges.plain empty.writers.debug_rnglists.plain (meaning old.debug_abbrev.0).size d.units unwritten writable big at_zero in
@@ -223,7 +297,18 @@ module _ {W : Type 0} (meaning : W → Meaning) (old new : Sections W) (d : Dwar
       let w = empty.writers in
       let old_section : InOrder = record { is_big = (meaning new.debug_ranges.0).is_big; bytes = old_ranges.0 } in
       let new_section : InOrder = record { is_big = (meaning new.debug_rnglists.0).is_big; bytes = new_ranges.0 } in
-      let ends = ends_are (meaning old.debug_line.0) (meaning old.debug_ranges.0) (meaning old.debug_rnglists.0) true w.debug_line.size w.debug_line.plain w.debug_ranges.size w.debug_ranges.plain w.debug_rnglists.size w.debug_rnglists.plain in
+      let ends = ends_are (meaning old.debug_line.0) (meaning old.debug_ranges.0) (meaning old.debug_rnglists.0) (meaning old.debug_loc.0) (meaning old.debug_loclists.0) true w.debug_line.size w.debug_line.plain w.debug_ranges.size w.debug_ranges.plain
+      w.debug_rnglists.size w.debug_rnglists.plain w.debug_loc.size w.debug_loc.plain w.debug_loclists.size w.debug_loclists.plain
+      in
+      let sizes : AreSizes (ends_of meaning old) (empty_ends true) = (w.debug_line.size, w.debug_ranges.size, w.debug_rnglists.size, w.debug_loc.size, w.debug_loclists.size) in
+      let named = subst (WritesWhole meaning old new) (from_begin sizes) whole in
+      let can = subst (λ e. AreWritable (meaning old.debug_info.0).is_plain (found_from e d) (meaning old.debug_abbrev.0).size d.units) ends writable in
+      let located = lists_there meaning old new d named w.debug_loc.plain w.debug_loclists.plain unwritten (meaning old.debug_info.0).is_plain (meaning old.debug_abbrev.0).size can in
+      let old_lists = located false (meaning old.debug_loc.0).is_big in
+      let new_lists = located true (meaning old.debug_loclists.0).is_big in
+      let info = info_of (settled_units (empty_ends true) d) named.kept in
+      let old_text = ap (λ b. filled_text info (locations_draft (settled_units (empty_ends true) d) false) b at_zero) named.adds.lists.locations.same.order ∙ old_lists.1 in
+      let new_text = ap (λ b. filled_text info (locations_draft (settled_units (empty_ends true) d) true) b at_zero) named.adds.lists.location_lists.same.order ∙ new_lists.1 in
       let found = all_found old_section new_section (found_in meaning old d) (meaning old.debug_info.0).is_plain (meaning old.debug_abbrev.0).size [] old_ranges.0 [] new_ranges.0 d.units w.debug_ranges.plain w.debug_rnglists.plain unwritten ranges.found writable
       refl (sym w.debug_ranges.size) (ap (λ b. dwarf_ranges false d b at_zero) ranges.ranges.same.order ∙ old_ranges.1)
       refl (sym w.debug_rnglists.size) (ap (λ b. dwarf_ranges true d b at_zero) ranges.range_lists.same.order ∙ new_ranges.1) in
@@ -234,8 +319,8 @@ module _ {W : Type 0} (meaning : W → Meaning) (old new : Sections W) (d : Dwar
         debug_line = line.0;
         debug_ranges = old_ranges.0;
         debug_rnglists = new_ranges.0;
-        debug_loc = [];
-        debug_loclists = [];
+        debug_loc = old_lists.0;
+        debug_loclists = new_lists.0;
         debug_info = held.0;
         debug_frame = [];
         eh_frame = [];
@@ -244,15 +329,20 @@ module _ {W : Type 0} (meaning : W → Meaning) (old new : Sections W) (d : Dwar
       record {
         texts = texts;
         are = record {
-          units = subst (λ ns. Built (record { units = ns; layout = at_zero } ∷ []) (meaning new.debug_info.0).is_big held.0 (tables_of us)) (from_begin empty.writers.debug_line.size empty.writers.debug_ranges.size empty.writers.debug_rnglists.size) units;
+          units = subst (λ ns. Built (record { units = ns; layout = at_zero } ∷ []) (meaning new.debug_info.0).is_big held.0 (tables_of us)) (from_begin sizes) units;
           strings = refl;
           line_strings = refl;
           lines = lines_as d unwritten (meaning new.debug_line.0).is_big at_zero ∙ ap (λ b. added_lines d b at_zero) lines.text_is.same.order ∙ line.2;
           ranges = ap (λ b. dwarf_ranges false d b at_zero) ranges.ranges.same.order ∙ old_ranges.1;
           range_lists = ap (λ b. dwarf_ranges true d b at_zero) ranges.range_lists.same.order ∙ new_ranges.1;
           lists = subst (λ e. FindAllLists old_section new_section (found_from e d) d.units) ends found;
-          locations = refl;
-          location_lists = refl;
+          locations = record {
+            kept = named.kept;
+            in_row = row_from_begin meaning old new d named w.debug_info.size w.debug_abbrev.size;
+            locations = old_text;
+            location_lists = new_text;
+            found = lists_found meaning old new d named w.debug_loc.plain w.debug_loclists.plain unwritten (meaning old.debug_info.0).is_plain (meaning old.debug_abbrev.0).size can (meaning new.debug_loc.0).is_big (meaning new.debug_loclists.0).is_big old_lists.0 new_lists.0 old_text new_text;
+          };
           frames = refl;
           eh_frames = refl;
         };
@@ -263,8 +353,8 @@ module _ {W : Type 0} (meaning : W → Meaning) (old new : Sections W) (d : Dwar
           debug_line = line.1;
           debug_ranges = plain_alone (meaning old.debug_ranges.0) (meaning new.debug_ranges.0) _ _ old_ranges.0 empty.writers.debug_ranges (law new.debug_ranges.0) ranges.ranges (sym (texts_as (range_text false) d.units unwritten (meaning old.debug_ranges.0).is_big at_zero) ∙ old_ranges.1);
           debug_rnglists = plain_alone (meaning old.debug_rnglists.0) (meaning new.debug_rnglists.0) _ _ new_ranges.0 empty.writers.debug_rnglists (law new.debug_rnglists.0) ranges.range_lists (sym (texts_as (range_text true) d.units unwritten (meaning old.debug_rnglists.0).is_big at_zero) ∙ new_ranges.1);
-          debug_loc = kept (λ s. s.debug_loc.0) empty.writers.debug_loc.bytes;
-          debug_loclists = kept (λ s. s.debug_loclists.0) empty.writers.debug_loclists.bytes;
+          debug_loc = filled_told (meaning old.debug_loc.0) (meaning new.debug_loc.0) info (locations_draft (settled_units (empty_ends true) d) false) old_lists.0 w.debug_loc (law new.debug_loc.0) named.adds.lists.locations old_lists.1;
+          debug_loclists = filled_told (meaning old.debug_loclists.0) (meaning new.debug_loclists.0) info (locations_draft (settled_units (empty_ends true) d) true) new_lists.0 w.debug_loclists (law new.debug_loclists.0) named.adds.lists.location_lists new_lists.1;
           debug_info = held.1.0;
           debug_frame = kept (λ s. s.debug_frame.0) empty.writers.debug_frame.bytes;
           eh_frame = kept (λ s. s.eh_frame.0) empty.writers.eh_frame.bytes;
@@ -280,11 +370,23 @@ AreNewPlain-from meaning big s h = record {
 }
 
 -- units are written in the byte order of their section
-pub same_order : {W : Type 0} (meaning : W → Meaning) (old new : Sections W) (us vs : List UnitValue) (t : Elsewhere) → old.debug_info_fixups ≡ [] → CompletesAny meaning old new us vs t → (meaning new.debug_info.0).is_big ≡ (meaning old.debug_info.0).is_big
-same_order meaning old new us vs t none any = (any old [] [] none (pending_none meaning old)).appends.units.same.order
+pub same_order : {W : Type 0} (meaning : W → Meaning) (old new : Sections W) (us vs : List UnitValue) (t : Elsewhere) → NoFixups old → CompletesAny meaning old new us vs t → (meaning new.debug_info.0).is_big ≡ (meaning old.debug_info.0).is_big
+same_order meaning old new before after t none any = (any old [] [] none (pending_none meaning old)).appends.units.same.order
 
--- four orders that are one
-pub orders_are : (o : Orders) (big : Bool) → o.info ≡ big → o.lines ≡ big → o.ranges ≡ big → o.range_lists ≡ big → o ≡ one_order big
-orders_are o big info lines ranges range_lists =
-    let of = λ (a b c d : Bool). let x : Orders = record { info = a; lines = b; ranges = c; range_lists = d } in x in
-    ap (λ a. of a o.lines o.ranges o.range_lists) info ∙ ap (λ b. of big b o.ranges o.range_lists) lines ∙ ap (λ c. of big big c o.range_lists) ranges ∙ ap (of big big big) range_lists
+-- so are their location lists
+pub locations_order : {W : Type 0} (meaning : W → Meaning) (old new : Sections W) (us vs : List UnitValue) (t : Elsewhere) → NoFixups old → CompletesAny meaning old new us vs t → (meaning new.debug_loc.0).is_big ≡ (meaning old.debug_loc.0).is_big
+locations_order meaning old new before after t none any = (any old [] [] none (pending_none meaning old)).appends.lists.locations.same.order
+
+pub location_lists_order : {W : Type 0} (meaning : W → Meaning) (old new : Sections W) (us vs : List UnitValue) (t : Elsewhere) → NoFixups old → CompletesAny meaning old new us vs t → (meaning new.debug_loclists.0).is_big ≡ (meaning old.debug_loclists.0).is_big
+location_lists_order meaning old new before after t none any = (any old [] [] none (pending_none meaning old)).appends.lists.location_lists.same.order
+
+-- orders that are one
+pub orders_are : (o : Orders) (big : Bool) → o.info ≡ big → o.lines ≡ big → o.ranges ≡ big → o.range_lists ≡ big → o.locations ≡ big → o.location_lists ≡ big → o ≡ one_order big
+orders_are o big info lines ranges range_lists locations location_lists =
+    let of = λ (a b c d e f : Bool). let x : Orders = record { info = a; lines = b; ranges = c; range_lists = d; locations = e; location_lists = f } in x in
+    ap (λ a. of a o.lines o.ranges o.range_lists o.locations o.location_lists) info
+    ∙ ap (λ b. of big b o.ranges o.range_lists o.locations o.location_lists) lines
+    ∙ ap (λ c. of big big c o.range_lists o.locations o.location_lists) ranges
+    ∙ ap (λ d. of big big big d o.locations o.location_lists) range_lists
+    ∙ ap (λ e. of big big big big e o.location_lists) locations
+    ∙ ap (λ f. of big big big big big f) location_lists

@@ -1,10 +1,9 @@
 -- What a Dwarf leaves in new sections.
-use Rattle.std.specs.Prelude.{◌≡◌, ℕ, Bool, List, [], ◌∷◌, ◌++◌, Some, None, refl, true, false}
+use Rattle.std.specs.Prelude.{◌≡◌, ℕ, Bool, List, Some, true, false}
 use Rattle.std.proofs.Common.{sym, ◌∙◌, ap, subst}
 use Rattle.dw_writer.specs.Drafts.{filled_text}
-use Rattle.dw_writer.specs.Texts.{Text, followed}
 use Rattle.dw_writer.specs.Layout.{Layout}
-use Rattle.dw_writer.specs.Meaning.{Meaning, Adds, IsTidy}
+use Rattle.dw_writer.specs.Meaning.{Meaning, Adds}
 use Rattle.dw_writer.specs.New.{IsEmptyWriter, IsNew}
 use Rattle.dw_writer.specs.Resolved.{resolved}
 use Rattle.dw_writer.specs.declared.sections.Sections.{Sections}
@@ -12,13 +11,14 @@ use Rattle.dw_writer.proofs.Steps.{Adds-appends}
 use Rattle.dw_strings.specs.Strings.{string_bytes}
 use Rattle.dw_unit.specs.Built.{Numbered, at_begin}
 use Rattle.dw_unit.specs.Elsewhere.{ends_of, AppendsAllRanges}
-use Rattle.dw_unit.specs.Pending.{Kept, AreInRow, info_of, units_draft, tables_of}
+use Rattle.dw_unit.specs.Pending.{AreInRow, info_of, units_draft, tables_of, locations_draft}
 use Rattle.dw_unit.proofs.Files.{empty_tidy, resolved-empty, file_written}
 use Rattle.dw_dwarf.specs.DwarfValue.{DwarfValue}
 use Rattle.dw_dwarf.specs.Left.{units_of, IsLeft}
 use Rattle.dw_dwarf.specs.Valid.{AreUnwritten, settled_units}
 use Rattle.dw_dwarf.specs.Written.{dwarf_ranges, AddsLines, AddsStrings}
-use Rattle.dw_dwarf.proofs.Held.{WritesWhole, behind_nothing, added_lines, lines_as, units_from_begin, ranges_resolved, range_lists_resolved}
+use Rattle.dw_dwarf.proofs.TextsAlone.{behind_nothing, filled_alone}
+use Rattle.dw_dwarf.proofs.Held.{WritesWhole, added_lines, lines_as, units_from_begin, ranges_resolved, range_lists_resolved}
 
 some_is : {A : Type 0} (x y : A) → Some x ≡ Some y → x ≡ y
 some_is x y h = cc
@@ -39,7 +39,7 @@ order p q = p ∙ q
 module _ {W : Type 0} (meaning : W → Meaning) (big : Bool) (old new : Sections W) (d : DwarfValue) (empty : IsNew meaning big old) where
   -- the same units, the places of whose own parts are counted from the begins of the sections
   from_begin : settled_units (ends_of meaning old) d ≡ units_of d
-  from_begin = units_from_begin (ends_of meaning old) d empty.writers.debug_line.size empty.writers.debug_ranges.size empty.writers.debug_rnglists.size
+  from_begin = units_from_begin (ends_of meaning old) d (empty.writers.debug_line.size, empty.writers.debug_ranges.size, empty.writers.debug_rnglists.size, empty.writers.debug_loc.size, empty.writers.debug_loclists.size)
 
   whole_left : (us : List Numbered) → (whole : WritesWhole meaning old new us) → AreUnwritten d → AddsLines meaning old new d → AppendsAllRanges meaning old new d.units → AddsStrings meaning old new d.line_strings d.strings → us ≡ units_of d → IsLeft meaning big new d
   whole_left us whole unwritten lines ranges strings same =
@@ -58,6 +58,12 @@ module _ {W : Type 0} (meaning : W → Meaning) (big : Bool) (old new : Sections
             ∙ behind_nothing (resolved l line) (added_lines d line.is_big l) xs (λ ys is. resolved-empty big l line ys e.debug_line is) (sym (lines.text_is.resolves (empty_tidy big line e.debug_line) l) ∙ h);
         ranges = λ l xs h. subst (λ b. dwarf_ranges false d b l ≡ Some xs) (order ranges.ranges.same.order e.debug_ranges.order) (ranges_resolved meaning old new d unwritten ranges (empty_as e.debug_ranges) l xs h);
         range_lists = λ l xs h. subst (λ b. dwarf_ranges true d b l ≡ Some xs) (order ranges.range_lists.same.order e.debug_rnglists.order) (range_lists_resolved meaning old new d unwritten ranges (empty_as e.debug_rnglists) l xs h);
+        locations = λ l xs h.
+            let p = w.adds.lists.locations in
+            subst (λ b. filled_text (info_of ns w.kept) (locations_draft ns false) b l ≡ Some xs) (order p.same.order e.debug_loc.order) (filled_alone (meaning old.debug_loc.0) (meaning new.debug_loc.0) (info_of ns w.kept) (locations_draft ns false) (empty_as e.debug_loc) p l xs h);
+        location_lists = λ l xs h.
+            let p = w.adds.lists.location_lists in
+            subst (λ b. filled_text (info_of ns w.kept) (locations_draft ns true) b l ≡ Some xs) (order p.same.order e.debug_loclists.order) (filled_alone (meaning old.debug_loclists.0) (meaning new.debug_loclists.0) (info_of ns w.kept) (locations_draft ns true) (empty_as e.debug_loclists) p l xs h);
         strings = added_alone big (meaning old.debug_str.0) (meaning new.debug_str.0) (string_bytes d.strings) e.debug_str strings.others;
         line_strings = added_alone big (meaning old.debug_line_str.0) (meaning new.debug_line_str.0) (string_bytes d.line_strings) e.debug_line_str strings.lines;
         info_tidy = w.adds.units.tidy (empty_tidy big m e.debug_info);

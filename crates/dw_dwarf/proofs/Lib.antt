@@ -1,5 +1,8 @@
+pub mod TextsAlone
 pub mod RangesThere
 pub mod ListsFound
+pub mod LocationsThere
+pub mod LocationsFound
 pub mod Held
 pub mod Complete
 pub mod OneUnit

@@ -1,31 +1,30 @@
 -- Range lists are found in the finished sections.
-use Rattle.std.specs.Prelude.{◌≡◌, ◌⊎◌, ℕ, ◌+◌, ◌<◌, ◌≤◌, Bool, true, false, not, ◌||◌, List, [], ◌∷◌, ◌++◌, All, length, Option, Some, None, slice_get, get_or, refl, IsFalse, if◌then◌else◌}
+use Rattle.std.specs.Prelude.{◌≡◌, ◌⊎◌, ℕ, ◌<◌, ◌≤◌, Bool, true, false, not, List, [], ◌∷◌, ◌++◌, All, length, Option, Some, None, slice_get, get_or, refl, if◌then◌else◌}
 use Rattle.std.proofs.Common.{sym, ◌∙◌, ap, subst, inl, inr, arith, append_assoc, length-append}
 use Rattle.std.proofs.lemmas.List.Elements.{All-head, All-tail}
 use Rattle.std.proofs.lemmas.Option.{slice_get_cases}
-use Rattle.dw_base.specs.declared.error.Error.{Error}
 use Rattle.dw_writer.specs.Drafts.{left_open, open_text}
 use Rattle.dw_writer.specs.Texts.{Text, followed}
 use Rattle.dw_lists.specs.Items.{is_five}
-use Rattle.dw_lists.specs.Parts.{Part}
-use Rattle.dw_lists.specs.Tables.{IsFound, AreNumbered, no_place, offsets_from, ranges_in}
+use Rattle.dw_lists.specs.Tables.{IsFound, AreNumbered, no_place, ranges_in}
 use Rattle.dw_lists.proofs.Numbered.{table_numbered}
 use Rattle.dw_lists.proofs.SameSize.{ranges-wide}
 use Rattle.dw_line.specs.Parts.{texts}
 use Rattle.dw_unit.specs.Built.{at_zero}
-use Rattle.dw_unit.specs.Elsewhere.{Elsewhere, AreFound, AreAllFound, has_base_address, line_fails, ranges_fail, ranges_fail_in, ranges_plain, ranges_at, range_draft, stands_in, range_size, range_text, range_places_at, past_parts, past_elsewhere}
+use Rattle.dw_unit.specs.Elsewhere.{Elsewhere, AreFound, AreAllFound, has_base_address, ranges_at, range_draft, range_size, range_text, range_places_at, past_parts, past_elsewhere}
+use Rattle.dw_unit.specs.Locations.{is_own_section}
 use Rattle.dw_unit.specs.UnitValue.{UnitValue}
-use Rattle.dw_unit.specs.Valid.{IsWritableAt, AreWritable}
+use Rattle.dw_unit.specs.Valid.{AreWritable}
 use Rattle.dw_unit.specs.Written.{past_table}
 use Rattle.dw_dwarf.specs.Lists.{InOrder, FindsLists, FindAllLists}
 use Rattle.dw_dwarf.specs.Valid.{IsUnwritten}
 use Rattle.dw_dwarf.proofs.RangesThere.{ranges_sound}
 
-some_is : {A : Type 0} (x y : A) → Some x ≡ Some y → x ≡ y
+pub some_is : {A : Type 0} (x y : A) → Some x ≡ Some y → x ≡ y
 some_is x y h = cc
 
 -- an element has what all have
-all_at : {X : Type 0} (P : X → Type 0) (xs : List X) (i : ℕ) (x : X) → slice_get xs i ≡ Some x → All P xs → P x
+pub all_at : {X : Type 0} (P : X → Type 0) (xs : List X) (i : ℕ) (x : X) → slice_get xs i ≡ Some x → All P xs → P x
 all_at {X} P xs i x get all = by_case (slice_get_cases xs i).1
   where
     by_case : ((y : X) × (i < length xs) × (slice_get xs i ≡ Some y) × (get_or xs i y ≡ y)) ⊎ ((length xs ≤ i) × (slice_get xs i ≡ None)) → P x
@@ -33,14 +32,14 @@ all_at {X} P xs i x get all = by_case (slice_get_cases xs i).1
     by_case (inr h) = absurd (let clash : ◌≡◌ {A = Option X} None (Some x) = sym h.1 ∙ get in cc)
 
 -- two texts that are told together
-record AreTold (t u : Text) (bytes : List ℕ) : Type 0 where
-  first : List ℕ
-  rest : List ℕ
-  first_is : t ≡ Some first
-  rest_is : u ≡ Some rest
-  both : bytes ≡ first ++ rest
+pub record AreTold (t u : Text) (bytes : List ℕ) : Type 0 where
+  pub first : List ℕ
+  pub rest : List ℕ
+  pub first_is : t ≡ Some first
+  pub rest_is : u ≡ Some rest
+  pub both : bytes ≡ first ++ rest
 
-told_apart : (t u : Text) (bytes : List ℕ) → followed t u ≡ Some bytes → AreTold t u bytes
+pub told_apart : (t u : Text) (bytes : List ℕ) → followed t u ≡ Some bytes → AreTold t u bytes
 unfolding followed
 told_apart None u bytes h = absurd (let x : ◌≡◌ {A = Text} None (Some bytes) = h in cc)
 told_apart (Some xs) None bytes h = absurd (let x : ◌≡◌ {A = Text} None (Some bytes) = h in cc)
@@ -49,7 +48,7 @@ told_apart (Some xs) (Some ys) bytes h = record { first = xs; rest = ys; first_i
 -- the bytes of a unit's lists in one of the sections are as many as they come to
 module _ (u : UnitValue) (big : Bool) where
   part_size : (five : Bool) (xs : List ℕ) → range_text five u big at_zero ≡ Some xs → length xs ≡ range_size five u
-  part_size five xs h = by_version (stands_in five u) h
+  part_size five xs h = by_version (is_own_section five u.encoding) h
     where
       by_version : (b : Bool) → (if b then open_text (range_draft u) big at_zero else Some []) ≡ Some xs → length xs ≡ (if b then (range_draft u).size else 0)
       by_version true k = ranges-wide u.encoding u.ranges left_open big at_zero xs k

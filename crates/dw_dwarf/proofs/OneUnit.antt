@@ -1,11 +1,12 @@
 -- A Dwarf of one unit, which was written alone.
-use Rattle.std.specs.Prelude.{◌≡◌, ◌⊎◌, ℕ, Bool, true, false, List, [], ◌∷◌, Option, refl, IsTrue, IsFalse}
-use Rattle.std.proofs.Common.{sym, ◌∙◌, ap, subst, inl, inr, arith}
-use Rattle.dw_base.specs.Numbers.{word_of}
+use Rattle.std.specs.Prelude.{◌≡◌, ℕ, Bool, true, false, ◌||◌, List, [], ◌∷◌, Option, refl, IsTrue, IsFalse}
+use Rattle.std.proofs.Common.{◌∙◌, ap, inl, inr, arith}
 use Rattle.dw_base.specs.declared.error.Error.{Error}
 use Rattle.dw_base.specs.declared.error.Error.TheVariants as errors
 use Rattle.dw_writer.specs.Contents.{Meaning}
-use Rattle.dw_writer.specs.Sections.{SomeHasRisen, NoFixups}
+use Rattle.dw_writer.specs.Drafts.{Info}
+use Rattle.dw_writer.specs.declared.fixup.DebugInfoFixup.{DebugInfoFixup}
+use Rattle.dw_writer.specs.Sections.{SomeHasRisen}
 use Rattle.dw_writer.specs.declared.sections.Sections.{Sections}
 use Rattle.dw_unit.specs.Elsewhere.{Elsewhere, elsewhere, ends_of, unit_tables, line_text, AppendsLine, AppendsRanges, AppendsAllRanges}
 use Rattle.dw_unit.proofs.LineSteps.{lines_none, lines_new}
@@ -13,17 +14,16 @@ use Rattle.dw_unit.proofs.RangeSteps.{ranges_none, ranges_new}
 use Rattle.dw_unit.proofs.UnitTexts.{behind-then, behind-as}
 use Rattle.dw_writer.proofs.Parts.{followed-nothing}
 use Rattle.dw_unit.specs.Alone.{has_info_reference, only_unit, AppendsAlone, AloneFails, AloneRefused}
-use Rattle.dw_unit.specs.Pending.{info_of}
+use Rattle.dw_unit.specs.Pending.{units_draft, locations_draft, info_of}
 use Rattle.dw_unit.specs.Places.{OffsetsValue}
 use Rattle.dw_unit.specs.UnitFaults.{holes_fail}
 use Rattle.dw_unit.specs.UnitValue.{UnitValue}
 use Rattle.dw_unit.specs.Valid.{IsWritableAt}
 use Rattle.dw_unit.specs.Whole.{settled}
-use Rattle.dw_unit.specs.Written.{KeepsOtherSections}
 use Rattle.dw_unit.proofs.ValidLaws.{unit_unfailing}
 use Rattle.dw_dwarf.specs.DwarfValue.{dwarf_of}
 use Rattle.dw_dwarf.specs.Valid.{programs_fail, settled_units}
-use Rattle.dw_dwarf.specs.Written.{AddsPrograms, AddsLines, KeepsAllButRest, KeepsOthers}
+use Rattle.dw_dwarf.specs.Written.{AddsPrograms, AddsLines}
 use Rattle.dw_dwarf.proofs.Held.{WritesWhole}
 
 -- a unit that was added alone is a whole Dwarf
@@ -36,8 +36,14 @@ alone_whole meaning old new line_strings strings u offsets p =
     record {
       kept = ks;
       adds = p.appends info;
-      lead = λ err. subst (λ hs. IsFalse (holes_fail info (meaning old.debug_info.0).is_plain hs err)) (sym p.closed) refl;
+      lead = λ err. none_fail info (meaning old.debug_info.0).is_plain (meaning old.debug_loc.0).is_plain (meaning old.debug_loclists.0).is_plain (units_draft us ks).holes (locations_draft us false).holes (locations_draft us true).holes p.closed (p.lists_closed false) (p.lists_closed true) err;
     }
+  where
+    none_fail : (info : Info) (a b c : Bool) (hs is js : List DebugInfoFixup) → hs ≡ [] → is ≡ [] → js ≡ [] → (err : Error) → IsFalse (holes_fail info a hs err || (holes_fail info b is err || holes_fail info c js err))
+    none_fail info a b c hs is js h i j err =
+        ap (λ xs. holes_fail info a xs err || (holes_fail info b is err || holes_fail info c js err)) h
+        ∙ ap (λ xs. holes_fail info b xs err || holes_fail info c js err) i
+        ∙ ap (λ xs. holes_fail info c xs err) j
 
 module _ {W : Type 0} (meaning : W → Meaning) (old mid new : Sections W) (line_strings strings : List (List ℕ)) (u : UnitValue) where
   -- its line program, with no other behind it
@@ -55,25 +61,6 @@ ranges_alone meaning old new u unwritten p = ranges_new meaning old old new [] u
 -- no line program has a fault
 pub no_program : (line_strings strings : List (List ℕ)) (plain : Bool) (e : Error) → IsTrue (programs_fail line_strings strings plain [] e) → ⊥
 no_program line_strings strings plain e h = absurd (let x : false ≡ true = h in cc)
-
--- the lists of fixups of .debug_loc and .debug_loclists stay, too
-pub others_kept : {W : Type 0} (old mid new : Sections W) → KeepsOtherSections old mid → KeepsAllButRest mid new → KeepsOthers old new
-others_kept {W} old mid new h k =
-    let both : new ≡ record old { debug_abbrev = new.debug_abbrev; debug_str = new.debug_str; debug_line_str = new.debug_line_str; debug_line = new.debug_line; debug_ranges = new.debug_ranges; debug_rnglists = new.debug_rnglists; debug_info = new.debug_info; debug_info_fixups = new.debug_info_fixups } =
-    k
-    ∙ ap (λ (s : Sections W). let t : Sections W = record s { debug_str = new.debug_str; debug_line_str = new.debug_line_str; debug_line = new.debug_line } in t) h
-    ∙ ap (λ (s : Sections W). let t : Sections W = record old { debug_abbrev = s.debug_abbrev; debug_str = new.debug_str; debug_line_str = new.debug_line_str; debug_line = new.debug_line; debug_ranges = s.debug_ranges; debug_rnglists = s.debug_rnglists; debug_info = s.debug_info; debug_info_fixups = s.debug_info_fixups } in t) (sym k)
-    in
-    both
-    ∙ ap (λ xs. let s : Sections W = record old { debug_abbrev = new.debug_abbrev; debug_str = new.debug_str; debug_line_str = new.debug_line_str; debug_line = new.debug_line; debug_ranges = new.debug_ranges; debug_rnglists = new.debug_rnglists; debug_info = new.debug_info; debug_info_fixups = new.debug_info_fixups; debug_loc_fixups = xs } in s) (sym (ap (λ s. s.debug_loc_fixups) both))
-    ∙ ap (λ xs. let s : Sections W = record old { debug_abbrev = new.debug_abbrev; debug_str = new.debug_str; debug_line_str = new.debug_line_str; debug_line = new.debug_line; debug_ranges = new.debug_ranges; debug_rnglists = new.debug_rnglists; debug_info = new.debug_info; debug_info_fixups = new.debug_info_fixups; debug_loc_fixups = new.debug_loc_fixups; debug_loclists_fixups = xs } in s) (sym (ap (λ s. s.debug_loclists_fixups) both))
-
-pub no_fixups : {W : Type 0} (old new : Sections W) → KeepsOtherSections old new → NoFixups old → new.debug_info_fixups ≡ [] → NoFixups new
-no_fixups old new others none closed = record {
-  info = closed;
-  loc = ap (λ s. s.debug_loc_fixups) others ∙ none.loc;
-  loclists = ap (λ s. s.debug_loclists_fixups) others ∙ none.loclists;
-}
 
 not_both : (b : Bool) → IsTrue b → IsFalse b → ⊥
 not_both true t f = absurd (let x : true ≡ false = f in cc)

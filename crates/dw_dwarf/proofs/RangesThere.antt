@@ -1,5 +1,5 @@
 -- Range lists without a fault have a text where no symbols can be written.
-use Rattle.std.specs.Prelude.{◌≡◌, ◌⊎◌, ℕ, Bool, true, false, not, ◌||◌, List, [], ◌∷◌, ◌++◌, All, Some, refl, IsFalse, if◌then◌else◌}
+use Rattle.std.specs.Prelude.{◌≡◌, ◌⊎◌, ℕ, Bool, true, false, ◌||◌, List, [], ◌∷◌, ◌++◌, All, Some, refl, IsFalse, if◌then◌else◌}
 use Rattle.std.proofs.Common.{sym, ◌∙◌, ap, subst, inl, inr}
 use Rattle.std.proofs.lemmas.List.Elements.{All-head, All-tail}
 use Rattle.dw_base.specs.declared.error.Error.{Error}
@@ -9,7 +9,8 @@ use Rattle.dw_writer.specs.Texts.{Text, followed}
 use Rattle.dw_lists.specs.Items.{is_five}
 use Rattle.dw_lists.proofs.There.{ranges_there}
 use Rattle.dw_line.specs.Parts.{texts}
-use Rattle.dw_unit.specs.Elsewhere.{Elsewhere, line_fails, ranges_fail, ranges_fail_in, ranges_plain, range_draft, stands_in, range_text, has_base_address, past_parts, past_elsewhere}
+use Rattle.dw_unit.specs.Elsewhere.{Elsewhere, line_fails, ranges_fail, ranges_fail_in, ranges_plain, range_draft, range_text, has_base_address, past_parts, past_elsewhere}
+use Rattle.dw_unit.specs.Locations.{is_own_section}
 use Rattle.dw_unit.specs.UnitValue.{UnitValue}
 use Rattle.dw_unit.specs.Valid.{IsWritableAt, AreWritable}
 use Rattle.dw_unit.specs.Written.{past_table}
@@ -33,12 +34,12 @@ pub ranges_sound : (t : Elsewhere) (plain : Bool) → t.ends.ranges.is_plain ≡
 ranges_sound t plain ranges range_lists at u us new (inl old) err = absurd (let x : true ≡ false = sym old ∙ new in cc)
 ranges_sound t plain ranges range_lists at u us new (inr can) err =
     let is : ranges_plain t u ≡ true = plain_by (is_five u.encoding) t.ends.range_lists.is_plain t.ends.ranges.is_plain range_lists ranges in
-    subst (λ b. IsFalse (ranges_fail_in b u err)) is (second (line_fails t u err) (ranges_fail t u err) (can.0.0 err))
+    subst (λ b. IsFalse (ranges_fail_in b u err)) is (second (line_fails t u err) (ranges_fail t u err) (can.0.0.0 err))
 
 -- those of one unit
 module _ (u : UnitValue) (sound : (err : Error) → IsFalse (ranges_fail_in true u err)) (big : Bool) (l : Layout) where
   unit_there : (five : Bool) → (xs : List ℕ) × (range_text five u big l ≡ Some xs)
-  unit_there five = by_version (stands_in five u)
+  unit_there five = by_version (is_own_section five u.encoding)
     where
       by_version : (b : Bool) → (xs : List ℕ) × ((if b then open_text (range_draft u) big l else Some []) ≡ Some xs)
       by_version true = ranges_there u.encoding (has_base_address u.entries) u.ranges sound left_open big l

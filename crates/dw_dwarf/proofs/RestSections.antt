@@ -19,11 +19,10 @@ use Rattle.dw_unit.specs.Elsewhere.{Elsewhere, AppendsLines, AppendsRanges, Appe
 use Rattle.dw_unit.specs.Pending.{starts_of}
 use Rattle.dw_unit.specs.Places.{OffsetsValue}
 use Rattle.dw_unit.specs.UnitValue.{UnitValue}
-use Rattle.dw_unit.specs.Written.{CompletesAny}
+use Rattle.dw_unit.specs.Written.{CompletesAny, KeepsOtherSections}
 use Rattle.dw_unit.proofs.Faults.{because-map}
 use Rattle.dw_unit.proofs.UnitTexts.{behind-then}
 use Rattle.dw_dwarf.specs.DwarfValue.{DwarfValue}
-use Rattle.dw_dwarf.specs.Valid.{extra_fails}
 use Rattle.dw_dwarf.specs.Written.{AddsPrograms, AddsLines, AddsStrings, RestHasRisen, KeepsAllButRest, KeepsOthers}
 
 not_both : (b : Bool) → IsTrue b → IsFalse b → ⊥
@@ -45,7 +44,7 @@ module _ {W : Type 0} (meaning : W → Meaning) where
       let p = any before ws ks none pending in
       record {
         kept = p.kept;
-        appends = record { units = p.appends.units; tables = p.appends.tables };
+        appends = record { units = p.appends.units; tables = p.appends.tables; lists = record { located = p.appends.lists.located; locations = p.appends.lists.locations; location_lists = p.appends.lists.location_lists } };
         keeps = p.keeps;
         lead = p.lead;
       })
@@ -55,8 +54,9 @@ module _ {W : Type 0} (meaning : W → Meaning) where
       subst (λ s. AppendsAlone meaning old s u t offsets) (sym same)
       (record {
         kept = p.kept;
-        appends = λ info. record { units = (p.appends info).units; tables = (p.appends info).tables };
+        appends = λ info. record { units = (p.appends info).units; tables = (p.appends info).tables; lists = record { located = (p.appends info).lists.located; locations = (p.appends info).lists.locations; location_lists = (p.appends info).lists.location_lists } };
         closed = p.closed;
+        lists_closed = p.lists_closed;
         offsets_are = p.offsets_are;
       })
 
@@ -106,17 +106,7 @@ module _ {W : Type 0} (meaning : W → Meaning) where
     refuses_any us vs t fails err h = inr h
 
   -- the sections that stay
-  pub others_after : (old mid new : Sections W) →
-      mid ≡ record old {
-        debug_abbrev = mid.debug_abbrev;
-        debug_line = mid.debug_line;
-        debug_ranges = mid.debug_ranges;
-        debug_rnglists = mid.debug_rnglists;
-        debug_info = mid.debug_info;
-        debug_info_fixups = mid.debug_info_fixups;
-        debug_loc_fixups = mid.debug_loc_fixups;
-        debug_loclists_fixups = mid.debug_loclists_fixups;
-      } → KeepsAllButRest mid new → KeepsOthers old new
+  pub others_after : (old mid new : Sections W) → KeepsOtherSections old mid → KeepsAllButRest mid new → KeepsOthers old new
   others_after old mid new h k =
       k
       ∙ ap (λ (s : Sections W). let t : Sections W = record s { debug_str = new.debug_str; debug_line_str = new.debug_line_str; debug_line = new.debug_line } in t) h
@@ -128,6 +118,8 @@ module _ {W : Type 0} (meaning : W → Meaning) where
         debug_line = new.debug_line;
         debug_ranges = s.debug_ranges;
         debug_rnglists = s.debug_rnglists;
+        debug_loc = s.debug_loc;
+        debug_loclists = s.debug_loclists;
         debug_info = s.debug_info;
         debug_info_fixups = s.debug_info_fixups;
         debug_loc_fixups = s.debug_loc_fixups;

@@ -7,7 +7,7 @@ use Rattle.dw_writer.specs.Resolved.{resolved}
 use Rattle.dw_writer.specs.declared.sections.Sections.{Sections}
 use Rattle.dw_strings.specs.Strings.{string_bytes}
 use Rattle.dw_unit.specs.Built.{Numbered, at_begin}
-use Rattle.dw_unit.specs.Pending.{Kept, AreInRow, info_of, units_draft, tables_of}
+use Rattle.dw_unit.specs.Pending.{Kept, AreInRow, info_of, units_draft, tables_of, locations_draft}
 use Rattle.dw_dwarf.specs.DwarfValue.{DwarfValue}
 use Rattle.dw_dwarf.specs.Valid.{empty_ends, settled_units}
 use Rattle.dw_dwarf.specs.Written.{dwarf_lines, dwarf_ranges}
@@ -17,7 +17,7 @@ abbrev pub units_of : DwarfValue → List Numbered
 units_of d = settled_units (empty_ends true) d
 
 -- Wherever the sections come to stand and whatever symbols are, what resolves in them is the units with the places that they
--- keep, their tables, the line programs, the range lists and the strings.
+-- keep, their tables, the line programs, the range lists, the location lists and the strings.
 pub record IsLeft {W : Type 0} (meaning : W → Meaning) (big : Bool) (s : Sections W) (d : DwarfValue) : Type 0 where
   pub kept : List Kept
   pub in_row : AreInRow at_begin (units_of d) kept
@@ -26,6 +26,8 @@ pub record IsLeft {W : Type 0} (meaning : W → Meaning) (big : Bool) (s : Secti
   pub lines : (l : Layout) (xs : List ℕ) → resolved l (meaning s.debug_line.0) ≡ Some xs → dwarf_lines d big l ≡ Some xs
   pub ranges : (l : Layout) (xs : List ℕ) → resolved l (meaning s.debug_ranges.0) ≡ Some xs → dwarf_ranges false d big l ≡ Some xs
   pub range_lists : (l : Layout) (xs : List ℕ) → resolved l (meaning s.debug_rnglists.0) ≡ Some xs → dwarf_ranges true d big l ≡ Some xs
+  pub locations : (l : Layout) (xs : List ℕ) → resolved l (meaning s.debug_loc.0) ≡ Some xs → filled_text (info_of (units_of d) kept) (locations_draft (units_of d) false) big l ≡ Some xs
+  pub location_lists : (l : Layout) (xs : List ℕ) → resolved l (meaning s.debug_loclists.0) ≡ Some xs → filled_text (info_of (units_of d) kept) (locations_draft (units_of d) true) big l ≡ Some xs
   pub strings : (l : Layout) (xs : List ℕ) → resolved l (meaning s.debug_str.0) ≡ Some xs → string_bytes d.strings ≡ xs
   pub line_strings : (l : Layout) (xs : List ℕ) → resolved l (meaning s.debug_line_str.0) ≡ Some xs → string_bytes d.line_strings ≡ xs
   pub info_tidy : IsTidy (meaning s.debug_info.0)

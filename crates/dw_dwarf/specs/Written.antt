@@ -4,6 +4,7 @@ use Rattle.dw_base.specs.declared.section_id.SectionId.TheVariants.{DebugAbbrev,
 use Rattle.dw_writer.specs.Causes.{HasRisen}
 use Rattle.dw_writer.specs.Contents.{Meaning}
 use Rattle.dw_writer.specs.Texts.{followed}
+use Rattle.dw_writer.specs.Drafts.{started, filled_text}
 use Rattle.dw_writer.specs.Meaning.{Model, Adds}
 use Rattle.dw_writer.specs.Layout.{Layout, start_of}
 use Rattle.dw_writer.specs.Resolved.{resolved}
@@ -12,12 +13,13 @@ use Rattle.dw_writer.specs.Sections.{EachWriter, NoFixups}
 use Rattle.dw_writer.specs.declared.sections.Sections.{Sections}
 use Rattle.dw_line.specs.LinePrograms.{LineProgramValue, line_program_size, line_program_text}
 use Rattle.dw_line.specs.Parts.{sizes, texts}
-use Rattle.dw_unit.specs.Built.{Built, at_zero, whole_file}
+use Rattle.dw_unit.specs.Built.{Built, at_begin, at_zero, whole_file}
+use Rattle.dw_unit.specs.Pending.{Kept, AreInRow, info_of, locations_draft}
 use Rattle.dw_unit.specs.Elsewhere.{line_size, line_text, range_text, new_size, new_text, AppendsBehind}
 use Rattle.dw_strings.specs.Strings.{string_bytes}
 use Rattle.dw_dwarf.specs.Valid.{found_from, empty_ends, settled_units}
 use Rattle.dw_dwarf.specs.DwarfValue.{DwarfValue}
-use Rattle.dw_dwarf.specs.Lists.{FindAllLists}
+use Rattle.dw_dwarf.specs.Lists.{FindAllLists, FindAllLocations}
 
 -- nothing was written yet: every writer is empty, and plain, in an order of its own
 pub record AreNewPlain {W : Type 0} (meaning : W → Meaning) (s : Sections W) : Type 0 where
@@ -31,9 +33,13 @@ pub record AreNew {W : Type 0} (meaning : W → Meaning) (s : Sections W) : Type
   pub lines : IsEmptyWriter (meaning s.debug_line.0) (meaning s.debug_line.0).is_big
   pub ranges : IsEmptyWriter (meaning s.debug_ranges.0) (meaning s.debug_ranges.0).is_big
   pub range_lists : IsEmptyWriter (meaning s.debug_rnglists.0) (meaning s.debug_rnglists.0).is_big
+  pub locations : IsEmptyWriter (meaning s.debug_loc.0) (meaning s.debug_loc.0).is_big
+  pub location_lists : IsEmptyWriter (meaning s.debug_loclists.0) (meaning s.debug_loclists.0).is_big
   pub kind : (meaning s.debug_line.0).is_plain ≡ (meaning s.debug_info.0).is_plain
   pub ranges_kind : (meaning s.debug_ranges.0).is_plain ≡ (meaning s.debug_info.0).is_plain
   pub range_lists_kind : (meaning s.debug_rnglists.0).is_plain ≡ (meaning s.debug_info.0).is_plain
+  pub locations_kind : (meaning s.debug_loc.0).is_plain ≡ (meaning s.debug_info.0).is_plain
+  pub location_lists_kind : (meaning s.debug_loclists.0).is_plain ≡ (meaning s.debug_info.0).is_plain
   pub fixups : NoFixups s
 
 -- the bytes of the eleven sections
@@ -65,6 +71,8 @@ pub record Orders : Type 0 where
   pub lines : Bool
   pub ranges : Bool
   pub range_lists : Bool
+  pub locations : Bool
+  pub location_lists : Bool
 
 abbrev pub orders_of : {W : Type 0} → (W → Meaning) → Sections W → Orders
 orders_of meaning s = record {
@@ -72,15 +80,28 @@ orders_of meaning s = record {
   lines = (meaning s.debug_line.0).is_big;
   ranges = (meaning s.debug_ranges.0).is_big;
   range_lists = (meaning s.debug_rnglists.0).is_big;
+  locations = (meaning s.debug_loc.0).is_big;
+  location_lists = (meaning s.debug_loclists.0).is_big;
 }
 
 -- one order for all
 abbrev pub one_order : Bool → Orders
-one_order big = record { info = big; lines = big; ranges = big; range_lists = big }
+one_order big = record { info = big; lines = big; ranges = big; range_lists = big; locations = big; location_lists = big }
+
+-- The location lists of a Dwarf in both sections, to their last byte. Each reference from them to an entry by its place in
+-- .debug_info has the place where the entry stands there, and each list is found where attributes of its unit lead to, and read
+-- there as it was built.
+pub record HoldLocations (o : Orders) (d : DwarfValue) (t : SectionTexts) : Type 0 where
+  pub kept : List Kept
+  pub in_row : AreInRow at_begin (settled_units (empty_ends true) d) kept
+  pub locations : filled_text (info_of (settled_units (empty_ends true) d) kept) (locations_draft (settled_units (empty_ends true) d) false) o.locations at_zero ≡ Some t.debug_loc
+  pub location_lists : filled_text (info_of (settled_units (empty_ends true) d) kept) (locations_draft (settled_units (empty_ends true) d) true) o.location_lists at_zero ≡ Some t.debug_loclists
+  pub found : FindAllLocations (record { is_big = o.locations; bytes = t.debug_loc }) (record { is_big = o.location_lists; bytes = t.debug_loclists })
+      (started (start_of at_zero DebugInfo) (info_of (settled_units (empty_ends true) d) kept)) (found_from (empty_ends true) d) d.units
 
 -- These are the texts of a Dwarf: .debug_info and .debug_abbrev are read, to their last byte, as exactly its units, each of which
--- names the places of its line program and of its range lists, its line programs, its range lists and its strings stand in their
--- sections, and there is nothing else. Where an attribute of a unit leads to, the range list is found that was built.
+-- names the places of its line program and of its lists, its line programs, its range lists, its location lists and its strings
+-- stand in their sections, and there is nothing else. Where an attribute of a unit leads to, the list is found that was built.
 pub record AreTextsOf (o : Orders) (d : DwarfValue) (t : SectionTexts) : Type 0 where
   pub units : Built (whole_file (found_from (empty_ends true) d) d.units ∷ []) o.info t.debug_info t.debug_abbrev
   pub strings : t.debug_str ≡ string_bytes d.strings
@@ -89,8 +110,7 @@ pub record AreTextsOf (o : Orders) (d : DwarfValue) (t : SectionTexts) : Type 0 
   pub ranges : dwarf_ranges false d o.ranges at_zero ≡ Some t.debug_ranges
   pub range_lists : dwarf_ranges true d o.range_lists at_zero ≡ Some t.debug_rnglists
   pub lists : FindAllLists (record { is_big = o.ranges; bytes = t.debug_ranges }) (record { is_big = o.range_lists; bytes = t.debug_rnglists }) (found_from (empty_ends true) d) d.units
-  pub locations : t.debug_loc ≡ []
-  pub location_lists : t.debug_loclists ≡ []
+  pub locations : HoldLocations o d t
   pub frames : t.debug_frame ≡ []
   pub eh_frames : t.eh_frame ≡ []
 
@@ -114,8 +134,18 @@ pub record HoldsDwarf {W : Type 0} (meaning : W → Meaning) (s : Sections W) (d
   pub are : AreTextsOf (orders_of meaning s) d texts
   pub told : TellTexts meaning s texts
 
+-- The location lists of a Dwarf, in whatever layout its sections resolve: each reference from them to an entry by its place in
+-- .debug_info has that of the entry in its unit, which stands in a row with the others.
+pub record ResolveLocations {W : Type 0} (meaning : W → Meaning) (s : Sections W) (d : DwarfValue) : Type 0 where
+  pub kept : List Kept
+  pub in_row : AreInRow at_begin (settled_units (empty_ends true) d) kept
+  pub locations : (l : Layout) (bytes : List ℕ) → resolved l (meaning s.debug_loc.0) ≡ Some bytes →
+      filled_text (info_of (settled_units (empty_ends true) d) kept) (locations_draft (settled_units (empty_ends true) d) false) (meaning s.debug_loc.0).is_big l ≡ Some bytes
+  pub location_lists : (l : Layout) (bytes : List ℕ) → resolved l (meaning s.debug_loclists.0) ≡ Some bytes →
+      filled_text (info_of (settled_units (empty_ends true) d) kept) (locations_draft (settled_units (empty_ends true) d) true) (meaning s.debug_loclists.0).is_big l ≡ Some bytes
+
 -- Once a linker has put every record's number in, where the two sections start at 0, they are read as exactly the units, with
--- the layout's values in the place of symbols, .debug_line is the line programs, and the sections of range lists are these.
+-- the layout's values in the place of symbols, .debug_line is the line programs, and the sections of lists are these.
 pub record ResolvesTo {W : Type 0} (meaning : W → Meaning) (s : Sections W) (d : DwarfValue) : Type 0 where
   pub built : (l : Layout) (info abbrevs : List ℕ) → start_of l DebugInfo ≡ 0 → start_of l DebugAbbrev ≡ 0 →
       resolved l (meaning s.debug_info.0) ≡ Some info → resolved l (meaning s.debug_abbrev.0) ≡ Some abbrevs →
@@ -123,6 +153,7 @@ pub record ResolvesTo {W : Type 0} (meaning : W → Meaning) (s : Sections W) (d
   pub lines : (l : Layout) (bytes : List ℕ) → resolved l (meaning s.debug_line.0) ≡ Some bytes → dwarf_lines d (meaning s.debug_line.0).is_big l ≡ Some bytes
   pub ranges : (l : Layout) (bytes : List ℕ) → resolved l (meaning s.debug_ranges.0) ≡ Some bytes → dwarf_ranges false d (meaning s.debug_ranges.0).is_big l ≡ Some bytes
   pub range_lists : (l : Layout) (bytes : List ℕ) → resolved l (meaning s.debug_rnglists.0) ≡ Some bytes → dwarf_ranges true d (meaning s.debug_rnglists.0).is_big l ≡ Some bytes
+  pub locations : ResolveLocations meaning s d
 
 -- all but the sections of units with their own parts and of strings and the lists of fixups is as before
 abbrev pub KeepsOthers : {W : Type 0} → Sections W → Sections W → Type 0
@@ -134,6 +165,8 @@ KeepsOthers old new =
       debug_line = new.debug_line;
       debug_ranges = new.debug_ranges;
       debug_rnglists = new.debug_rnglists;
+      debug_loc = new.debug_loc;
+      debug_loclists = new.debug_loclists;
       debug_info = new.debug_info;
       debug_info_fixups = new.debug_info_fixups;
       debug_loc_fixups = new.debug_loc_fixups;

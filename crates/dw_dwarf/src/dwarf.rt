@@ -60,6 +60,7 @@ impl Dwarf {
     /// none of the units was written before, `.debug_info` and `.debug_abbrev` then hold exactly
     /// these units, to their last byte (DWARF 5, 7.5), `.debug_line` the line programs in use and
     /// behind them those of no unit (6.2), `.debug_str` and `.debug_line_str` the strings (7.26),
+    /// the four sections of lists those of the units (7.28 and 7.29; DWARF 4, 2.6.2 and 2.17.3),
     /// and the other sections are empty. In each unit the root names its line program in
     /// `DW_AT_stmt_list`, where that is in use, and its base types stand before its other children.
     ///
@@ -67,18 +68,20 @@ impl Dwarf {
     /// or its address size isn't 1, 2, 4 or 8, as `InvalidAttributeValue` where a string value has
     /// a zero byte or a value names a line program that isn't in use, as `InvalidReference` where a
     /// reference names an entry outside its unit's tree, a unit that is absent or was skipped, a
-    /// symbol, or a string that isn't in its table, as `UnsetBranchTarget` where a branch of an
-    /// expression has no target, as `UnsupportedExpressionForwardReference` where an expression
-    /// spells in LEB128 the place of an entry that comes later in the tree, or any place in the
-    /// unit of one outside it, as `InvalidAddress` where an address is a symbol's and the sections
-    /// record no relocations, as `InitialLengthOverflow` where a 32-bit unit or line program has
-    /// 0xffff_fff0 bytes or more after its length (DWARF 5, 7.4), as `NeedVersion`,
-    /// `LineStringFormMismatch` or `IncompatibleLineProgramEncoding` where `LineProgram::write`
-    /// refuses a line program, as `ValueTooLarge` where an address, an offset, the place of a
-    /// table, of a string, of a line program or of an entry, the number of a file, a change of
-    /// line, or the size of a unit has no room, and as `WriteFault` or `NoMemory`. The units before
-    /// the one that was refused are written, it stays as it was or is settled, and those behind it
-    /// stay as they were; the sections may have got some bytes.
+    /// symbol, or a string or a list that isn't in its table, as `InvalidRange`,
+    /// `MissingBaseAddress` or `UnexpectedBaseAddress` where the write of its table refuses a list,
+    /// named or not, as `UnsetBranchTarget` where a branch of an expression has no target, as
+    /// `UnsupportedExpressionForwardReference` where an expression spells in LEB128 the place of an
+    /// entry that comes later in the tree, or any place in the unit of one outside it, as
+    /// `InvalidAddress` where an address is a symbol's and the sections record no relocations, as
+    /// `InitialLengthOverflow` where a 32-bit unit or line program has 0xffff_fff0 bytes or more
+    /// after its length (DWARF 5, 7.4), as `NeedVersion`, `LineStringFormMismatch` or
+    /// `IncompatibleLineProgramEncoding` where `LineProgram::write` refuses a line program, as
+    /// `ValueTooLarge` where an address, an offset, the place of a table, of a string, of a line
+    /// program or of an entry, the number of a file, a change of line, or the size of a unit has no
+    /// room, and as `WriteFault` or `NoMemory`. The units before the one that was refused are
+    /// written, it stays as it was or is settled, and those behind it stay as they were; the
+    /// sections may have got some bytes.
     ///
     /// ```
     /// let mut dwarf = Dwarf::new(alloc);
@@ -124,13 +127,13 @@ impl Dwarf {
             (found_in W.meaning sections.old (dwarf_in self.old)) self.old.units
             self.new.units) }
         ensures valid { OnOk result
-            (sections.old.debug_info_fixups ≡ [] → AreUnwritten (dwarf_in self.old) →
+            (NoFixups sections.old → AreUnwritten (dwarf_in self.old) →
             IsValidAt (W.meaning sections.old.debug_info.0).is_plain
             (starts_of W.meaning sections.old) (ends_of W.meaning sections.old)
             (dwarf_in self.old)) }
 
         ensures err { IfErr result
-            (λ e. sections.old.debug_info_fixups ≡ [] → AreUnwritten (dwarf_in self.old) →
+            (λ e. NoFixups sections.old → AreUnwritten (dwarf_in self.old) →
             DwarfRefused W.meaning sections.old sections.new (dwarf_in self.old) e) }
         ensures refused { IfErr result
             (λ e. RefusesAny W.meaning sections.old sections.new self.old.units self.new.units

@@ -9,10 +9,10 @@ mod rest;
 
 pub use dw_base::{
     Address, BigEndian, DebugInfoRef, DirectoryId, DwAt, DwAte, DwForm, DwLang, DwTag, Encoding,
-    Endianity, Error, FileId, Format, LineEncoding, LineStringId, LittleEndian, RangeListId,
-    Result, RunTimeEndian, SectionId, StringId, UnitEntryId, UnitId, constants,
+    Endianity, Error, FileId, Format, LineEncoding, LineStringId, LittleEndian, LocationListId,
+    RangeListId, Result, RunTimeEndian, SectionId, StringId, UnitEntryId, UnitId, constants,
 };
-pub use dw_lists::{Range, RangeList, RangeListTable};
+pub use dw_lists::{Location, LocationList, LocationListTable, Range, RangeList, RangeListTable};
 pub use dw_strings::{LineStringTable, StringTable};
 pub use dw_unit::{
     AttrMut, Attribute, AttributeValue, AttributeWalk, AttrsMut, DebuggingInformationEntry,

@@ -5,7 +5,7 @@ use Rattle.std.proofs.Common.{sym, ◌∙◌, ap, subst, arith, length-append, a
 use Rattle.std.proofs.Math.Seq.{take-append_seam}
 use Rattle.std.proofs.lemmas.Option.{none-some, same_Some}
 use Rattle.dw_base.specs.declared.section_id.SectionId.{SectionId}
-use Rattle.dw_base.specs.declared.section_id.SectionId.TheVariants.{DebugAbbrev, DebugStr, DebugLineStr, DebugLine, DebugRanges, DebugRngLists, DebugInfo}
+use Rattle.dw_base.specs.declared.section_id.SectionId.TheVariants.{DebugAbbrev, DebugStr, DebugLineStr, DebugLine, DebugRanges, DebugRngLists, DebugLoc, DebugLocLists, DebugInfo}
 use Rattle.dw_writer.specs.Texts.{Text, followed}
 use Rattle.dw_writer.specs.Layout.{Layout, is_at_zero}
 use Rattle.dw_writer.specs.Meaning.{Meaning, Model, IsTidy, spelled_text}
@@ -15,13 +15,14 @@ use Rattle.dw_writer.specs.declared.sections.Sections.{Sections}
 use Rattle.dw_writer.proofs.Laws.{resolved-wide}
 use Rattle.dw_strings.specs.Strings.{string_bytes}
 use Rattle.dw_unit.specs.Built.{Starts, Built}
-use Rattle.dw_unit.specs.Pending.{tables_of}
+use Rattle.dw_writer.specs.Drafts.{filled_text}
+use Rattle.dw_unit.specs.Pending.{Kept, info_of, tables_of, locations_draft}
 use Rattle.dw_unit.proofs.Files.{WrittenFile, AreWritten, joined, joined_tables, file_of, past_file, files_built}
 use Rattle.dw_unit.proofs.ReadUnits.{parted}
 use Rattle.dw_dwarf.specs.DwarfValue.{DwarfValue}
 use Rattle.dw_dwarf.specs.Left.{units_of, IsLeft}
 use Rattle.dw_dwarf.specs.Written.{dwarf_lines, dwarf_ranges}
-use Rattle.dw_link.specs.Linked.{AreLeft, files_from, texts_from, lines_from, ranges_from, range_lists_from, LinksDwarfs}
+use Rattle.dw_link.specs.Linked.{AreLeft, files_from, texts_from, lines_from, ranges_from, range_lists_from, locations_from, AreRows, LinksDwarfs}
 use Rattle.dw_link.specs.Outcome.{JoinsParts}
 use Rattle.dw_link.specs.Sets.{Parts, parts_of, sets_of, bytes_of, concatenated, start_in, layout_in, linked_from, linked_parts}
 
@@ -141,6 +142,37 @@ module _ {W : Type 0} (from : W → Meaning) (big : Bool) (all : List Parts) (sy
   range_lists_left : (n : ℕ) (sets : List (Sections W)) (ds : List DwarfValue) (bytes : List ℕ) → AreLeft from big sets ds → linked_from all symbols DebugRngLists n (sets_of from sets) ≡ Some bytes → range_lists_from all symbols big n ds ≡ Some bytes
   range_lists_left = text_left DebugRngLists (λ s. s.debug_rnglists.0) (dwarf_ranges true) (λ n. refl) (λ n s ss. refl) (λ s d left. left.range_lists)
 
+  -- the places that units keep, set by set
+  kept_left : (sets : List (Sections W)) (ds : List DwarfValue) → AreLeft from big sets ds → List (List Kept)
+  kept_left [] [] left = []
+  kept_left [] (d ∷ ds) left = []
+  kept_left (s ∷ sets) [] left = []
+  kept_left (s ∷ sets) (d ∷ ds) left = left.0.kept ∷ kept_left sets ds left.1
+
+  rows_left : (sets : List (Sections W)) (ds : List DwarfValue) → (left : AreLeft from big sets ds) → AreRows ds (kept_left sets ds left)
+  unfolding kept_left
+  rows_left [] [] left = tt
+  rows_left [] (d ∷ ds) left = absurd left
+  rows_left (s ∷ sets) [] left = absurd left
+  rows_left (s ∷ sets) (d ∷ ds) left = (left.0.in_row, rows_left sets ds left.1)
+
+  -- what each set has in a section of location lists
+  module _ (id : SectionId) (five : Bool) (w : Sections W → W)
+      (begins : (n : ℕ) → linked_from all symbols id n (sets_of from []) ≡ Some [])
+      (goes_on : (n : ℕ) (s : Sections W) (ss : List (Sections W)) → linked_from all symbols id n (sets_of from (s ∷ ss)) ≡ followed (resolved (layout_in all symbols n id) (from (w s))) (linked_from all symbols id (n + 1) (sets_of from ss)))
+      (leaves : (s : Sections W) (d : DwarfValue) → (h : IsLeft from big s d) → (l : Layout) (xs : List ℕ) → resolved l (from (w s)) ≡ Some xs → filled_text (info_of (units_of d) h.kept) (locations_draft (units_of d) five) big l ≡ Some xs) where
+    lists_left : (n : ℕ) (sets : List (Sections W)) (ds : List DwarfValue) (bytes : List ℕ) → (left : AreLeft from big sets ds) → linked_from all symbols id n (sets_of from sets) ≡ Some bytes → locations_from all symbols id five big n ds (kept_left sets ds left) ≡ Some bytes
+    unfolding followed kept_left
+    lists_left n [] [] bytes left told = sym (begins n) ∙ told
+    lists_left n [] (d ∷ ds) bytes left told = absurd left
+    lists_left n (s ∷ sets) [] bytes left told = absurd left
+    lists_left n (s ∷ sets) (d ∷ ds) bytes left told =
+        let l = layout_in all symbols n id in
+        let here = sym (goes_on n s sets) ∙ told in
+        let p = parted (resolved l (from (w s))) (linked_from all symbols id (n + 1) (sets_of from sets)) bytes here in
+        let more = lists_left (n + 1) sets ds p.rest left.1 p.rest_is in
+        ap (λ t. followed t (locations_from all symbols id five big (n + 1) ds (kept_left sets ds left.1))) (leaves s d left.0 l p.first p.first_is ∙ sym p.first_is) ∙ ap (followed (resolved l (from (w s)))) (more ∙ sym p.rest_is) ∙ here
+
   strings_left : (n : ℕ) (sets : List (Sections W)) (ds : List DwarfValue) (bytes : List ℕ) → AreLeft from big sets ds → linked_from all symbols DebugStr n (sets_of from sets) ≡ Some bytes → flat_map (λ d. string_bytes d.strings) ds ≡ bytes
   strings_left n [] [] bytes left told = same_Some [] bytes told
   strings_left n [] (d ∷ ds) bytes left told = absurd left
@@ -173,6 +205,12 @@ dwarfs_linked from to big sets symbols ds out parts left =
       lines = λ bytes told. lines_left from big all symbols 0 sets ds bytes left (sym (parts DebugLine out.debug_line.0 refl) ∙ told);
       ranges = λ bytes told. ranges_left from big all symbols 0 sets ds bytes left (sym (parts DebugRanges out.debug_ranges.0 refl) ∙ told);
       range_lists = λ bytes told. range_lists_left from big all symbols 0 sets ds bytes left (sym (parts DebugRngLists out.debug_rnglists.0 refl) ∙ told);
+      locations = record {
+        kept = kept_left from big all symbols sets ds left;
+        rows = rows_left from big all symbols sets ds left;
+        locations = λ bytes told. lists_left from big all symbols DebugLoc false (λ s. s.debug_loc.0) (λ n. refl) (λ n s ss. refl) (λ s d h. h.locations) 0 sets ds bytes left (sym (parts DebugLoc out.debug_loc.0 refl) ∙ told);
+        location_lists = λ bytes told. lists_left from big all symbols DebugLocLists true (λ s. s.debug_loclists.0) (λ n. refl) (λ n s ss. refl) (λ s d h. h.location_lists) 0 sets ds bytes left (sym (parts DebugLocLists out.debug_loclists.0 refl) ∙ told);
+      };
       strings = λ bytes told. strings_left from big all symbols 0 sets ds bytes left (sym (parts DebugStr out.debug_str.0 refl) ∙ told);
       line_strings = λ bytes told. line_strings_left from big all symbols 0 sets ds bytes left (sym (parts DebugLineStr out.debug_line_str.0 refl) ∙ told);
     }

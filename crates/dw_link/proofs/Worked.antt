@@ -1,8 +1,7 @@
 -- Worked rows: sets with literal bytes, and what becomes of them.
-use Rattle.std.specs.Prelude.{◌≡◌, ℕ, Bool, true, false, List, [], ◌∷◌, Option, Some, None, ℤ, pos, negsuc, refl}
+use Rattle.std.specs.Prelude.{◌≡◌, ℕ, false, List, [], ◌∷◌, Option, Some, None, ℤ, pos, negsuc, refl}
 use Rattle.dw_base.specs.Numbers.{num}
 use Rattle.dw_base.specs.declared.constants.DwEhPe.{DwEhPe}
-use Rattle.dw_base.specs.declared.section_id.SectionId.{SectionId}
 use Rattle.dw_base.specs.declared.section_id.SectionId.TheVariants.{DebugStr, DebugInfo, DebugMacinfo, EhFrame}
 use Rattle.dw_writer.specs.Texts.{int_text, num_text, patched}
 use Rattle.dw_writer.specs.SignedNumbers.{signed_num}

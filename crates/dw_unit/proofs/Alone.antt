@@ -1,8 +1,7 @@
 -- Units that name no entry by its place in .debug_info have no open place.
-use Rattle.std.specs.Prelude.{◌≡◌, ℕ, Bool, true, false, not, ◌&&◌, ◌||◌, ◌==◌, nat_le, List, [], ◌∷◌, ◌++◌, length, Option, refl, IsTrue, IsFalse, if◌then◌else◌}
+use Rattle.std.specs.Prelude.{◌≡◌, ℕ, Bool, true, false, not, ◌&&◌, ◌||◌, ◌==◌, nat_le, List, [], ◌∷◌, ◌++◌, Option, refl, IsTrue, IsFalse, if◌then◌else◌}
 use Rattle.std.specs.List.{list_any}
 use Rattle.std.proofs.Common.{sym, ◌∙◌, ap, subst, arith, inl}
-use Rattle.std.proofs.lemmas.Bool.{ne_eqb}
 use Rattle.dw_base.specs.Numbers.{word_of}
 use Rattle.dw_base.specs.Spelling.{header_size}
 use Rattle.dw_base.specs.Entries.{Mark, Open, Null}
@@ -11,7 +10,8 @@ use Rattle.dw_base.specs.declared.address.DebugInfoRef.TheVariants as refs
 use Rattle.dw_base.specs.declared.common.Encoding.{Encoding}
 use Rattle.dw_base.specs.declared.error.Error.{Error}
 use Rattle.dw_base.specs.declared.section_id.SectionId.TheVariants.{DebugRanges, DebugRngLists, DebugLoc, DebugLocLists}
-use Rattle.dw_writer.specs.Drafts.{Draft, no_draft, whole, then_draft, shifted}
+use Rattle.dw_writer.specs.Drafts.{Info, Draft, no_draft, whole, then_draft, shifted}
+use Rattle.dw_writer.specs.Sections.{NoFixups}
 use Rattle.dw_writer.specs.Meaning.{Meaning}
 use Rattle.dw_writer.specs.declared.fixup.DebugInfoFixup.{DebugInfoFixup}
 use Rattle.dw_writer.specs.declared.sections.Sections.{Sections}
@@ -28,10 +28,13 @@ use Rattle.dw_entries.specs.Targets.{Tables, UnitTargets}
 use Rattle.dw_unit.specs.Elsewhere.{Elsewhere}
 use Rattle.dw_entries.specs.Tree.{preorder}
 use Rattle.dw_entries.specs.Values.{content_of}
-use Rattle.dw_unit.specs.Alone.{is_info_reference, some_info_reference, mark_refers, tree_refers, has_info_reference, only_unit, AppendsAlone, AloneFails, AloneRefused}
+use Rattle.dw_unit.specs.Alone.{is_info_reference, some_info_reference, mark_refers, tree_refers, lists_refer, has_info_reference, only_unit, AppendsAlone, AloneFails, AloneRefused}
 use Rattle.dw_unit.specs.Causes.{UnitFails, UnitRefused}
 use Rattle.dw_unit.specs.Filled.{Fills}
-use Rattle.dw_unit.specs.Pending.{Kept, draft_of, units_draft, Pending, PendsUnit}
+use Rattle.dw_lists.specs.Items.{is_five}
+use Rattle.dw_lists.specs.Tables.{locations_in}
+use Rattle.dw_unit.specs.Locations.{is_own_section, entry_places, location_part}
+use Rattle.dw_unit.specs.Pending.{Kept, draft_of, units_draft, locations_draft, Pending, PendsUnit}
 use Rattle.dw_unit.specs.Coded.{code_at}
 use Rattle.dw_unit.specs.Places.{OffsetsValue, targets_of}
 use Rattle.dw_unit.specs.UnitText.{fitting_text, header_text, attribute_draft, attributes_draft, sibling_draft, code_draft, mark_draft, coded_draft, marks_draft, tree_draft}
@@ -40,15 +43,13 @@ use Rattle.dw_unit.specs.UnitValue.{UnitValue}
 use Rattle.dw_unit.specs.Whole.{settled, tree_shapes}
 use Rattle.dw_unit.proofs.Faults.{because-map}
 use Rattle.dw_unit.proofs.Filling.{fills_none, fills_all}
+use Rattle.dw_unit.proofs.FilledDrafts.{draft_filled}
+use Rattle.dw_unit.proofs.ListHoles.{part_holes_in}
 use Rattle.dw_unit.proofs.PendingSteps.{pending_one, units_added}
 
 no_hole-is : (hs : List DebugInfoFixup) → no_hole hs ≡ true → hs ≡ []
 no_hole-is [] h = refl
 no_hole-is (x ∷ hs) h = absurd (let k : false ≡ true = h in cc)
-
-no_hole-length : (hs : List DebugInfoFixup) → (length hs == 0) ≡ no_hole hs
-no_hole-length [] = refl
-no_hole-length (x ∷ hs) = ne_eqb (length (x ∷ hs)) 0 (λ e. absurd (omega (arith, e)))
 
 no_hole-counted : (e : Encoding) (place : ℕ → Option ℕ) (ns : List Node) → no_hole (content_holes e place (Expression ns)) ≡ not (nodes_refer ns)
 no_hole-counted e place ns = no_hole-shifted _ (expression_draft e place ns).holes ∙ expression_holes e place ns
@@ -122,18 +123,26 @@ not_false : (b : Bool) → true ≡ not b → IsFalse b
 not_false true h = absurd (let k : true ≡ false = h in cc)
 not_false false h = refl
 
-not_true : (b : Bool) → false ≡ not b → IsTrue b
-not_true true h = refl
-not_true false h = absurd (let k : false ≡ true = h in cc)
+-- the same of location lists, in the section of their version
+lists_holes : (w : UnitValue) (five : Bool) → no_hole (location_part five w).holes ≡ (if is_own_section five w.encoding then not (lists_refer (locations_in w.locations)) else true)
+lists_holes w five = part_holes_in w.encoding (entry_places w) w.locations five
 
-only_holes : (t : Tables) (u : UnitValue) (k : Kept) → no_hole (units_draft (only_unit t u) (k ∷ [])).holes ≡ no_hole (draft_of u.encoding u.entries t k).holes
-only_holes t u k = no_hole-then (draft_of u.encoding u.entries t k) no_draft ∙ by_test (no_hole (draft_of u.encoding u.entries t k).holes)
+only_holes : (d : Draft) → no_hole (then_draft d no_draft).holes ≡ no_hole d.holes
+only_holes d = no_hole-then d no_draft ∙ by_test (no_hole d.holes)
   where
     by_test : (b : Bool) → (b && true) ≡ b
     by_test true = refl
     by_test false = refl
 
-module _ {W : Type 0} (meaning : W → Meaning) (old new : Sections W) (u : UnitValue) (t : Tables) (offsets : Option OffsetsValue) (none : old.debug_info_fixups ≡ []) (p : PendsUnit meaning old new (settled u) t offsets) where
+refers_by : (a b : Bool) → IsFalse (a || b) → (IsFalse a) × (IsFalse b)
+refers_by true b h = absurd (let k : true ≡ false = h in cc)
+refers_by false b h = (refl, h)
+
+neither_refers : (a b : Bool) → IsFalse a → IsFalse b → IsFalse (a || b)
+neither_refers true b h k = absurd (let x : true ≡ false = h in cc)
+neither_refers false b h k = k
+
+module _ {W : Type 0} (meaning : W → Meaning) (old new : Sections W) (u : UnitValue) (t : Tables) (offsets : Option OffsetsValue) (none : NoFixups old) (p : PendsUnit meaning old new (settled u) t offsets) where
   abbrev es : List EntryValue
   es = (settled u).entries
 
@@ -142,40 +151,82 @@ module _ {W : Type 0} (meaning : W → Meaning) (old new : Sections W) (u : Unit
   own_fixups =
       let hs = (draft_of u.encoding es t p.kept).holes in
       let n = (meaning old.debug_info.0).size in
-      ap no_hole (p.tree.unit.fixups ∙ ap (λ xs. xs ++ shifted n hs) none) ∙ no_hole-shifted n hs
+      ap no_hole (p.tree.unit.fixups ∙ ap (λ xs. xs ++ shifted n hs) none.info) ∙ no_hole-shifted n hs
 
-  pub alone_fixups : (length new.debug_info_fixups == 0) ≡ not (has_info_reference u)
-  alone_fixups = no_hole-length new.debug_info_fixups ∙ own_fixups ∙ draft_holes u.encoding es t p.kept
+  -- and those of its location lists
+  old_fixups : no_hole new.debug_loc_fixups ≡ no_hole (location_part false (settled u)).holes
+  old_fixups =
+      let hs = (location_part false (settled u)).holes in
+      let n = (meaning old.debug_loc.0).size in
+      ap no_hole (p.lists.drafts.locations.fixups ∙ ap (λ xs. xs ++ shifted n hs) none.loc) ∙ no_hole-shifted n hs
 
-  pub alone_closed : (length new.debug_info_fixups == 0) ≡ true → new.debug_info_fixups ≡ []
-  alone_closed h = no_hole-is new.debug_info_fixups (sym (no_hole-length new.debug_info_fixups) ∙ h)
+  new_fixups : no_hole new.debug_loclists_fixups ≡ no_hole (location_part true (settled u)).holes
+  new_fixups =
+      let hs = (location_part true (settled u)).holes in
+      let n = (meaning old.debug_loclists.0).size in
+      ap no_hole (p.lists.drafts.location_lists.fixups ∙ ap (λ xs. xs ++ shifted n hs) none.loclists) ∙ no_hole-shifted n hs
 
-  pub alone_is : (length new.debug_info_fixups == 0) ≡ true → IsFalse (has_info_reference u)
-  alone_is h = not_false (has_info_reference u) (sym h ∙ alone_fixups)
+  tree_is : no_hole new.debug_info_fixups ≡ not (tree_refers es)
+  tree_is = own_fixups ∙ draft_holes u.encoding es t p.kept
 
-  pub alone_refers : (length new.debug_info_fixups == 0) ≡ false → IsTrue (has_info_reference u)
-  alone_refers h = not_true (has_info_reference u) (sym h ∙ alone_fixups)
+  -- where none is open, no value of it names an entry by its place in .debug_info, and no location list
+  pub alone_is : NoFixups new → IsFalse (has_info_reference u)
+  alone_is closed = neither_refers (tree_refers es) (lists_refer (locations_in u.locations)) (not_false (tree_refers es) (sym (ap no_hole closed.info) ∙ tree_is)) (by_version (is_five u.encoding) refl)
+    where
+      by_version : (five : Bool) → is_five u.encoding ≡ five → IsFalse (lists_refer (locations_in u.locations))
+      by_version true is = not_false (lists_refer (locations_in u.locations)) (sym (ap no_hole closed.loclists) ∙ new_fixups ∙ lists_holes (settled u) true ∙ ap (λ b. if b then not (lists_refer (locations_in u.locations)) else true) is)
+      by_version false is = not_false (lists_refer (locations_in u.locations)) (sym (ap no_hole closed.loc) ∙ old_fixups ∙ lists_holes (settled u) false ∙ ap (λ b. if not b then not (lists_refer (locations_in u.locations)) else true) is)
 
-  pub alone_appends : (length new.debug_info_fixups == 0) ≡ true → AppendsAlone meaning old new (settled u) t offsets
-  alone_appends h =
+  -- where some is, one does
+  pub alone_refers : (NoFixups new → ⊥) → IsTrue (has_info_reference u)
+  alone_refers some = by_test (has_info_reference u) refl
+    where
+      lists_closed : (b : Bool) → IsFalse (lists_refer (locations_in u.locations)) → (if b then not (lists_refer (locations_in u.locations)) else true) ≡ true
+      lists_closed true h = ap not h
+      lists_closed false h = refl
+
+      by_test : (b : Bool) → has_info_reference u ≡ b → IsTrue (has_info_reference u)
+      by_test true h = h
+      by_test false h =
+          let parts = refers_by (tree_refers es) (lists_refer (locations_in u.locations)) h in
+          let closed : NoFixups new = record {
+            info = no_hole-is new.debug_info_fixups (tree_is ∙ ap not parts.0);
+            loc = no_hole-is new.debug_loc_fixups (old_fixups ∙ lists_holes (settled u) false ∙ lists_closed (is_own_section false u.encoding) parts.1);
+            loclists = no_hole-is new.debug_loclists_fixups (new_fixups ∙ lists_holes (settled u) true ∙ lists_closed (is_own_section true u.encoding) parts.1);
+          } in
+          absurd (some closed)
+
+  pub alone_appends : NoFixups new → AppendsAlone meaning old new (settled u) t offsets
+  alone_appends closed =
       let us = only_unit t (settled u) in
       let ks = p.kept ∷ [] in
-      let pending : Pending meaning old new us ks = pending_one meaning 0 (settled u) t old new p.kept p.tree in
-      let closed : (units_draft us ks).holes ≡ [] =
-      no_hole-is (units_draft us ks).holes (only_holes t (settled u) p.kept ∙ sym own_fixups ∙ sym (no_hole-length new.debug_info_fixups) ∙ h)
-      in
-      let m = meaning new.debug_info.0 in
+      let pending : Pending meaning old new us ks = pending_one meaning 0 (settled u) t old new p.kept p.tree p.lists in
+      let unit_closed : (units_draft us ks).holes ≡ [] = no_hole-is (units_draft us ks).holes (only_holes (draft_of u.encoding es t p.kept) ∙ sym own_fixups ∙ ap no_hole closed.info) in
+      let old_closed : (locations_draft us false).holes ≡ [] = no_hole-is (locations_draft us false).holes (only_holes (location_part false (settled u)) ∙ sym old_fixups ∙ ap no_hole closed.loc) in
+      let new_closed : (locations_draft us true).holes ≡ [] = no_hole-is (locations_draft us true).holes (only_holes (location_part true (settled u)) ∙ sym new_fixups ∙ ap no_hole closed.loclists) in
+      let none_filled : (m : Meaning) (info : Info) (hs : List DebugInfoFixup) → hs ≡ [] → Fills m m info hs =
+      λ m info hs is. subst (λ xs. Fills m m info xs) (sym is) (fills_all info [] 0 (omega arith) (omega arith) (fills_none m info [])) in
       record {
         kept = p.kept;
         appends = λ info. record {
-          units = units_added meaning info old new m us ks none pending
-              (subst (λ hs. Fills m m info hs) (sym (alone_closed h)) (fills_all info [] 0 (omega arith) (omega arith) (fills_none m info [])))
-              (λ err. subst (λ hs. IsFalse (holes_fail info (meaning old.debug_info.0).is_plain hs err)) (sym closed) refl);
+          units = units_added meaning info old new (meaning new.debug_info.0) us ks none.info pending
+              (none_filled (meaning new.debug_info.0) info new.debug_info_fixups closed.info)
+              (λ err. subst (λ hs. IsFalse (holes_fail info (meaning old.debug_info.0).is_plain hs err)) (sym unit_closed) refl);
           tables = pending.tables;
+          lists = record {
+            located = pending.lists.located;
+            locations = draft_filled (meaning old.debug_loc.0) (meaning new.debug_loc.0) _ _ _ none.loc pending.lists.drafts.locations info (meaning new.debug_loc.0) (none_filled (meaning new.debug_loc.0) info new.debug_loc_fixups closed.loc);
+            location_lists = draft_filled (meaning old.debug_loclists.0) (meaning new.debug_loclists.0) _ _ _ none.loclists pending.lists.drafts.location_lists info (meaning new.debug_loclists.0) (none_filled (meaning new.debug_loclists.0) info new.debug_loclists_fixups closed.loclists);
+          };
         };
-        closed = closed;
+        closed = unit_closed;
+        lists_closed = λ five. by_section five old_closed new_closed;
         offsets_are = p.offsets_are;
       }
+    where
+      by_section : (five : Bool) → (locations_draft (only_unit t (settled u)) false).holes ≡ [] → (locations_draft (only_unit t (settled u)) true).holes ≡ [] → (locations_draft (only_unit t (settled u)) five).holes ≡ []
+      by_section true a b = b
+      by_section false a b = a
 
 -- why a unit is refused that is to stand alone
 pub alone_refused : {W : Type 0} (meaning : W → Meaning) (old new : Sections W) (u : UnitValue) (t : Elsewhere) (err : Error) → UnitRefused meaning old new u t err → AloneRefused meaning old new u t err

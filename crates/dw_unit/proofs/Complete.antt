@@ -1,15 +1,15 @@
 -- What can be written is refused only for want of memory, or by a fault that was counted.
 use Rattle.std.specs.Prelude.{◌≡◌, ◌⊎◌, Bool, true, false, List, ◌++◌, refl, IsTrue, IsFalse}
-use Rattle.std.proofs.Common.{sym, ◌∙◌, subst, inl, inr}
+use Rattle.std.proofs.Common.{subst, inl, inr}
 use Rattle.dw_base.specs.declared.error.Error.{Error}
 use Rattle.dw_base.specs.declared.error.Error.TheVariants as errors
 use Rattle.dw_writer.specs.Meaning.{Meaning}
 use Rattle.dw_writer.specs.Sections.{SomeHasRisen}
 use Rattle.dw_writer.specs.declared.sections.Sections.{Sections}
-use Rattle.dw_unit.specs.Elsewhere.{Elsewhere}
+use Rattle.dw_unit.specs.Elsewhere.{Elsewhere, ends_of}
 use Rattle.dw_unit.specs.Causes.{UnitRefused, UnitsFail, UnitsRefused, RefusesAny, ReferencesFail}
-use Rattle.dw_unit.specs.Pending.{Kept, units_draft, info_at, info_of, starts_of}
-use Rattle.dw_unit.specs.UnitFaults.{holes_fail}
+use Rattle.dw_unit.specs.Pending.{Kept, info_of, starts_of}
+use Rattle.dw_unit.specs.ReferenceFaults.{references_fail}
 use Rattle.dw_unit.specs.UnitValue.{UnitValue}
 use Rattle.dw_unit.specs.Valid.{IsWritableAt, CanFollow}
 use Rattle.dw_unit.specs.Written.{to_write}
@@ -36,10 +36,11 @@ module _ {W : Type 0} (meaning : W → Meaning) (old new : Sections W) (t : Else
       let plain = (meaning can.before.debug_info.0).is_plain in
       let own = can.references in
       let info = info_kept vs all (can.kept ++ h.kept) (h.keeps can.keeps) in
-      let there = subst (λ f. IsTrue (holes_fail f plain (units_draft all (can.kept ++ h.kept)).holes err)) info h.fails in
+      let ends = ends_of meaning can.before in
+      let there = subst (λ f. IsTrue (references_fail f plain ends all (can.kept ++ h.kept) err)) info h.fails in
       let same = one_row (starts_of meaning can.before) all own.kept (can.kept ++ h.kept) own.in_row h.in_row in
-      not_both (holes_fail (info_of all (can.kept ++ h.kept)) plain (units_draft all (can.kept ++ h.kept)).holes err) there
-      (subst (λ (ks : List Kept). IsFalse (holes_fail (info_of all ks) plain (units_draft all ks).holes err)) same (own.lead err))
+      not_both (references_fail (info_of all (can.kept ++ h.kept)) plain ends all (can.kept ++ h.kept) err) there
+      (subst (λ (ks : List Kept). IsFalse (references_fail (info_of all ks) plain ends all ks err)) same (own.lead err))
 
   pub units_complete : (SomeHasRisen meaning old new → ⊥) → (err : Error) → RefusesAny meaning old new us vs t err → err ≡ errors.NoMemory
   units_complete calm err any = by_error err (any can.before can.units can.kept can.none_open can.pending)

@@ -1,10 +1,8 @@
 -- Sizes that hang on places of entries that stand no later in the tree.
-use Rattle.std.specs.Prelude.{◌≡◌, ◌≢◌, ℕ, zero, suc, ◌+◌, ◌<◌, ◌≤◌, Bool, true, false, not, ◌||◌, ◌==◌, List, [], ◌∷◌, ◌++◌, length, take, drop, Option, Some, None, is_none, IsTrue, IsFalse, slice_index, if◌then◌else◌, refl}
-use Rattle.std.proofs.Common.{◌∙◌, sym, ap, subst, arith, append_assoc}
-use Rattle.std.proofs.lemmas.Bool.{or_left, or_right, or_parts, eqb-true, ne_eqb, eq-eqb, true≢false, cond-true, cond-false}
+use Rattle.std.specs.Prelude.{◌≡◌, ℕ, zero, suc, ◌+◌, ◌<◌, Bool, true, false, not, ◌||◌, ◌==◌, List, [], ◌∷◌, ◌++◌, length, take, drop, Option, Some, None, is_none, IsTrue, IsFalse, slice_index, if◌then◌else◌, refl}
+use Rattle.std.proofs.Common.{◌∙◌, sym, ap, subst, arith}
+use Rattle.std.proofs.lemmas.Bool.{or_left, or_parts, ne_eqb, true≢false, cond-false}
 use Rattle.std.proofs.lemmas.Option.{none-some, same_Some}
-use Rattle.dw_base.specs.Leb128.{uleb}
-use Rattle.dw_base.specs.Abbreviations.{Shape}
 use Rattle.dw_base.specs.Entries.{Mark, Open, Null}
 use Rattle.dw_base.specs.declared.common.Encoding.{Encoding}
 use Rattle.dw_base.specs.declared.error.Error.{Error}
@@ -13,12 +11,11 @@ use Rattle.dw_expr.proofs.PartLaws.{nodes_quiet}
 use Rattle.dw_expr.proofs.Placing.{size_same, unplaced-same}
 use Rattle.dw_entries.specs.Content.{Content, Expression, counted, content_size, content_unplaced}
 use Rattle.dw_entries.specs.declared.attribute.Attribute.{Attribute}
-use Rattle.dw_entries.specs.Entries.{EntryValue, entry_at, is_parent}
+use Rattle.dw_entries.specs.Entries.{EntryValue, entry_at}
 use Rattle.dw_entries.specs.Tree.{IsIn, has_entry, are_entries_distinct}
-use Rattle.dw_entries.specs.Values.{content_of, KeepsPlaces, value_unplaced}
-use Rattle.dw_unit.specs.Coded.{code_of_entry}
+use Rattle.dw_entries.specs.Values.{content_of, KeepsPlaces}
 use Rattle.dw_unit.specs.Early.{attributes_unplaced, mark_unplaced, standing, is_forward}
-use Rattle.dw_unit.specs.Laid.{sibling_size, values_size, sized, size_of, sizes_of, place_from, behind_from, past_from}
+use Rattle.dw_unit.specs.Laid.{values_size}
 use Rattle.dw_unit.specs.Laying.{LayoutValue, placement_in, begun, known_in, Extends}
 use Rattle.dw_unit.specs.Places.{found, has_place}
 use Rattle.dw_unit.proofs.LaidSoFar.{IsLaid}

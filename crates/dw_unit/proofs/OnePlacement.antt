@@ -1,7 +1,7 @@
 -- A tree in which no size hangs on a later entry has one placement.
 use Rattle.std.proofs.Common.{◌≡◌, ◌∙◌, sym, ap, subst, ℕ, zero, suc, ◌+◌, ◌<◌, ◌≤◌, ◌^◌, Bool, true, false, ◌||◌, ◌==◌, List, [], ◌∷◌, ◌++◌, length, arith, take, drop, refl, append_assoc}
 use Rattle.std.specs.Prelude.{Option, Some, None, is_none, IsFalse, if◌then◌else◌, not}
-use Rattle.std.proofs.lemmas.Bool.{or_left, or_right, or_parts, eqb-true, eq-eqb, ne_eqb, true≢false, cond-false}
+use Rattle.std.proofs.lemmas.Bool.{or_left, or_right, or_parts, eqb-true, eq-eqb, ne_eqb, true≢false}
 use Rattle.std.proofs.lemmas.Option.{none-some, same_Some}
 use Rattle.dw_base.specs.Abbreviations.{Shape}
 use Rattle.dw_base.specs.Entries.{Mark, Open, Null}
@@ -16,7 +16,7 @@ use Rattle.dw_entries.specs.Tree.{has_entry, preorder}
 use Rattle.dw_entries.specs.Values.{KeepsPlaces}
 use Rattle.dw_unit.specs.Coded.{code_of_entry}
 use Rattle.dw_unit.specs.Early.{attributes_unplaced, mark_unplaced, standing, is_forward, tree_is_forward}
-use Rattle.dw_unit.specs.Laid.{sibling_size, values_size, sized, size_of, sizes_of, place_from, behind_from, past_from, laid_from}
+use Rattle.dw_unit.specs.Laid.{sibling_size, sized, sizes_of, place_from, behind_from, past_from}
 use Rattle.dw_unit.specs.Places.{Placement, found, IsSamePlacement}
 use Rattle.dw_unit.specs.Whole.{tree_shapes, tree_size, IsTreePlacement, TreeHasNoRoom}
 use Rattle.std.proofs.Math.Path.{fun_ext}
@@ -64,7 +64,7 @@ module _ (s t : ℕ → ℕ) (es : List EntryValue) where
   past_agree at (Null ∷ ms) h i = past_agree (at + 1) ms h i
 
   -- the place of the next entry hangs on those before it alone
-  place_next : (at : ℕ) (ms : List (Mark ℕ)) (m : Mark ℕ) → AgreeOn s t ms → (i : ℕ) → place_from s es at (ms ++ m ∷ []) i ≡ place_from t es at (ms ++ m ∷ []) i
+  pub place_next : (at : ℕ) (ms : List (Mark ℕ)) (m : Mark ℕ) → AgreeOn s t ms → (i : ℕ) → place_from s es at (ms ++ m ∷ []) i ≡ place_from t es at (ms ++ m ∷ []) i
   place_next at [] (Open j) h i = refl
   place_next at [] Null h i = refl
   place_next at (Open j ∷ ms) m h i =
@@ -82,19 +82,19 @@ either_least false h at x more there = more there
 
 module _ (s : ℕ → ℕ) (es : List EntryValue) where
   -- what stands behind marks moves none of their entries
-  place_append : (at : ℕ) (xs ys : List (Mark ℕ)) (i : ℕ) → has_entry xs i ≡ true → place_from s es at (xs ++ ys) i ≡ place_from s es at xs i
+  pub place_append : (at : ℕ) (xs ys : List (Mark ℕ)) (i : ℕ) → has_entry xs i ≡ true → place_from s es at (xs ++ ys) i ≡ place_from s es at xs i
   place_append at [] ys i there = absurd (true≢false (sym there))
   place_append at (Open j ∷ xs) ys i there =
       either_case (j == i) (has_entry xs i) at (place_from s es (at + s j) (xs ++ ys) i) (place_from s es (at + s j) xs i) (place_append (at + s j) xs ys i) there
   place_append at (Null ∷ xs) ys i there = place_append (at + 1) xs ys i there
 
-  place_least : (at : ℕ) (ms : List (Mark ℕ)) (i : ℕ) → has_entry ms i ≡ true → at ≤ place_from s es at ms i
+  pub place_least : (at : ℕ) (ms : List (Mark ℕ)) (i : ℕ) → has_entry ms i ≡ true → at ≤ place_from s es at ms i
   place_least at [] i there = absurd (true≢false (sym there))
   place_least at (Open j ∷ ms) i there =
       either_least (j == i) (has_entry ms i) at (place_from s es (at + s j) ms i) (λ more. omega (arith, place_least (at + s j) ms i more)) there
   place_least at (Null ∷ ms) i there = omega (arith, place_least (at + 1) ms i there)
 
-or_none : (b : Bool) → (b || false) ≡ b
+pub or_none : (b : Bool) → (b || false) ≡ b
 or_none true = refl
 or_none false = refl
 
@@ -194,7 +194,7 @@ one_placement e es p q early left right =
       past = λ i. left.past i ∙ past_agree (sized e es shapes p.place) (sized e es shapes q.place) es start ms agree i ∙ sym (right.past i);
     }
 
-take_drop : (ms : List (Mark ℕ)) (n : ℕ) → ms ≡ take n ms ++ drop n ms
+pub take_drop : (ms : List (Mark ℕ)) (n : ℕ) → ms ≡ take n ms ++ drop n ms
 take_drop [] zero = refl
 take_drop [] (suc n) = refl
 take_drop (m ∷ ms) zero = refl

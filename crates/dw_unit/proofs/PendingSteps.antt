@@ -15,6 +15,7 @@ use Rattle.dw_writer.proofs.WriteLaws.{Drafts-nothing, Drafts-then, Drafts-is, b
 use Rattle.dw_entries.specs.Targets.{Tables}
 use Rattle.dw_unit.specs.Built.{Numbered, Starts, at_zero}
 use Rattle.dw_unit.specs.Filled.{Fills}
+use Rattle.dw_unit.specs.Locations.{AppendsLocations}
 use Rattle.dw_unit.specs.Pending.{Kept, draft_of, draft_at, past_kept, units_draft, tables_of, kept_offsets, kept_at, AreInRow, starts_of, IsThereFilled, PendsTree, PendsUnit, Pending, ExtendsPending, AddsUnits}
 use Rattle.dw_unit.specs.Places.{Offsets, OffsetsValue}
 use Rattle.dw_unit.specs.UnitFaults.{holes_fail}
@@ -22,6 +23,7 @@ use Rattle.dw_unit.specs.UnitValue.{UnitValue}
 use Rattle.dw_unit.specs.Whole.{tree_table}
 use Rattle.dw_unit.proofs.TextsThere.{then_filled, nothing_filled}
 use Rattle.dw_unit.proofs.Filling.{holes-shifted, holes_lead}
+use Rattle.dw_unit.proofs.LocationSteps.{lists_none, lists_one, lists_then}
 
 -- Rows
 
@@ -71,15 +73,18 @@ module _ {W : Type 0} (meaning : W → Meaning) where
     units = Drafts-nothing (meaning s.debug_info.0) s.debug_info_fixups;
     tables = Adds-none (meaning s.debug_abbrev.0);
     there = λ plain. nothing_filled;
+    lists = lists_none meaning s;
   }
 
   -- one unit
-  pub pending_one : (id : ℕ) (u : UnitValue) (t : Tables) (old new : Sections W) (k : Kept) → PendsTree meaning old new u.encoding u.entries t k → Pending meaning old new (record { id = id; unit = u; tables = t } ∷ []) (k ∷ [])
-  pending_one id u t old new k p = record {
+  pub pending_one : (id : ℕ) (u : UnitValue) (t : Tables) (old new : Sections W) (k : Kept) → PendsTree meaning old new u.encoding u.entries t k → AppendsLocations meaning old new u →
+      Pending meaning old new (record { id = id; unit = u; tables = t } ∷ []) (k ∷ [])
+  pending_one id u t old new k p lists = record {
     in_row = (p.stands, tt);
     units = Drafts-is p.unit (sym (then-nothing (draft_of u.encoding u.entries t k)));
     tables = subst (Adds (meaning old.debug_abbrev.0) (meaning new.debug_abbrev.0)) (sym (append-nil (tree_table u.encoding u.entries))) p.table;
     there = λ plain. subst IsThereFilled (sym (then-nothing (draft_of u.encoding u.entries t k))) (p.there plain);
+    lists = lists_one meaning old new (record { id = id; unit = u; tables = t }) lists;
   }
 
   -- units behind units
@@ -91,12 +96,13 @@ module _ {W : Type 0} (meaning : W → Meaning) where
         units = Drafts-is (Drafts-then p.units q.units) (sym both);
         tables = subst (Adds (meaning a.debug_abbrev.0) (meaning c.debug_abbrev.0)) (sym (tables_append us vs)) (Adds-then p.tables q.tables);
         there = λ plain. subst IsThereFilled (sym both) (then_filled (units_draft us ks) (units_draft vs js) (p.there plain) (q.there (p.units.text.same.kind ∙ plain)));
+        lists = lists_then meaning a b c us vs p.lists q.lists;
       }
 
   -- one unit more, whatever is pending
   pub pending_more : (u : UnitValue) (t : Tables) (old new : Sections W) (offsets : Option OffsetsValue) → PendsUnit meaning old new u t offsets → ExtendsPending meaning old new u t offsets
   pending_more u t old new offsets p before us ks id pending =
-      (p.kept, p.offsets_are, pending_then before old new us (record { id = id; unit = u; tables = t } ∷ []) ks (p.kept ∷ []) pending (pending_one id u t old new p.kept p.tree))
+      (p.kept, p.offsets_are, pending_then before old new us (record { id = id; unit = u; tables = t } ∷ []) ks (p.kept ∷ []) pending (pending_one id u t old new p.kept p.tree p.lists))
 
   -- the same where only lists of fixups that aren't of .debug_info are other ones
   -- The references of what is pending lie in the section, one behind another, and no record meets them.

@@ -2,14 +2,12 @@
 use Rattle.std.specs.Prelude.{◌≡◌, ℕ, Bool, true, false, not, List, [], ◌∷◌, ◌++◌, Some, refl, if◌then◌else◌}
 use Rattle.std.proofs.Common.{sym, ◌∙◌, ap, subst}
 use Rattle.std.proofs.lemmas.List.Elements.{All-nil, All-cons, All-append}
-use Rattle.dw_base.specs.declared.common.Encoding.{Encoding}
 use Rattle.dw_base.specs.declared.error.Error.{Error}
 use Rattle.dw_base.specs.declared.error.Error.TheVariants as errors
 use Rattle.dw_base.specs.declared.section_id.SectionId.TheVariants.{DebugRanges, DebugRngLists}
 use Rattle.dw_writer.specs.Causes.{HasRisen}
 use Rattle.dw_writer.specs.Drafts.{open_text}
-use Rattle.dw_writer.specs.Layout.{Layout}
-use Rattle.dw_writer.specs.Meaning.{Meaning, Model, Appends}
+use Rattle.dw_writer.specs.Meaning.{Meaning, Appends}
 use Rattle.dw_writer.specs.Sections.{SomeHasRisen}
 use Rattle.dw_writer.specs.declared.sections.Sections.{Sections}
 use Rattle.dw_writer.proofs.Steps.{Appends-as}
@@ -18,8 +16,10 @@ use Rattle.dw_lists.specs.Items.{is_five}
 use Rattle.dw_lists.specs.Pieces.{IsWritten}
 use Rattle.dw_lists.specs.Tables.{range_section, ranges_of, OthersStay}
 use Rattle.dw_unit.specs.Causes.{Because, Is}
-use Rattle.dw_unit.specs.Elsewhere.{End, Ends, Elsewhere, end_of, elsewhere, past_end, past_parts, line_size, AreFound, range_size, range_text, range_draft, ranges_at, ranges_plain, ranges_fail_in, AppendsLine, AppendsRanges, AppendsAllRanges}
+use Rattle.dw_unit.specs.Elsewhere.{End, Ends, Elsewhere, end_of, elsewhere, past_end, past_parts, line_size, location_size, AreFound, range_size, range_text, range_draft, ranges_at, ranges_plain, ranges_fail_in, AppendsLine, AppendsRanges, AppendsAllRanges}
+use Rattle.dw_unit.specs.Locations.{AppendsLocations}
 use Rattle.dw_unit.specs.UnitValue.{UnitValue}
+use Rattle.dw_unit.specs.Whole.{settled}
 use Rattle.dw_unit.proofs.UnitTexts.{end-past, appends-none, appends-new, appends-old}
 
 module _ {W : Type 0} (meaning : W → Meaning) where
@@ -96,13 +96,23 @@ module _ {W : Type 0} (meaning : W → Meaning) where
     ranges_because err h = h
 
   -- what is found where a unit's parts were added
-  pub elsewhere-new : (a b : Sections W) (line_strings strings : List (List ℕ)) (u : UnitValue) → AppendsLine meaning a b line_strings strings u → AppendsRanges meaning a b u →
+  pub elsewhere-new : (a b : Sections W) (line_strings strings : List (List ℕ)) (u : UnitValue) → AppendsLine meaning a b line_strings strings u → AppendsRanges meaning a b u → AppendsLocations meaning a b (settled u) →
       elsewhere meaning b line_strings strings ≡ past_parts (elsewhere meaning a line_strings strings) u
-  elsewhere-new a b line_strings strings u line ranges =
-      let whole = λ (x y z : End).
-      let e : Ends = record { lines = x; ranges = y; range_lists = z } in
+  elsewhere-new a b line_strings strings u line ranges lists =
+      let whole = λ (v w x y z : End).
+      let e : Ends = record { lines = v; ranges = w; range_lists = x; locations = y; location_lists = z } in
       let t : Elsewhere = record { line_strings = line_strings; strings = strings; ends = e } in
       t in
-      ap (λ x. whole x (end_of (meaning b.debug_ranges.0)) (end_of (meaning b.debug_rnglists.0))) (end-past line.text_is)
-      ∙ ap (λ y. whole (past_end (end_of (meaning a.debug_line.0)) (line_size u)) y (end_of (meaning b.debug_rnglists.0))) (end-past ranges.ranges)
-      ∙ ap (λ z. whole (past_end (end_of (meaning a.debug_line.0)) (line_size u)) (past_end (end_of (meaning a.debug_ranges.0)) (range_size false u)) z) (end-past ranges.range_lists)
+      let v0 = past_end (end_of (meaning a.debug_line.0)) (line_size u) in
+      let w0 = past_end (end_of (meaning a.debug_ranges.0)) (range_size false u) in
+      let x0 = past_end (end_of (meaning a.debug_rnglists.0)) (range_size true u) in
+      let y0 = past_end (end_of (meaning a.debug_loc.0)) (location_size false u) in
+      let w1 = end_of (meaning b.debug_ranges.0) in
+      let x1 = end_of (meaning b.debug_rnglists.0) in
+      let y1 = end_of (meaning b.debug_loc.0) in
+      let z1 = end_of (meaning b.debug_loclists.0) in
+      ap (λ v. whole v w1 x1 y1 z1) (end-past line.text_is)
+      ∙ ap (λ w. whole v0 w x1 y1 z1) (end-past ranges.ranges)
+      ∙ ap (λ x. whole v0 w0 x y1 z1) (end-past ranges.range_lists)
+      ∙ ap (λ y. whole v0 w0 x0 y z1) (end-past lists.drafts.locations.text)
+      ∙ ap (λ z. whole v0 w0 x0 y0 z) (end-past lists.drafts.location_lists.text)

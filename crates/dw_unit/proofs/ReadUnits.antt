@@ -29,7 +29,6 @@ use Rattle.dw_unit.specs.Places.{targets_of}
 use Rattle.dw_unit.specs.Read.{read_tree}
 use Rattle.dw_unit.specs.UnitFaults.{is_version, is_encodable}
 use Rattle.dw_unit.specs.UnitText.{fitting_text, length_text, fields_text, after_version_text, header_text, unit_length, tree_draft}
-use Rattle.dw_unit.specs.UnitValue.{UnitValue}
 use Rattle.dw_unit.specs.Whole.{tree_declared, tree_table}
 use Rattle.dw_unit.proofs.ReadTexts.{tree_text}
 use Rattle.dw_unit.proofs.ReadMarks.{tree_fits}

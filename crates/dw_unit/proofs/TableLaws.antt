@@ -1,5 +1,5 @@
 -- Tables none of whose units was written before, and units that can be written where they stand.
-use Rattle.std.specs.Prelude.{◌≡◌, ◌⊎◌, ℕ, suc, zero, Bool, true, false, List, [], ◌∷◌, map, None, refl, All, if◌then◌else◌}
+use Rattle.std.specs.Prelude.{◌≡◌, ◌⊎◌, ℕ, suc, zero, Bool, true, false, List, [], ◌∷◌, None, refl, All, if◌then◌else◌}
 use Rattle.std.proofs.Common.{sym, ◌∙◌, ap, subst, inl, inr}
 use Rattle.std.proofs.Math.Path.{fun_ext}
 use Rattle.std.proofs.lemmas.List.Elements.{All-head, All-tail}
@@ -12,7 +12,6 @@ use Rattle.dw_unit.specs.Pending.{Kept, past_kept, info_at, info_of, KeepPlaces,
 use Rattle.dw_unit.specs.Places.{Placement, info_from, offsets_in}
 use Rattle.dw_unit.specs.UnitValue.{UnitValue}
 use Rattle.dw_unit.specs.Valid.{IsWritableAt, AreWritable}
-use Rattle.dw_unit.specs.Whole.{settled}
 use Rattle.dw_unit.specs.Written.{to_write_from, past_table}
 use Rattle.dw_unit.proofs.OnePlacement.{one_placement, placement-same}
 use Rattle.dw_unit.proofs.ValidLaws.{unit_unfailing}

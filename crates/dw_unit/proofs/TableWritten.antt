@@ -1,21 +1,24 @@
 -- What writing the units of a table comes to.
-use Rattle.std.specs.Prelude.{◌≡◌, ◌⊎◌, ℕ, ◌+◌, ◌≤◌, ◌<◌, true, false, List, [], ◌∷◌, ◌++◌, length, Some, refl, slice_set, slice_index_or, IsFalse}
+use Rattle.std.specs.Prelude.{◌≡◌, ◌⊎◌, ℕ, ◌+◌, ◌≤◌, ◌<◌, true, false, ◌||◌, List, [], ◌∷◌, ◌++◌, length, Some, refl, slice_set, slice_index_or, IsFalse}
 use Rattle.std.proofs.Common.{sym, ◌∙◌, ap, subst, arith, append-nil, append_assoc, length-append, inl, inr}
 use Rattle.dw_base.specs.declared.error.Error.{Error}
 use Rattle.dw_base.specs.declared.section_id.SectionId.{SectionId}
-use Rattle.dw_base.specs.declared.section_id.SectionId.TheVariants.{DebugAbbrev, DebugLine, DebugRanges, DebugRngLists, DebugInfo}
+use Rattle.dw_base.specs.declared.section_id.SectionId.TheVariants.{DebugAbbrev, DebugLine, DebugRanges, DebugRngLists, DebugLoc, DebugLocLists, DebugInfo}
 use Rattle.dw_writer.specs.Causes.{HasRisen}
 use Rattle.dw_writer.specs.Meaning.{Meaning}
-use Rattle.dw_writer.specs.Sections.{SomeHasRisen, section_of, fault_sum}
-use Rattle.dw_writer.proofs.FaultLaws.{HasRisen-from, SomeHasRisen-info}
+use Rattle.dw_writer.specs.Sections.{SomeHasRisen, NoFixups, section_of, fault_sum}
+use Rattle.dw_writer.proofs.FaultLaws.{HasRisen-from}
+use Rattle.dw_writer.specs.Drafts.{Info}
 use Rattle.dw_writer.specs.Meaning.{Adds}
+use Rattle.std.proofs.lemmas.Bool.{or_parts}
 use Rattle.dw_writer.specs.declared.sections.Sections.{Sections}
 use Rattle.dw_entries.specs.Targets.{Tables}
-use Rattle.dw_unit.specs.Elsewhere.{Elsewhere, elsewhere, unit_tables, past_parts, past_elsewhere, AppendsLine, AppendsLines, AppendsRanges, AppendsAllRanges}
+use Rattle.dw_unit.specs.Elsewhere.{Elsewhere, elsewhere, ends_of, unit_tables, past_parts, AppendsLine, AppendsLines, AppendsRanges, AppendsAllRanges}
 use Rattle.dw_unit.specs.Built.{Numbered, Starts, table_size, settled_at}
-use Rattle.dw_unit.specs.Causes.{Because, Refused, Is, UnitRefused, UnitFails, UnitsFail, ReferencesFail, UnitsRefused, RefusesAny}
-use Rattle.dw_unit.specs.Filled.{Fills, AreFillable}
-use Rattle.dw_unit.specs.Pending.{Kept, draft_of, past_kept, tables_of, info_at, starts_of, KeepPlaces, PendsTree, PendsUnit, Pending}
+use Rattle.dw_unit.specs.Causes.{Because, Is, UnitRefused, UnitFails, UnitsFail, ReferencesFail, UnitsRefused, RefusesAny}
+use Rattle.dw_unit.specs.Filled.{FillsAll, AreAllFillable, open_fail}
+use Rattle.dw_unit.specs.Pending.{Kept, draft_of, past_kept, units_draft, tables_of, locations_draft, info_at, starts_of, KeepPlaces, PendsTree, PendsUnit, Pending}
+use Rattle.dw_unit.specs.ReferenceFaults.{lists_refer_wrong, references_fail}
 use Rattle.dw_unit.specs.UnitFaults.{holes_fail}
 use Rattle.dw_unit.specs.UnitValue.{UnitValue}
 use Rattle.dw_unit.specs.Valid.{IsWritableAt, AreWritable}
@@ -25,7 +28,8 @@ use Rattle.dw_unit.proofs.Faults.{because-map}
 use Rattle.dw_unit.proofs.LineSteps.{lines_none, lines_new, lines_old}
 use Rattle.dw_unit.proofs.RangeSteps.{ranges_none, ranges_new, ranges_old, elsewhere-new}
 use Rattle.dw_unit.proofs.UnitTexts.{past_all, past_all-more, past-old, past-new}
-use Rattle.dw_unit.proofs.PendingSteps.{pending_none, pending_one, pending_then, pending_between, pending_widths, pending_lead, row_length, units_added}
+use Rattle.dw_unit.proofs.FilledDrafts.{draft_fillable, draft_lead, draft_filled}
+use Rattle.dw_unit.proofs.PendingSteps.{pending_none, pending_one, pending_then, row_length, units_added}
 use Rattle.dw_unit.proofs.TableSteps.{IsAt, next_is, none_gone, one_gone, all_gone, passed_more, written_more, stopped_at, past_tables, past_more, past_old, past_new, writable_more, fails_at, to_write-old, to_write-new, keeps_more, offsets_new, offsets_marked}
 
 -- what stays in two calls
@@ -36,16 +40,21 @@ front_others {W} old now new h k =
       debug_line = new.debug_line;
       debug_ranges = new.debug_ranges;
       debug_rnglists = new.debug_rnglists;
+      debug_loc = new.debug_loc;
+      debug_loclists = new.debug_loclists;
       debug_info = new.debug_info;
       debug_info_fixups = new.debug_info_fixups;
+      debug_loc_fixups = new.debug_loc_fixups;
+      debug_loclists_fixups = new.debug_loclists_fixups;
     } in t) h
 
 -- a fault since some units were written is one since before them
 rises_from : {W : Type 0} (meaning : W → Meaning) (old now new : Sections W) → KeepsOtherSections old now → (meaning old.debug_abbrev.0).faults ≤ (meaning now.debug_abbrev.0).faults →
     (meaning old.debug_line.0).faults ≤ (meaning now.debug_line.0).faults →
     (meaning old.debug_ranges.0).faults ≤ (meaning now.debug_ranges.0).faults → (meaning old.debug_rnglists.0).faults ≤ (meaning now.debug_rnglists.0).faults →
+    (meaning old.debug_loc.0).faults ≤ (meaning now.debug_loc.0).faults → (meaning old.debug_loclists.0).faults ≤ (meaning now.debug_loclists.0).faults →
     (meaning old.debug_info.0).faults ≤ (meaning now.debug_info.0).faults → SomeHasRisen meaning now new → SomeHasRisen meaning old new
-rises_from {W} meaning old now new others abbrevs lines ranges range_lists info h = by_id h.id h.before h.after h.was h.is h.risen
+rises_from {W} meaning old now new others abbrevs lines ranges range_lists locations location_lists info h = by_id h.id h.before h.after h.was h.is h.risen
   where
     by_id : (id : SectionId) (before after : W) → section_of now id ≡ Some before → section_of new id ≡ Some after → HasRisen (meaning before) (meaning after) → SomeHasRisen meaning old new
     by_id DebugAbbrev b a was is r =
@@ -60,6 +69,12 @@ rises_from {W} meaning old now new others abbrevs lines ranges range_lists info 
     by_id DebugRngLists b a was is r =
         let same : now.debug_rnglists.0 ≡ b = cc in
         record { id = DebugRngLists; before = old.debug_rnglists.0; after = a; was = refl; is = is; risen = HasRisen-from (meaning old.debug_rnglists.0) (meaning now.debug_rnglists.0) (meaning a) range_lists (subst (λ w. HasRisen (meaning w) (meaning a)) (sym same) r) }
+    by_id DebugLoc b a was is r =
+        let same : now.debug_loc.0 ≡ b = cc in
+        record { id = DebugLoc; before = old.debug_loc.0; after = a; was = refl; is = is; risen = HasRisen-from (meaning old.debug_loc.0) (meaning now.debug_loc.0) (meaning a) locations (subst (λ w. HasRisen (meaning w) (meaning a)) (sym same) r) }
+    by_id DebugLocLists b a was is r =
+        let same : now.debug_loclists.0 ≡ b = cc in
+        record { id = DebugLocLists; before = old.debug_loclists.0; after = a; was = refl; is = is; risen = HasRisen-from (meaning old.debug_loclists.0) (meaning now.debug_loclists.0) (meaning a) location_lists (subst (λ w. HasRisen (meaning w) (meaning a)) (sym same) r) }
     by_id DebugInfo b a was is r =
         let same : now.debug_info.0 ≡ b = cc in
         record { id = DebugInfo; before = old.debug_info.0; after = a; was = refl; is = is; risen = HasRisen-from (meaning old.debug_info.0) (meaning now.debug_info.0) (meaning a) info (subst (λ w. HasRisen (meaning w) (meaning a)) (sym same) r) }
@@ -174,7 +189,7 @@ module _ {W : Type 0} (meaning : W → Meaning) (t : Elsewhere) where
         let w : Numbered = settled_at i found u in
         let one : to_write t (f.before ++ u ∷ []) ≡ to_write t f.before ++ w ∷ [] = to_write-new 0 i t f.before u (omega (arith, f.at.count_before)) new_mark in
         let table : slice_set vs i v ≡ f.after ++ v ∷ rest_is.0 = gone.new_is ∙ append_assoc f.after (v ∷ []) rest_is.0 in
-        let pending : Pending meaning old new (to_write t f.before ++ w ∷ []) (f.kept ++ p.kept ∷ []) = pending_then meaning old now new (to_write t f.before) (w ∷ []) f.kept (p.kept ∷ []) f.pending (pending_one meaning i (settled u) (unit_tables found u) now new p.kept p.tree) in
+        let pending : Pending meaning old new (to_write t f.before ++ w ∷ []) (f.kept ++ p.kept ∷ []) = pending_then meaning old now new (to_write t f.before) (w ∷ []) f.kept (p.kept ∷ []) f.pending (pending_one meaning i (settled u) (unit_tables found u) now new p.kept p.tree p.lists) in
         let rows : length (to_write t f.before) ≡ length f.kept = row_length _ (to_write t f.before) f.kept f.pending.in_row in
         let here_written : IsWrittenAt (starts_of meaning now) found u v = record { kept = p.kept; stands = p.tree.stands; unwritten = new_mark; marked = marked; offsets_are = p.offsets_are } in
         record {
@@ -196,7 +211,7 @@ module _ {W : Type 0} (meaning : W → Meaning) (t : Elsewhere) where
               (subst (KeepPlaces (f.after ++ v ∷ rest_is.0) (ws ++ to_write t (f.before ++ u ∷ []))) places (subst (λ xs. KeepPlaces (f.after ++ v ∷ rest_is.0) xs ((ks ++ f.kept) ++ p.kept ∷ [])) units more));
           lines = lines_new t.line_strings t.strings meaning old now new f.before u new_mark f.lines line;
           ranges = ranges_new meaning old now new f.before u new_mark f.ranges ranges;
-          elsewhere_is = elsewhere-new meaning now new t.line_strings t.strings u line ranges ∙ ap (λ s. past_parts s u) f.elsewhere_is ∙ sym (past_all-more t f.before u ∙ past-new found u new_mark);
+          elsewhere_is = elsewhere-new meaning now new t.line_strings t.strings u line ranges p.lists ∙ ap (λ s. past_parts s u) f.elsewhere_is ∙ sym (past_all-more t f.before u ∙ past-new found u new_mark);
           place = p.tree.table.size ∙ ap (λ n. n + table_size (settled u)) f.place ∙ sym (past_more (meaning old.debug_abbrev.0).size f.before u ∙ past_new (past_tables (meaning old.debug_abbrev.0).size f.before) u new_mark);
           others = others_then;
           faults = faults_then;
@@ -220,7 +235,8 @@ module _ {W : Type 0} (meaning : W → Meaning) (t : Elsewhere) where
         let plain = (meaning old.debug_info.0).is_plain in
         let table = (meaning old.debug_abbrev.0).size in
         because-map {p = UnitFails u (here_in now) (meaning now.debug_abbrev.0).size (meaning now.debug_info.0).is_plain} {q = UnitsFail plain t table us}
-        (rises_from meaning old now new f.others f.pending.tables.same.faults f.lines.text_is.same.faults f.ranges.ranges.same.faults f.ranges.range_lists.same.faults f.pending.units.text.same.faults)
+        (rises_from meaning old now new f.others f.pending.tables.same.faults f.lines.text_is.same.faults f.ranges.ranges.same.faults f.ranges.range_lists.same.faults
+        f.pending.lists.drafts.locations.text.same.faults f.pending.lists.drafts.location_lists.text.same.faults f.pending.units.text.same.faults)
         (λ e k.
         let place = (meaning now.debug_abbrev.0).size in
         let kind = subst (λ b. UnitFails u (here_in now) place b e) f.pending.units.text.same.kind k in
@@ -244,25 +260,55 @@ front_all meaning t old now us vs i f le =
 
 -- Units behind those that are pending
 
-module _ {W : Type 0} (meaning : W → Meaning) (before old now : Sections W) (t : Elsewhere) (us vs : List UnitValue) (ws : List Numbered) (ks : List Kept) (none : before.debug_info_fixups ≡ []) (first : Pending meaning before old ws ks) (p : PendsUnits meaning old now us vs t) where
-  pub all_pending : Pending meaning before now (ws ++ to_write t us) (ks ++ p.kept)
+module _ {W : Type 0} (meaning : W → Meaning) (before old now : Sections W) (t : Elsewhere) (us vs : List UnitValue) (ws : List Numbered) (ks : List Kept) (none : NoFixups before) (first : Pending meaning before old ws ks) (p : PendsUnits meaning old now us vs t) where
+  abbrev all_units : List Numbered
+  all_units = ws ++ to_write t us
+
+  abbrev all_kept : List Kept
+  all_kept = ks ++ p.kept
+
+  pub all_pending : Pending meaning before now all_units all_kept
   all_pending = pending_then meaning before old now ws (to_write t us) ks p.kept first p.pending
 
   equal : length ws ≡ length ks
   equal = row_length _ ws ks first.in_row
 
+  -- the references that are open fail as those of the units do
+  open_is : (info : Info) (err : Error) → open_fail meaning now info err ≡ references_fail info (meaning before.debug_info.0).is_plain (ends_of meaning before) all_units all_kept err
+  open_is info err =
+      let q = all_pending in
+      let units = draft_lead (meaning before.debug_info.0) (meaning now.debug_info.0) _ _ _ none.info q.units info err in
+      let locations = draft_lead (meaning before.debug_loc.0) (meaning now.debug_loc.0) _ _ _ none.loc q.lists.drafts.locations info err in
+      let location_lists = draft_lead (meaning before.debug_loclists.0) (meaning now.debug_loclists.0) _ _ _ none.loclists q.lists.drafts.location_lists info err in
+      ap (λ b. b || (holes_fail info (meaning now.debug_loc.0).is_plain now.debug_loc_fixups err || holes_fail info (meaning now.debug_loclists.0).is_plain now.debug_loclists_fixups err)) units
+      ∙ ap (λ b. holes_fail info (meaning before.debug_info.0).is_plain (units_draft all_units all_kept).holes err || (b || holes_fail info (meaning now.debug_loclists.0).is_plain now.debug_loclists_fixups err)) locations
+      ∙ ap (λ b. holes_fail info (meaning before.debug_info.0).is_plain (units_draft all_units all_kept).holes err || (holes_fail info (meaning before.debug_loc.0).is_plain (locations_draft all_units false).holes err || b)) location_lists
+
+  fillable : AreAllFillable meaning now
+  fillable = record {
+    units = draft_fillable (meaning before.debug_info.0) (meaning now.debug_info.0) _ _ _ none.info all_pending.units;
+    locations = draft_fillable (meaning before.debug_loc.0) (meaning now.debug_loc.0) _ _ _ none.loc all_pending.lists.drafts.locations;
+    location_lists = draft_fillable (meaning before.debug_loclists.0) (meaning now.debug_loclists.0) _ _ _ none.loclists all_pending.lists.drafts.location_lists;
+  }
+
   -- their references are filled in
-  pub all_completed : (new : Sections W) → Fills (meaning now.debug_info.0) (meaning new.debug_info.0) (info_at vs) now.debug_info_fixups → meaning new.debug_abbrev.0 ≡ meaning now.debug_abbrev.0 →
-      ((err : Error) → IsFalse (holes_fail (info_at vs) (meaning now.debug_info.0).is_plain now.debug_info_fixups err)) → CompletesPending meaning before new us vs t ws ks
+  pub all_completed : (new : Sections W) → FillsAll meaning now new (info_at vs) → meaning new.debug_abbrev.0 ≡ meaning now.debug_abbrev.0 →
+      ((err : Error) → IsFalse (open_fail meaning now (info_at vs) err)) → CompletesPending meaning before new us vs t ws ks
   all_completed new f tables sound =
-      let plain : (meaning now.debug_info.0).is_plain ≡ (meaning before.debug_info.0).is_plain = all_pending.units.text.same.kind in
-      let lead = λ (err : Error). sym (pending_lead meaning (info_at vs) (meaning before.debug_info.0).is_plain before now (ws ++ to_write t us) (ks ++ p.kept) none all_pending err)
-      ∙ ap (λ b. holes_fail (info_at vs) b now.debug_info_fixups err) (sym plain) ∙ sound err in
+      let info = info_at vs in
+      let q = all_pending in
+      let lead = λ (err : Error). sym (open_is info err) ∙ sound err in
+      let units_lead = λ (err : Error). (or_parts (holes_fail info (meaning before.debug_info.0).is_plain (units_draft all_units all_kept).holes err) (lists_refer_wrong info (ends_of meaning before) all_units err) (lead err)).0 in
       record {
         kept = p.kept;
         appends = record {
-          units = units_added meaning (info_at vs) before now (meaning new.debug_info.0) (ws ++ to_write t us) (ks ++ p.kept) none all_pending f lead;
-          tables = subst (λ m. Adds (meaning before.debug_abbrev.0) m (tables_of (ws ++ to_write t us))) (sym tables) all_pending.tables;
+          units = units_added meaning info before now (meaning new.debug_info.0) all_units all_kept none.info q f.units units_lead;
+          tables = subst (λ m. Adds (meaning before.debug_abbrev.0) m (tables_of all_units)) (sym tables) q.tables;
+          lists = record {
+            located = q.lists.located;
+            locations = draft_filled (meaning before.debug_loc.0) (meaning now.debug_loc.0) _ _ _ none.loc q.lists.drafts.locations info (meaning new.debug_loc.0) f.locations;
+            location_lists = draft_filled (meaning before.debug_loclists.0) (meaning now.debug_loclists.0) _ _ _ none.loclists q.lists.drafts.location_lists info (meaning new.debug_loclists.0) f.location_lists;
+          };
         };
         keeps = p.keeps ws ks equal;
         lead = lead;
@@ -270,27 +316,20 @@ module _ {W : Type 0} (meaning : W → Meaning) (before old now : Sections W) (t
 
   -- or one of them is refused
   pub all_refused : (new : Sections W) → KeepsOtherSections old now → AppendsLines meaning old now t.line_strings t.strings us → AppendsAllRanges meaning old now us → (err : Error) →
-      (AreFillable (meaning now.debug_info.0) now.debug_info_fixups → Refused (meaning now.debug_info.0) (meaning new.debug_info.0) (Is (holes_fail (info_at vs) (meaning now.debug_info.0).is_plain now.debug_info_fixups)) err) →
+      (AreAllFillable meaning now → Because (SomeHasRisen meaning now new) (Is (open_fail meaning now (info_at vs))) err) →
       UnitsRefused meaning before old new us vs t ws ks err
   all_refused new others lines ranges err h =
-      let units = ws ++ to_write t us in
-      let kept = ks ++ p.kept in
-      let plain : (meaning now.debug_info.0).is_plain ≡ (meaning before.debug_info.0).is_plain = all_pending.units.text.same.kind in
-      let can : AreFillable (meaning now.debug_info.0) now.debug_info_fixups = record {
-        between = pending_between meaning before now units kept none all_pending;
-        widths = pending_widths meaning before now units kept none all_pending;
-      } in
-      because-map {p = Is (holes_fail (info_at vs) (meaning now.debug_info.0).is_plain now.debug_info_fixups)}
+      because-map {p = Is (open_fail meaning now (info_at vs))}
       {q = λ e. UnitsFail (meaning old.debug_info.0).is_plain t (meaning old.debug_abbrev.0).size us e ⊎ ReferencesFail meaning before us vs t ws ks e}
-      (λ r. rises_from meaning old now new others p.pending.tables.same.faults lines.text_is.same.faults ranges.ranges.same.faults ranges.range_lists.same.faults p.pending.units.text.same.faults (SomeHasRisen-info meaning now new r))
+      (λ r. rises_from meaning old now new others p.pending.tables.same.faults lines.text_is.same.faults ranges.ranges.same.faults ranges.range_lists.same.faults
+      p.pending.lists.drafts.locations.text.same.faults p.pending.lists.drafts.location_lists.text.same.faults p.pending.units.text.same.faults r)
       (λ e k. inr (record {
         kept = p.kept;
         in_row = all_pending.in_row;
         keeps = p.keeps ws ks equal;
-        fails = sym (pending_lead meaning (info_at vs) (meaning before.debug_info.0).is_plain before now units kept none all_pending e)
-            ∙ ap (λ b. holes_fail (info_at vs) b now.debug_info_fixups e) (sym plain) ∙ k;
+        fails = sym (open_is (info_at vs) e) ∙ k;
       }))
-      err (h can)
+      err (h fillable)
 
 -- a unit of the table is refused
 pub units_refused : {W : Type 0} (meaning : W → Meaning) (t : Elsewhere) (old new : Sections W) (us vs : List UnitValue) (err : Error) → Because (SomeHasRisen meaning old new) (UnitsFail (meaning old.debug_info.0).is_plain t (meaning old.debug_abbrev.0).size us) err → RefusesAny meaning old new us vs t err

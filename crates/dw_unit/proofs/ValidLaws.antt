@@ -11,7 +11,7 @@ use Rattle.dw_entries.specs.Entries.{EntryValue}
 use Rattle.dw_entries.specs.Tree.{preorder}
 use Rattle.dw_entries.specs.Targets.{Tables}
 use Rattle.dw_unit.specs.Early.{tree_is_forward}
-use Rattle.dw_unit.specs.Elsewhere.{Elsewhere, unit_tables, parts_fail}
+use Rattle.dw_unit.specs.Elsewhere.{Elsewhere, unit_tables, parts_fail, locations_fail}
 use Rattle.dw_unit.specs.Causes.{TreeFails, UnitFails}
 use Rattle.dw_unit.specs.Places.{Placement, targets_of}
 use Rattle.dw_unit.specs.UnitFaults.{is_version, is_encodable, encoding_fails, fields_fail, header_fails, marks_fail, unit_fails}
@@ -73,5 +73,6 @@ unit_unfailing plain t u table room w err fails = by_case fails
   where
     by_case : UnitFails u t table plain err → ⊥
     by_case (inl h) = encoding_sound u.encoding err w.1.encodable h
-    by_case (inr (inl h)) = not_both (parts_fail t u err) h (w.0 err)
-    by_case (inr (inr h)) = tree_unfailing plain u.encoding (settled u).entries (unit_tables t u) table room w.1 err h
+    by_case (inr (inl h)) = not_both (parts_fail t u err) h (w.0.0 err)
+    by_case (inr (inr (inl h))) = not_both (locations_fail t u err) h.fails (w.0.1 err)
+    by_case (inr (inr (inr h))) = tree_unfailing plain u.encoding (settled u).entries (unit_tables t u) table room w.1 err h

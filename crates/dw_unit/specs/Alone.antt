@@ -1,5 +1,5 @@
 -- A unit that is the only one of its file. References name no entry by its place in .debug_info.
-use Rattle.std.specs.Prelude.{◌≡◌, ◌⊎◌, ℕ, Bool, true, false, List, [], ◌∷◌, Option, Some, IsTrue}
+use Rattle.std.specs.Prelude.{◌≡◌, ◌⊎◌, ℕ, Bool, true, false, ◌||◌, List, [], ◌∷◌, Option, Some, None, IsTrue}
 use Rattle.std.specs.List.{list_any}
 use Rattle.std.specs.Option.{option_map}
 use Rattle.dw_base.specs.Entries.{Mark, Open, Null}
@@ -8,6 +8,7 @@ use Rattle.dw_base.specs.declared.error.Error.{Error}
 use Rattle.dw_base.specs.declared.error.Error.TheVariants as errors
 use Rattle.dw_writer.specs.Drafts.{Info}
 use Rattle.dw_expr.specs.References.{nodes_refer}
+use Rattle.dw_expr.specs.Trees.{Node}
 use Rattle.dw_writer.specs.Meaning.{Meaning}
 use Rattle.dw_writer.specs.Sections.{SomeHasRisen}
 use Rattle.dw_writer.specs.declared.sections.Sections.{Sections}
@@ -20,7 +21,9 @@ use Rattle.dw_unit.specs.Elsewhere.{Elsewhere}
 use Rattle.dw_entries.specs.Tree.{preorder}
 use Rattle.dw_unit.specs.Built.{Numbered}
 use Rattle.dw_unit.specs.Causes.{Because, UnitFails}
-use Rattle.dw_unit.specs.Pending.{Kept, kept_offsets, units_draft}
+use Rattle.dw_lists.specs.Parts.{Part}
+use Rattle.dw_lists.specs.Tables.{locations_in}
+use Rattle.dw_unit.specs.Pending.{Kept, kept_offsets, units_draft, locations_draft}
 use Rattle.dw_unit.specs.Places.{OffsetsValue, offsets_in}
 use Rattle.dw_unit.specs.UnitValue.{UnitValue}
 use Rattle.dw_unit.specs.Whole.{settled}
@@ -44,9 +47,23 @@ mark_refers es Null = false
 abbrev pub tree_refers : List EntryValue → Bool
 tree_refers es = list_any (mark_refers es) (preorder es)
 
--- some value in the tree of a unit, as it is written, does
+-- the expression of an item of a list does
+abbrev pub part_refers : Part → Bool
+part_refers p = any_refers p.expression
+  where
+    any_refers : Option (List Node) → Bool
+    any_refers None = false
+    any_refers (Some x) = nodes_refer x
+
+abbrev pub list_refers : List Part → Bool
+list_refers ps = list_any part_refers ps
+
+abbrev pub lists_refer : List (List Part) → Bool
+lists_refer xs = list_any list_refers xs
+
+-- some value in the tree of a unit, as it is written, does, or some location list
 abbrev pub has_info_reference : UnitValue → Bool
-has_info_reference u = tree_refers (settled u).entries
+has_info_reference u = tree_refers (settled u).entries || lists_refer (locations_in u.locations)
 
 -- a unit as the only one of its file
 abbrev pub only_unit : Tables → UnitValue → List Numbered
@@ -58,6 +75,7 @@ pub record AppendsAlone {W : Type 0} (meaning : W → Meaning) (old new : Sectio
   pub kept : Kept
   pub appends : (info : Info) → AppendsUnits meaning old new info (only_unit t u) (kept ∷ [])
   pub closed : (units_draft (only_unit t u) (kept ∷ [])).holes ≡ []
+  pub lists_closed : (five : Bool) → (locations_draft (only_unit t u) five).holes ≡ []
   pub offsets_are : option_map offsets_in offsets ≡ Some (kept_offsets kept)
 
 -- a unit fails by itself, or names an entry by its place in .debug_info

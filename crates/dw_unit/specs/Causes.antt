@@ -5,16 +5,18 @@ use Rattle.dw_base.specs.declared.error.Error.{Error}
 use Rattle.dw_base.specs.declared.error.Error.TheVariants as errors
 use Rattle.dw_writer.specs.Meaning.{Meaning}
 use Rattle.dw_writer.specs.Causes.{HasRisen}
-use Rattle.dw_writer.specs.Sections.{SomeHasRisen}
+use Rattle.dw_writer.specs.Sections.{SomeHasRisen, NoFixups}
 use Rattle.dw_writer.specs.declared.sections.Sections.{Sections}
 use Rattle.dw_entries.specs.Entries.{EntryValue}
 use Rattle.dw_entries.specs.Targets.{Tables}
-use Rattle.dw_unit.specs.Elsewhere.{Elsewhere, unit_tables, parts_fail, past_elsewhere}
+use Rattle.dw_unit.specs.Elsewhere.{Elsewhere, ends_of, unit_tables, parts_fail, has_base_address, locations_plain, past_elsewhere}
+use Rattle.dw_unit.specs.Locations.{ListsFail}
 use Rattle.dw_unit.specs.Places.{Placement, targets_of}
 use Rattle.dw_unit.specs.Built.{Numbered}
 use Rattle.dw_unit.specs.Early.{tree_is_forward}
-use Rattle.dw_unit.specs.Pending.{Kept, starts_of, AreInRow, units_draft, info_at, KeepPlaces, Pending}
-use Rattle.dw_unit.specs.UnitFaults.{encoding_fails, unit_fails, holes_fail}
+use Rattle.dw_unit.specs.Pending.{Kept, starts_of, AreInRow, info_at, KeepPlaces, Pending}
+use Rattle.dw_unit.specs.ReferenceFaults.{references_fail}
+use Rattle.dw_unit.specs.UnitFaults.{encoding_fails, unit_fails}
 use Rattle.dw_unit.specs.UnitValue.{UnitValue}
 use Rattle.dw_unit.specs.Whole.{settled, IsTreePlacement, TreeHasNoRoom}
 use Rattle.dw_unit.specs.Written.{to_write, past_table}
@@ -56,11 +58,16 @@ abbrev pub TreeFails : Encoding → List EntryValue → Tables → ℕ → Bool 
 TreeFails e es t table is_plain err =
     ((err ≡ errors.ValueTooLarge) × TreeHasNoRoom e es) ⊎ (Is (tree_is_forward e es) err ⊎ IsFaulty e es t table is_plain err)
 
+-- where its entries stand, a location list of a unit has a fault
+abbrev pub LocationsFail : UnitValue → Elsewhere → Error → Type 0
+LocationsFail u t err = ListsFail u.encoding (settled u).entries u.locations (has_base_address u.entries) (locations_plain t u) err
+
 -- a unit's version or address size has no spelling, or its line program, where it is in use, its range lists or its settled
 -- tree have a fault
 abbrev pub UnitFails : UnitValue → Elsewhere → ℕ → Bool → Error → Type 0
 UnitFails u t table is_plain err =
-    Is (encoding_fails u.encoding) err ⊎ (Is (parts_fail t u) err ⊎ TreeFails u.encoding (settled u).entries (unit_tables t u) table is_plain err)
+    Is (encoding_fails u.encoding) err
+    ⊎ (Is (parts_fail t u) err ⊎ (LocationsFail u t err ⊎ TreeFails u.encoding (settled u).entries (unit_tables t u) table is_plain err))
 
 -- why a unit is refused, which is to stand at the end of the sections
 abbrev pub UnitRefused : {W : Type 0} → (W → Meaning) → Sections W → Sections W → UnitValue → Elsewhere → Error → Type 0
@@ -77,7 +84,7 @@ pub record ReferencesFail {W : Type 0} (meaning : W → Meaning) (before : Secti
   pub kept : List Kept
   pub in_row : AreInRow (starts_of meaning before) (us ++ to_write t old_table) (ks ++ kept)
   pub keeps : KeepPlaces old_table us ks → KeepPlaces new_table (us ++ to_write t old_table) (ks ++ kept)
-  pub fails : IsTrue (holes_fail (info_at new_table) (meaning before.debug_info.0).is_plain (units_draft (us ++ to_write t old_table) (ks ++ kept)).holes err)
+  pub fails : IsTrue (references_fail (info_at new_table) (meaning before.debug_info.0).is_plain (ends_of meaning before) (us ++ to_write t old_table) (ks ++ kept) err)
 
 -- why the units of a table are refused behind those that are pending
 abbrev pub UnitsRefused : {W : Type 0} → (W → Meaning) → Sections W → Sections W → Sections W → List UnitValue → List UnitValue → Elsewhere → List Numbered → List Kept → Error → Type 0
@@ -88,5 +95,5 @@ UnitsRefused meaning before old new old_table new_table t us ks err =
 -- whatever units are pending
 abbrev pub RefusesAny : {W : Type 0} → (W → Meaning) → Sections W → Sections W → List UnitValue → List UnitValue → Elsewhere → Error → Type 0
 RefusesAny {W} meaning old new old_table new_table t err =
-    (before : Sections W) (us : List Numbered) (ks : List Kept) → before.debug_info_fixups ≡ [] → Pending meaning before old us ks →
+    (before : Sections W) (us : List Numbered) (ks : List Kept) → NoFixups before → Pending meaning before old us ks →
     UnitsRefused meaning before old new old_table new_table t us ks err

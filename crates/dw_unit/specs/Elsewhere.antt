@@ -1,66 +1,76 @@
 -- What units find and leave in other sections than .debug_info and .debug_abbrev: strings, which stand in the end, and line
--- programs and range lists, each of which stand where those before them end (DWARF 5, 2.17.3, 6.2 and 7.5.5).
-use Rattle.std.specs.Prelude.{◌≡◌, ℕ, ◌+◌, Bool, true, false, not, ◌==◌, ◌&&◌, ◌||◌, List, [], ◌∷◌, All, Option, Some, None, IsFalse, length, nat_lt, slice_get, if◌then◌else◌}
-use Rattle.std.specs.Option.{is_some}
+-- programs, range lists and location lists, each of which stand where those before them end (DWARF 5, 2.6.2, 2.17.3, 6.2 and
+-- 7.5.5).
+use Rattle.std.specs.Prelude.{◌≡◌, [], ℕ, ◌+◌, Bool, true, false, not, ◌==◌, ◌&&◌, ◌||◌, List, All, Option, Some, None, IsFalse, length, nat_lt, slice_get, if◌then◌else◌}
 use Rattle.dw_base.specs.Numbers.{when}
 use Rattle.dw_base.specs.declared.address.Address.TheVariants.{Constant}
 use Rattle.dw_base.specs.declared.common.Encoding.{Encoding}
+use Rattle.dw_lists.specs.declared.location.Location.{Location}
 use Rattle.dw_base.specs.declared.constants.TheConstants.{DW_AT_low_pc}
 use Rattle.dw_base.specs.declared.error.Error.{Error}
 use Rattle.dw_base.specs.declared.section_id.SectionId.{SectionId}
-use Rattle.dw_base.specs.declared.section_id.SectionId.TheVariants.{DebugStr, DebugLineStr, DebugLine, DebugRanges, DebugRngLists}
+use Rattle.dw_base.specs.declared.section_id.SectionId.TheVariants.{DebugStr, DebugLineStr, DebugLine, DebugRanges, DebugRngLists, DebugLoc, DebugLocLists}
 use Rattle.dw_writer.specs.Drafts.{Draft, open_text}
 use Rattle.dw_writer.specs.Meaning.{Meaning, Model, IsTidy, Appends}
 use Rattle.dw_writer.specs.declared.sections.Sections.{Sections}
 use Rattle.dw_lists.specs.Causes.{table_fails}
 use Rattle.dw_lists.specs.Items.{is_five}
-use Rattle.dw_lists.specs.Tables.{Offsets as ListOffsets, IsReadAgain, table_draft, offsets_from, no_place, ranges_in}
+use Rattle.dw_lists.specs.Tables.{Offsets as ListOffsets, IsReadAgain, table_draft, offsets_from, no_place, ranges_in, locations_in}
 use Rattle.dw_strings.specs.Strings.{string_place}
 use Rattle.dw_entries.specs.declared.value.AttributeValue.{AttributeValue}
 use Rattle.dw_entries.specs.declared.value.AttributeValue.TheVariants as values
 use Rattle.dw_entries.specs.Entries.{EntryValue, value_of}
-use Rattle.dw_entries.specs.Settled.{some_file}
 use Rattle.dw_entries.specs.Targets.{Tables}
-use Rattle.dw_line.specs.LinePrograms.{LineProgramValue, sequences_of, line_program_size, line_program_text, line_program_fails}
+use Rattle.dw_line.specs.LinePrograms.{line_program_size, line_program_text, line_program_fails}
 use Rattle.dw_line.specs.Parts.{sizes, texts, KeepsFront}
-use Rattle.dw_line.specs.SequenceTexts.{BuiltSequence}
+use Rattle.dw_unit.specs.Locations.{is_own_section, lists_fail_in, places_in_tree, entry_places, location_part}
 use Rattle.dw_unit.specs.UnitValue.{UnitValue}
+use Rattle.dw_unit.specs.Whole.{lines_in_use, settled}
 
 -- where a string of a table begins in its section, if it is there
 abbrev pub string_there : List (List ℕ) → ℕ → Option ℕ
 string_there strings i = when (nat_lt i (length strings)) (Some (string_place strings i))
 
--- Where what a unit leaves elsewhere stands: its line program, if it has one, and its range lists.
-pub record OwnPlaces : Type 0 where
+-- Where what a unit leaves elsewhere stands that hangs on no place of its entries: its line program, if it has one, and its
+-- range lists.
+pub record PartPlaces : Type 0 where
   pub line_program : Option ℕ
   pub ranges : ListOffsets
 
--- the strings of line programs, the others, and the range lists of the unit, in the section of its version
+-- The same with its location lists.
+pub record OwnPlaces : Type 0 where
+  pub line_program : Option ℕ
+  pub ranges : ListOffsets
+  pub locations : ListOffsets
+
+abbrev pub with_locations : PartPlaces → ListOffsets → OwnPlaces
+with_locations parts locations = record { line_program = parts.line_program; ranges = parts.ranges; locations = locations }
+
+-- the strings of line programs, the others, and the lists of the unit, in the sections of its version
 abbrev pub part_in : OwnPlaces → List (List ℕ) → List (List ℕ) → SectionId → ℕ → Option ℕ
 part_in own line_strings strings DebugStr i = string_there strings i
 part_in own line_strings strings DebugLineStr i = string_there line_strings i
 part_in own line_strings strings DebugRanges i = slice_get own.ranges.places i
 part_in own line_strings strings DebugRngLists i = slice_get own.ranges.places i
+part_in own line_strings strings DebugLoc i = slice_get own.locations.places i
+part_in own line_strings strings DebugLocLists i = slice_get own.locations.places i
 part_in own line_strings strings section i = None
 
--- the unit's own line program, and the first offset entry of its range lists, which they have in version 5
+-- the unit's own line program, and the first offset entries of its lists, which they have in version 5
 abbrev pub own_in : OwnPlaces → SectionId → Option ℕ
 own_in own DebugLine = own.line_program
 own_in own DebugRngLists = own.ranges.base
+own_in own DebugLocLists = own.locations.base
 own_in own section = None
 
 -- what operands lead to, where the unit's own parts stand there
 abbrev pub tables_in : OwnPlaces → List (List ℕ) → List (List ℕ) → Tables
 tables_in own line_strings strings = record { part = part_in own line_strings strings; own = own_in own }
 
--- a sequence was begun
-abbrev pub is_some_sequence : List BuiltSequence → Bool
-is_some_sequence [] = false
-is_some_sequence (s ∷ ss) = true
-
--- The unit's line program is in use: there is one, and it has a sequence, or some entry names one of its files.
-abbrev pub lines_in_use : UnitValue → Bool
-lines_in_use u = is_some u.line_program.program && (is_some_sequence (sequences_of u.line_program.program) || some_file u.entries)
+-- what the operands of a tree lead to, whose location lists are to begin there
+abbrev pub tree_tables : Encoding → List EntryValue → PartPlaces → List (List Location) → ℕ → List (List ℕ) → List (List ℕ) → Tables
+tree_tables e es parts xs at line_strings strings =
+    tables_in (with_locations parts (offsets_from true e (places_in_tree e es) at (locations_in xs))) line_strings strings
 
 -- Where a section ends that is being added to, and whether its writer is plain.
 pub record End : Type 0 where
@@ -70,14 +80,22 @@ pub record End : Type 0 where
 abbrev pub end_of : Meaning → End
 end_of m = record { size = m.size; is_plain = m.is_plain }
 
--- The same of the sections of line programs, of range lists up to version 4, and of those of version 5.
+-- The same of the sections of line programs, of range lists and of location lists, each up to version 4, and of version 5.
 pub record Ends : Type 0 where
   pub lines : End
   pub ranges : End
   pub range_lists : End
+  pub locations : End
+  pub location_lists : End
 
 abbrev pub ends_of : {W : Type 0} → (W → Meaning) → Sections W → Ends
-ends_of meaning s = record { lines = end_of (meaning s.debug_line.0); ranges = end_of (meaning s.debug_ranges.0); range_lists = end_of (meaning s.debug_rnglists.0) }
+ends_of meaning s = record {
+  lines = end_of (meaning s.debug_line.0);
+  ranges = end_of (meaning s.debug_ranges.0);
+  range_lists = end_of (meaning s.debug_rnglists.0);
+  locations = end_of (meaning s.debug_loc.0);
+  location_lists = end_of (meaning s.debug_loclists.0);
+}
 
 -- What a unit finds elsewhere: the strings of its file, and where its own parts of other sections are to stand.
 pub record Elsewhere : Type 0 where
@@ -139,17 +157,12 @@ range_places t u = range_places_at (ranges_at t u) u
 abbrev pub range_draft : UnitValue → Draft
 range_draft u = table_draft false u.encoding no_place (ranges_in u.ranges)
 
--- it stands in the section of version 5, or in that of those before it
-abbrev pub stands_in : Bool → UnitValue → Bool
-stands_in true u = is_five u.encoding
-stands_in false u = not (is_five u.encoding)
-
--- the part of it there
+-- the part of it in a section
 abbrev pub range_size : Bool → UnitValue → ℕ
-range_size five u = if stands_in five u then (range_draft u).size else 0
+range_size five u = if is_own_section five u.encoding then (range_draft u).size else 0
 
 abbrev pub range_text : Bool → UnitValue → Model
-range_text five u big l = if stands_in five u then open_text (range_draft u) big l else Some []
+range_text five u big l = if is_own_section five u.encoding then open_text (range_draft u) big l else Some []
 
 -- they have this fault in a writer that is plain or not
 abbrev pub ranges_fail_in : Bool → UnitValue → Error → Bool
@@ -162,17 +175,47 @@ ranges_fail t u err = ranges_fail_in (ranges_plain t u) u err
 abbrev pub RangesAreSound : Elsewhere → UnitValue → Type 0
 RangesAreSound t u = (err : Error) → IsFalse (ranges_fail t u err)
 
--- Both
+-- Location lists, which stand as those of the unit that is written, the settled one
+
+-- where they are to begin in the section of their version
+abbrev pub locations_at : Elsewhere → UnitValue → ℕ
+locations_at t u = if is_five u.encoding then t.ends.location_lists.size else t.ends.locations.size
+
+-- whether its writer is plain
+abbrev pub locations_plain : Elsewhere → UnitValue → Bool
+locations_plain t u = if is_five u.encoding then t.ends.location_lists.is_plain else t.ends.locations.is_plain
+
+-- where they stand
+abbrev pub location_places : Elsewhere → UnitValue → ListOffsets
+location_places t u = offsets_from true u.encoding (entry_places (settled u)) (locations_at t u) (locations_in u.locations)
+
+-- the part of their table in a section
+abbrev pub location_size : Bool → UnitValue → ℕ
+location_size five u = (location_part five (settled u)).size
+
+-- they have this fault
+abbrev pub locations_fail : Elsewhere → UnitValue → Error → Bool
+locations_fail t u err = lists_fail_in u.encoding (entry_places (settled u)) u.locations (has_base_address u.entries) (locations_plain t u) err
+
+-- they have none
+abbrev pub LocationsAreSound : Elsewhere → UnitValue → Type 0
+LocationsAreSound t u = (err : Error) → IsFalse (locations_fail t u err)
+
+-- All
+
+-- where those stand that hang on no place of an entry
+abbrev pub part_places : Elsewhere → UnitValue → PartPlaces
+part_places t u = record { line_program = line_place t u; ranges = range_places t u }
 
 -- where they stand
 abbrev pub own_places : Elsewhere → UnitValue → OwnPlaces
-own_places t u = record { line_program = line_place t u; ranges = range_places t u }
+own_places t u = with_locations (part_places t u) (location_places t u)
 
 -- what the operands of a unit lead to
 abbrev pub unit_tables : Elsewhere → UnitValue → Tables
 unit_tables t u = tables_in (own_places t u) t.line_strings t.strings
 
--- one of them has this fault
+-- one of those has this fault that hang on no place of an entry
 abbrev pub parts_fail : Elsewhere → UnitValue → Error → Bool
 parts_fail t u err = line_fails t u err || ranges_fail t u err
 
@@ -189,6 +232,8 @@ past_ends e u = record {
   lines = past_end e.lines (line_size u);
   ranges = past_end e.ranges (range_size false u);
   range_lists = past_end e.range_lists (range_size true u);
+  locations = past_end e.locations (location_size false u);
+  location_lists = past_end e.location_lists (location_size true u);
 }
 
 -- what the unit behind this one finds
@@ -241,6 +286,6 @@ pub record AppendsAllRanges {W : Type 0} (meaning : W → Meaning) (old new : Se
   pub ranges : Appends (meaning old.debug_ranges.0) (meaning new.debug_ranges.0) (sizes (new_size (range_size false)) us) (texts (new_text (range_text false)) us)
   pub range_lists : Appends (meaning old.debug_rnglists.0) (meaning new.debug_rnglists.0) (sizes (new_size (range_size true)) us) (texts (new_text (range_text true)) us)
 
--- what units with their line programs and range lists are written into stays but for these
+-- what the line programs and range lists of units are written into may change, and nothing else
 abbrev pub KeepsAllButParts : {W : Type 0} → Sections W → Sections W → Type 0
 KeepsAllButParts old new = new ≡ record old { debug_line = new.debug_line; debug_ranges = new.debug_ranges; debug_rnglists = new.debug_rnglists }

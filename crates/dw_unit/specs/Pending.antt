@@ -1,5 +1,5 @@
 -- Units that were written, with the places that they keep.
-use Rattle.std.specs.Prelude.{◌≡◌, ℕ, ◌+◌, ◌<◌, ◌^◌, List, [], ◌∷◌, ◌++◌, length, map, All, Option, Some, None, Bool, true, ◌==◌, slice_get, IsTrue, IsFalse, if◌then◌else◌}
+use Rattle.std.specs.Prelude.{◌≡◌, ℕ, ◌+◌, ◌<◌, ◌^◌, List, [], ◌∷◌, ◌++◌, length, map, All, Option, Some, None, Bool, true, false, ◌==◌, slice_get, IsTrue, IsFalse, if◌then◌else◌}
 use Rattle.std.specs.List.{flat_map}
 use Rattle.std.specs.Option.{option_map}
 use Rattle.dw_base.specs.Numbers.{◌>>=◌, length_fits}
@@ -18,6 +18,7 @@ use Rattle.dw_entries.specs.Tree.{preorder, children_in}
 use Rattle.dw_entries.specs.Values.{IsRanged}
 use Rattle.dw_unit.specs.Built.{Numbered, Starts, table_size, at_zero}
 use Rattle.dw_unit.specs.Early.{tree_is_forward}
+use Rattle.dw_unit.specs.Locations.{location_drafts, AreLocated, DraftLocations, AppendsLocations}
 use Rattle.dw_unit.specs.Places.{Placement, Offsets, OffsetsValue, offsets_in, found, placement_of, targets_of, info_from}
 use Rattle.dw_unit.specs.declared.places.Places.{Places}
 use Rattle.dw_unit.specs.UnitText.{tree_draft, unit_draft, unit_length}
@@ -54,6 +55,10 @@ units_draft (u ∷ us) (k ∷ ks) = then_draft (draft_at u k) (units_draft us ks
 -- the tables of units, one behind another
 abbrev pub tables_of : List Numbered → List ℕ
 tables_of us = flat_map (λ u. tree_table u.unit.encoding u.unit.entries) us
+
+-- the location lists of units, one behind another
+abbrev pub locations_draft : List Numbered → Bool → Draft
+locations_draft us five = location_drafts five (map (λ u. u.unit) us)
 
 -- what a unit keeps of where it stands
 abbrev pub kept_offsets : Kept → Offsets
@@ -139,21 +144,42 @@ pub record PendsTree {W : Type 0} (meaning : W → Meaning) (old new : Sections 
 pub record PendsUnit {W : Type 0} (meaning : W → Meaning) (old new : Sections W) (u : UnitValue) (t : Tables) (offsets : Option OffsetsValue) : Type 0 where
   pub kept : Kept
   pub tree : PendsTree meaning old new u.encoding u.entries t kept
+  pub lists : AppendsLocations meaning old new u
   pub offsets_are : option_map offsets_in offsets ≡ Some (kept_offsets kept)
 
+-- The location lists of units are added to the sections of their versions, and are found where they stand.
+pub record PendsLocations {W : Type 0} (meaning : W → Meaning) (old new : Sections W) (us : List Numbered) : Type 0 where
+  pub located : All (λ u. AreLocated u.unit) us
+  pub drafts : DraftLocations meaning old new (locations_draft us)
+
 -- Units that were written since some sections were handed in stand behind these, in a row, each with the places that it
--- keeps. Their references across units are open: zeros, and one fixup for each, which no relocation meets.
+-- keeps, and so do their location lists. Their references across units are open: zeros, and one fixup for each, which no
+-- relocation meets.
 pub record Pending {W : Type 0} (meaning : W → Meaning) (old new : Sections W) (us : List Numbered) (kept : List Kept) : Type 0 where
   pub in_row : AreInRow (starts_of meaning old) us kept
   pub units : Drafts (meaning old.debug_info.0) (meaning new.debug_info.0) old.debug_info_fixups new.debug_info_fixups (units_draft us kept)
   pub tables : Adds (meaning old.debug_abbrev.0) (meaning new.debug_abbrev.0) (tables_of us)
   pub there : (meaning old.debug_info.0).is_plain ≡ true → IsThereFilled (units_draft us kept)
+  pub lists : PendsLocations meaning old new us
 
 -- whatever units are pending, this one is pending behind them
 abbrev pub ExtendsPending : {W : Type 0} → (W → Meaning) → Sections W → Sections W → UnitValue → Tables → Option OffsetsValue → Type 0
 ExtendsPending {W} meaning old new u t offsets =
     (before : Sections W) (us : List Numbered) (ks : List Kept) (id : ℕ) → Pending meaning before old us ks →
     (k : Kept) × (option_map offsets_in offsets ≡ Some (kept_offsets k)) × Pending meaning before new (us ++ record { id = id; unit = u; tables = t } ∷ []) (ks ++ k ∷ [])
+
+-- A text is added in which each reference to an entry by its place in .debug_info has this place.
+pub record AddsFilled (old new : Meaning) (info : Info) (d : Draft) : Type 0 where
+  pub same : IsSameWriter old new
+  pub size : new.size ≡ old.size + d.size
+  pub tidy : IsTidy old → IsTidy new
+  pub resolves : IsTidy old → (l : Layout) → resolved l new ≡ followed (resolved l old) (filled_text info d old.is_big l)
+
+-- So are the location lists of units, which are found where they stand.
+pub record AddsLocations {W : Type 0} (meaning : W → Meaning) (old new : Sections W) (info : Info) (us : List Numbered) : Type 0 where
+  pub located : All (λ u. AreLocated u.unit) us
+  pub locations : AddsFilled (meaning old.debug_loc.0) (meaning new.debug_loc.0) info (locations_draft us false)
+  pub location_lists : AddsFilled (meaning old.debug_loclists.0) (meaning new.debug_loclists.0) info (locations_draft us true)
 
 -- Units are added whose tables begin at a place: in every layout they resolve to their text, in which each reference across
 -- units has the place of its entry. Over a plain writer the text is there.

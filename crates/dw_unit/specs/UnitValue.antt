@@ -3,6 +3,7 @@ use Rattle.std.specs.Prelude.{◌≡◌, ◌≢◌, ℕ, ◌<◌, Option, None, 
 use Rattle.dw_base.specs.declared.common.Encoding.{Encoding}
 use Rattle.dw_line.specs.LinePrograms.{LineProgramValue, no_line_program}
 use Rattle.dw_lists.specs.declared.range.Range.{Range}
+use Rattle.dw_lists.specs.declared.location.Location.{Location}
 use Rattle.dw_entries.specs.declared.value.AttributeValue.{AttributeValue}
 use Rattle.dw_entries.specs.Entries.{EntryValue, new_root, with_changed, value_of}
 use Rattle.std.specs.Option.{option_map}
@@ -14,6 +15,7 @@ pub record UnitValue : Type 0 where
   pub encoding : Encoding
   pub line_program : LineProgramValue
   pub ranges : List (List Range)
+  pub locations : List (List Location)
   pub entries : List EntryValue
   pub reserved : ℕ
   pub is_written : Bool
@@ -27,6 +29,7 @@ new_unit encoding line_program =
       encoding = encoding;
       line_program = line_program;
       ranges = [];
+      locations = [];
       entries = new_root ∷ [];
       reserved = 1;
       is_written = false;
@@ -74,4 +77,4 @@ KeepsOtherValues old new i n = (m : ℕ) → m ≢ n → value_in new i m ≡ va
 
 -- a unit that gave its line program, its lists and its entries up
 abbrev pub freed : UnitValue → UnitValue
-freed u = record u { line_program = no_line_program; ranges = []; entries = []; is_freed = true }
+freed u = record u { line_program = no_line_program; ranges = []; locations = []; entries = []; is_freed = true }

@@ -6,18 +6,20 @@ use Rattle.dw_base.specs.declared.common.Encoding.{Encoding}
 use Rattle.dw_base.specs.declared.error.Error.{Error}
 use Rattle.dw_writer.specs.Causes.{offset_fits}
 use Rattle.dw_writer.specs.Meaning.{Meaning}
+use Rattle.dw_writer.specs.Sections.{NoFixups}
 use Rattle.dw_writer.specs.declared.sections.Sections.{Sections}
 use Rattle.dw_entries.specs.Entries.{EntryValue}
 use Rattle.dw_entries.specs.Targets.{Tables}
-use Rattle.dw_unit.specs.Elsewhere.{Elsewhere, unit_tables, PartsAreSound, past_elsewhere}
+use Rattle.dw_unit.specs.Elsewhere.{Ends, Elsewhere, ends_of, unit_tables, PartsAreSound, LocationsAreSound, past_elsewhere}
 use Rattle.dw_entries.specs.Tree.{preorder}
 use Rattle.dw_unit.specs.Built.{Numbered, Starts}
 use Rattle.dw_unit.specs.Early.{tree_is_forward}
-use Rattle.dw_unit.specs.Pending.{Kept, units_draft, info_of, starts_of, AreInRow, KeepPlaces, Pending}
+use Rattle.dw_unit.specs.Pending.{Kept, info_of, starts_of, AreInRow, KeepPlaces, Pending}
 use Rattle.dw_unit.specs.Places.{Placement, targets_of}
 use Rattle.dw_unit.specs.UnitText.{unit_length}
 use Rattle.dw_unit.specs.Whole.{tree_size, settled, IsTreePlacement}
-use Rattle.dw_unit.specs.UnitFaults.{is_encodable, marks_fail, holes_fail}
+use Rattle.dw_unit.specs.ReferenceFaults.{references_fail}
+use Rattle.dw_unit.specs.UnitFaults.{is_encodable, marks_fail}
 use Rattle.dw_unit.specs.UnitValue.{UnitValue}
 use Rattle.dw_unit.specs.Written.{to_write, past_table}
 
@@ -32,25 +34,25 @@ pub record IsWritableTree (is_plain : Bool) (e : Encoding) (es : List EntryValue
   pub early : (err : Error) → IsFalse (tree_is_forward e es err)
   pub sound : (err : Error) → IsFalse (marks_fail e es (targets_of t places) is_plain (preorder es) err)
 
--- the same of a unit, settled, with its line program, where that is in use, and its range lists
+-- the same of a unit, settled, with its line program, where that is in use, and its lists
 abbrev pub IsWritable : Bool → Elsewhere → UnitValue → Type 0
-IsWritable is_plain t u = PartsAreSound t u × IsWritableTree is_plain u.encoding (settled u).entries (unit_tables t u)
+IsWritable is_plain t u = (PartsAreSound t u × LocationsAreSound t u) × IsWritableTree is_plain u.encoding (settled u).entries (unit_tables t u)
 
 -- the same of a unit whose table is to stand at a place
 abbrev pub IsWritableAt : Bool → Elsewhere → ℕ → UnitValue → Type 0
 IsWritableAt is_plain t table u = IsWritable is_plain t u × IsTrue (offset_fits is_plain (word_of u.encoding.format) table)
 
--- Each unit of a table that isn't written yet can be written where its abbreviations, its line program and its range lists
--- stand behind those of the units before it.
+-- Each unit of a table that isn't written yet can be written where its abbreviations, its line program and its lists stand
+-- behind those of the units before it.
 abbrev pub AreWritable : Bool → Elsewhere → ℕ → List UnitValue → Type 0
 AreWritable is_plain t at [] = Unit {0}
 AreWritable is_plain t at (u ∷ us) = ((u.is_written ≡ true) ⊎ IsWritableAt is_plain t at u) × AreWritable is_plain (past_elsewhere t u) (past_table at u) us
 
 -- Every reference across these units leads to an entry of one of them, whose place has room.
-pub record ReferencesLead (is_plain : Bool) (at : Starts) (us : List Numbered) : Type 0 where
+pub record ReferencesLead (is_plain : Bool) (ends : Ends) (at : Starts) (us : List Numbered) : Type 0 where
   pub kept : List Kept
   pub in_row : AreInRow at us kept
-  pub lead : (err : Error) → IsFalse (holes_fail (info_of us kept) is_plain (units_draft us kept).holes err)
+  pub lead : (err : Error) → IsFalse (references_fail (info_of us kept) is_plain ends us kept err)
 
 -- The units of a table can be written behind those that are pending, whose places the table keeps: each unit that isn't
 -- written yet can be, and every reference across all of them leads to an entry of one of them, whose place has room.
@@ -58,8 +60,8 @@ pub record CanFollow {W : Type 0} (meaning : W → Meaning) (old : Sections W) (
   pub before : Sections W
   pub units : List Numbered
   pub kept : List Kept
-  pub none_open : before.debug_info_fixups ≡ []
+  pub none_open : NoFixups before
   pub pending : Pending meaning before old units kept
   pub keeps : KeepPlaces table units kept
   pub writable : AreWritable (meaning old.debug_info.0).is_plain t (meaning old.debug_abbrev.0).size table
-  pub references : ReferencesLead (meaning before.debug_info.0).is_plain (starts_of meaning before) (units ++ to_write t table)
+  pub references : ReferencesLead (meaning before.debug_info.0).is_plain (ends_of meaning before) (starts_of meaning before) (units ++ to_write t table)

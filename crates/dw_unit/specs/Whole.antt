@@ -1,5 +1,6 @@
 -- A unit as it is written: settled, in preorder, with codes.
-use Rattle.std.specs.Prelude.{◌≡◌, ◌⊎◌, ℕ, Bool, true, false, Option, Some, None, List, [], ◌∷◌, if◌then◌else◌}
+use Rattle.std.specs.Prelude.{◌≡◌, ◌⊎◌, ℕ, zero, suc, ◌&&◌, ◌||◌, Bool, true, false, Option, Some, None, List, [], ◌∷◌, length, if◌then◌else◌}
+use Rattle.std.specs.Option.{is_some}
 use Rattle.dw_base.specs.Abbreviations.{Shape, Declaration}
 use Rattle.dw_base.specs.Spelling.{header_size, table_bytes}
 use Rattle.dw_base.specs.declared.common.Encoding.{Encoding}
@@ -7,13 +8,12 @@ use Rattle.dw_abbrev.specs.Codes.{declarations}
 use Rattle.dw_entries.specs.Entries.{EntryValue}
 use Rattle.dw_entries.specs.Tree.{preorder}
 use Rattle.dw_unit.specs.DistinctShapes.{entry_shapes, distinct_shapes}
-use Rattle.dw_unit.specs.Laid.{sized, sizes_of, IsPlacement, HasNoRoom}
+use Rattle.dw_unit.specs.Laid.{sized, sizes_of, place_from, IsPlacement, HasNoRoom}
 use Rattle.dw_unit.specs.Places.{Placement, OffsetsValue}
-use Rattle.dw_entries.specs.Settled.{settled_entries}
+use Rattle.dw_entries.specs.Settled.{settled_entries, some_file}
 use Rattle.dw_entries.specs.declared.own_parts.OwnParts.{OwnParts}
 use Rattle.dw_lists.specs.Items.{is_five}
-use Rattle.dw_lists.specs.declared.range.Range.{Range}
-use Rattle.dw_unit.specs.Elsewhere.{lines_in_use}
+use Rattle.dw_line.specs.LinePrograms.{sequences_of}
 use Rattle.dw_unit.specs.UnitValue.{UnitValue}
 
 -- the different shapes of the tree's entries, in the order in which each first comes
@@ -39,17 +39,31 @@ IsTreePlacement e es p = IsPlacement (sized e es (tree_shapes e es)) es (header_
 abbrev pub TreeHasNoRoom : Encoding → List EntryValue → Type 0
 TreeHasNoRoom e es = HasNoRoom (sized e es (tree_shapes e es)) es (header_size e) (preorder es)
 
--- there is a range list
-abbrev pub is_some_list : List (List Range) → Bool
-is_some_list [] = false
-is_some_list (x ∷ xs) = true
+-- So many entries of a tree, in preorder, surely stand there: each behind all that is before it, in the sizes that the places of
+-- the entries before it give.
+abbrev pub surer_places : Encoding → List EntryValue → ℕ → ℕ → ℕ
+surer_places e es zero i = 0
+surer_places e es (suc n) i = place_from (sized e es (tree_shapes e es) (surer_places e es n)) es (header_size e) (preorder es) i
+
+-- where the entries of a tree stand, which has no more of them than marks: in THE placement, where there is one
+abbrev pub tree_places : Encoding → List EntryValue → ℕ → ℕ
+tree_places e es = surer_places e es (length (preorder es))
+
+-- there is one
+abbrev pub is_some_of : {X : Type 0} → List X → Bool
+is_some_of [] = false
+is_some_of (x ∷ xs) = true
+
+-- The unit's line program is in use: there is one, and it has a sequence, or some entry names one of its files.
+abbrev pub lines_in_use : UnitValue → Bool
+lines_in_use u = is_some u.line_program.program && (is_some_of (sequences_of u.line_program.program) || some_file u.entries)
 
 -- What the root of a unit names of its own parts of other sections: its line program, where that is in use, and in version 5
--- its range lists. There are no location lists.
+-- its range lists and its location lists.
 abbrev pub parts_with : Bool → UnitValue → OwnParts
 parts_with line_program u = record {
   line_program = line_program;
-  lists = if is_five u.encoding then Some (record { ranges = is_some_list u.ranges; locations = false }) else None;
+  lists = if is_five u.encoding then Some (record { ranges = is_some_of u.ranges; locations = is_some_of u.locations }) else None;
 }
 
 -- a unit whose root names these parts, and has its base types first

@@ -1,15 +1,16 @@
 -- What writing units adds to the sections.
-use Rattle.std.specs.Prelude.{◌≡◌, ◌⊎◌, ℕ, suc, ◌+◌, true, false, Option, Some, List, [], ◌∷◌, ◌++◌, length, IsFalse, if◌then◌else◌}
+use Rattle.std.specs.Prelude.{◌≡◌, ◌⊎◌, ℕ, suc, ◌+◌, true, false, Some, List, [], ◌∷◌, ◌++◌, length, IsFalse, if◌then◌else◌}
 use Rattle.std.specs.Option.{option_map}
 use Rattle.dw_writer.specs.Meaning.{Meaning, Adds}
 use Rattle.dw_writer.specs.Drafts.{Info}
+use Rattle.dw_writer.specs.Sections.{NoFixups}
 use Rattle.dw_base.specs.declared.error.Error.{Error}
 use Rattle.dw_writer.specs.declared.sections.Sections.{Sections}
-use Rattle.dw_unit.specs.Elsewhere.{Elsewhere, unit_tables, past_parts, AppendsLine, AppendsRanges}
+use Rattle.dw_unit.specs.Elsewhere.{Elsewhere, ends_of, unit_tables, past_parts, AppendsLine, AppendsRanges}
 use Rattle.dw_unit.specs.Built.{Numbered, Starts, table_size, settled_at}
-use Rattle.dw_unit.specs.Pending.{Kept, units_draft, past_kept, tables_of, info_at, kept_offsets, KeepPlaces, Stands, PendsUnit, Pending, AddsUnits}
+use Rattle.dw_unit.specs.Pending.{Kept, past_kept, tables_of, info_at, kept_offsets, KeepPlaces, Stands, PendsUnit, Pending, AddsUnits, AddsLocations}
 use Rattle.dw_unit.specs.Places.{offsets_in}
-use Rattle.dw_unit.specs.UnitFaults.{holes_fail}
+use Rattle.dw_unit.specs.ReferenceFaults.{references_fail}
 use Rattle.dw_unit.specs.UnitValue.{UnitValue}
 use Rattle.dw_unit.specs.Whole.{settled, marked_written, IsRefused}
 
@@ -26,11 +27,13 @@ to_write t us = to_write_from 0 t us
 abbrev pub past_table : ℕ → UnitValue → ℕ
 past_table at u = if u.is_written then at else at + table_size (settled u)
 
--- Settled units at the end of .debug_info, each of which tells the place of its table, and these tables at the end of
--- .debug_abbrev. References across units hold these places.
+-- Settled units at the end of .debug_info, each of which tells the place of its table, these tables at the end of
+-- .debug_abbrev, and their location lists at the end of the sections of their versions. References across units hold these
+-- places.
 pub record AppendsUnits {W : Type 0} (meaning : W → Meaning) (old new : Sections W) (info : Info) (us : List Numbered) (kept : List Kept) : Type 0 where
   pub units : AddsUnits (meaning old.debug_info.0) (meaning new.debug_info.0) (meaning old.debug_abbrev.0).size info us kept
   pub tables : Adds (meaning old.debug_abbrev.0) (meaning new.debug_abbrev.0) (tables_of us)
+  pub lists : AddsLocations meaning old new info us
 
 -- The units of a table are pending behind what the sections held. Where the table kept the places of some units, it keeps
 -- those of all of them.
@@ -45,11 +48,11 @@ pub record CompletesPending {W : Type 0} (meaning : W → Meaning) (before new :
   pub kept : List Kept
   pub appends : AppendsUnits meaning before new (info_at new_table) (us ++ to_write t old_table) (ks ++ kept)
   pub keeps : KeepPlaces old_table us ks → KeepPlaces new_table (us ++ to_write t old_table) (ks ++ kept)
-  pub lead : (err : Error) → IsFalse (holes_fail (info_at new_table) (meaning before.debug_info.0).is_plain (units_draft (us ++ to_write t old_table) (ks ++ kept)).holes err)
+  pub lead : (err : Error) → IsFalse (references_fail (info_at new_table) (meaning before.debug_info.0).is_plain (ends_of meaning before) (us ++ to_write t old_table) (ks ++ kept) err)
 
 abbrev pub CompletesAny : {W : Type 0} → (W → Meaning) → Sections W → Sections W → List UnitValue → List UnitValue → Elsewhere → Type 0
 CompletesAny {W} meaning old new old_table new_table t =
-    (before : Sections W) (us : List Numbered) (ks : List Kept) → before.debug_info_fixups ≡ [] → Pending meaning before old us ks →
+    (before : Sections W) (us : List Numbered) (ks : List Kept) → NoFixups before → Pending meaning before old us ks →
     CompletesPending meaning before new old_table new_table t us ks
 
 -- a unit that was written before is passed over, another one is written and marked
@@ -59,7 +62,7 @@ WritesIfNew meaning old new u v t =
     ⊎ ((u.is_written ≡ false) × (v ≡ marked_written v.offsets (settled u)) × PendsUnit meaning old new (settled u) (unit_tables t u) v.offsets
     × AppendsLine meaning old new t.line_strings t.strings u × AppendsRanges meaning old new u)
 
--- all but the sections that units with their parts are written into, and the fixups of one, stay
+-- all but the sections that units with their parts are written into, and the lists of fixups, stay
 abbrev pub KeepsOtherSections : {W : Type 0} → Sections W → Sections W → Type 0
 KeepsOtherSections old new =
     new ≡ record old {
@@ -67,8 +70,25 @@ KeepsOtherSections old new =
       debug_line = new.debug_line;
       debug_ranges = new.debug_ranges;
       debug_rnglists = new.debug_rnglists;
+      debug_loc = new.debug_loc;
+      debug_loclists = new.debug_loclists;
       debug_info = new.debug_info;
       debug_info_fixups = new.debug_info_fixups;
+      debug_loc_fixups = new.debug_loc_fixups;
+      debug_loclists_fixups = new.debug_loclists_fixups;
+    }
+
+-- the same of what a tree with its location lists is written into
+abbrev pub KeepsAllButTree : {W : Type 0} → Sections W → Sections W → Type 0
+KeepsAllButTree old new =
+    new ≡ record old {
+      debug_abbrev = new.debug_abbrev;
+      debug_loc = new.debug_loc;
+      debug_loclists = new.debug_loclists;
+      debug_info = new.debug_info;
+      debug_info_fixups = new.debug_info_fixups;
+      debug_loc_fixups = new.debug_loc_fixups;
+      debug_loclists_fixups = new.debug_loclists_fixups;
     }
 
 -- a unit that was written before stays as it is

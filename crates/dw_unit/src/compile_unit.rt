@@ -1,6 +1,6 @@
 //! A compile unit with its entries, and the table of its abbreviations.
 
-ghost use Rattle.std.specs.Prelude.{◌≡◌, ◌≢◌, ◌≤◌, ◌<◌, ◌+◌, ◌^◌, ℕ, length, map, IsTrue, IsFalse, OnOk, IfOk, IfErr};
+ghost use Rattle.std.specs.Prelude.{true, ◌≡◌, ◌⊎◌, ◌≢◌, ◌≤◌, ◌<◌, ◌+◌, ◌^◌, ℕ, length, map, IsTrue, IsFalse, OnOk, IfOk, IfErr};
 ghost use Rattle.dw_base.specs.Numbers.{is_width, length_fits, word_of};
 ghost use Rattle.dw_base.specs.declared.error.Error.{Error as AnError};
 ghost use Rattle.dw_writer.specs.Causes.{offset_fits};
@@ -13,23 +13,27 @@ ghost use Rattle.dw_entries.specs.Tree.{AreIn, marks, preorder};
 ghost use Rattle.dw_unit.specs.Causes.{Because, Refused, Is, TreeFails};
 ghost use Rattle.dw_unit.specs.Coded.{code_at};
 ghost use Rattle.dw_unit.specs.Pending.{AreMarksRanged, PendsTree, kept_in, starts_of};
-ghost use Rattle.dw_unit.specs.Places.{placement_of, FitsWords};
-ghost use Rattle.dw_unit.specs.Elsewhere.{tables_in};
+ghost use Rattle.dw_unit.specs.Places.{placement_of, known_at, FitsWords};
+ghost use Rattle.dw_lists.specs.Tables.{IsReadAgain, offsets_from, locations_in, locations_of};
+ghost use Rattle.dw_line.specs.Parts.{NoCause};
+ghost use Rattle.dw_unit.specs.Elsewhere.{tree_tables};
+ghost use Rattle.dw_unit.specs.Locations.{places_in_tree, lists_part, lists_fail_in, ListsFail, DraftLocations, AppendsLists, KeepsAllButLocations};
 ghost use Rattle.dw_unit.specs.TargetsAt.{placement_at, targets_at};
 ghost use Rattle.dw_unit.specs.UnitFaults.{is_encodable, unit_fails};
 ghost use Rattle.dw_unit.specs.UnitText.{tree_draft, unit_draft, unit_length};
 ghost use Rattle.dw_unit.specs.Valid.{IsWritableTree};
 ghost use Rattle.dw_unit.specs.Whole.{tree_shapes};
-ghost use Rattle.dw_unit.specs.Written.{KeepsOtherSections};
+ghost use Rattle.dw_unit.specs.Written.{KeepsAllButTree};
 
 use crate::body::write_items;
 use crate::codes::assign_codes;
 use crate::header::write_fields;
 use crate::layout::lay_out;
 use crate::places::Places;
-use crate::targets::{OwnPlaces, Targets};
+use crate::targets::{PartPlaces, Targets};
 use dw_base::{Encoding, Result};
 use dw_entries::{DebuggingInformationEntry, Item, flatten};
+use dw_lists::{LocationListOffsets, LocationListTable};
 use dw_strings::{LineStringTable, StringTable};
 use dw_writer::{FixupList, Sections, Writer};
 use std::alloc::Global;
@@ -76,13 +80,46 @@ fn write_compile_unit<W: Writer>(
     w.write_initial_length_at(place, length, encoding.format)
 }
 
-/// Adds a unit with its entries to `.debug_info`, and the table of its abbreviations to
-/// `.debug_abbrev`, where the unit tells the table's place.
+/// Writes location lists to the section of their version, where entries have these places, and
+/// answers where they stand.
+fn write_locations<W: Writer>(
+    locations: &LocationListTable,
+    encoding: Encoding,
+    has_base_address: bool,
+    places: &Places,
+    sections: &mut Sections<W>,
+) -> Result<LocationListOffsets>
+    ensures ok { OnOk result
+        (DraftLocations W.meaning sections.old sections.new
+        (lists_part encoding (known_at places.now) locations.now)) }
+    ensures offsets { let at = (locations_of W.meaning encoding sections.old).size in
+        IfOk result (λ r. r
+        ≡ offsets_from true encoding (known_at places.now) at (locations_in locations.now)) }
+    ensures again { OnOk result
+        (IsReadAgain true encoding (known_at places.now) (locations_in locations.now)) }
+    ensures sound { let lists = locations_of W.meaning encoding sections.old in
+        OnOk result (NoCause (lists_fail_in encoding (known_at places.now) locations.now
+        has_base_address lists.is_plain)) }
+    ensures err { let lists = locations_of W.meaning encoding sections.old in
+        IfErr result (Because (SomeHasRisen W.meaning sections.old sections.new)
+        (Is (lists_fail_in encoding (known_at places.now) locations.now has_base_address
+        lists.is_plain))) }
+    ensures others { KeepsAllButLocations sections.old sections.new }
+    ensures faults { fault_sum W.meaning sections.old ≤ fault_sum W.meaning sections.new }
+{
+    locations.write(sections, encoding, has_base_address, Some(places))
+}
+
+/// Adds a unit with its entries to `.debug_info`, the table of its abbreviations to
+/// `.debug_abbrev`, where the unit tells the table's place, and its location lists to the section
+/// of their version.
 pub(crate) fn write_tree<W: Writer>(
     alloc: Global,
     encoding: Encoding,
     entries: &[DebuggingInformationEntry],
-    own: &OwnPlaces,
+    parts: PartPlaces,
+    locations: &LocationListTable,
+    has_base_address: bool,
     line_strings: &LineStringTable,
     strings: &StringTable,
     sections: &mut Sections<W>,
@@ -90,30 +127,38 @@ pub(crate) fn write_tree<W: Writer>(
     requires encodable { IsTrue (is_encodable encoding) }
     requires linked { AreLinked entries.now }
     requires rooted { (entry_at entries.now 0).tag ≢ 0 }
-    ensures unit { IfOk result
-        (λ p. PendsTree W.meaning sections.old sections.new encoding entries.now
-        (tables_in own.now line_strings.now strings.now)
+    ensures unit { let at = (locations_of W.meaning encoding sections.old).size in
+        let tables = tree_tables encoding entries.now parts locations.now at line_strings.now
+        strings.now in
+        IfOk result
+        (λ p. PendsTree W.meaning sections.old sections.new encoding entries.now tables
         (kept_in (starts_of W.meaning sections.old) p)) }
+    ensures lists { OnOk result
+        (AppendsLists W.meaning sections.old sections.new encoding entries.now locations.now) }
+    ensures lists_sound { OnOk result
+        (NoCause (lists_fail_in encoding (places_in_tree encoding entries.now) locations.now
+        has_base_address (locations_of W.meaning encoding sections.old).is_plain)) }
     ensures room { IfOk result
         (λ p. (W.meaning sections.old.debug_info.0).size + p.end < 2 ^ 64) }
     ensures bounded { IfOk result (λ p. (i : ℕ) → (placement_of p).place i ≤ p.end) }
-    ensures writable { OnOk result
+    ensures writable { let at = (locations_of W.meaning encoding sections.old).size in
+        let tables = tree_tables encoding entries.now parts locations.now at line_strings.now
+        strings.now in
+        OnOk result
         (IsWritableTree (W.meaning sections.old.debug_info.0).is_plain encoding entries.now
-        (tables_in own.now line_strings.now strings.now)) }
+        tables) }
     ensures place { OnOk result
         (IsTrue (offset_fits (W.meaning sections.old.debug_info.0).is_plain
         (word_of encoding.format) (W.meaning sections.old.debug_abbrev.0).size)) }
-    ensures err { IfErr result
+    ensures err { let lists = locations_of W.meaning encoding sections.old in
+        let tables = tree_tables encoding entries.now parts locations.now lists.size
+        line_strings.now strings.now in
+        IfErr result
         (Because (SomeHasRisen W.meaning sections.old sections.new)
-        (TreeFails encoding entries.now
-        (tables_in own.now line_strings.now strings.now)
-        (W.meaning sections.old.debug_abbrev.0).size
-        (W.meaning sections.old.debug_info.0).is_plain)) }
-    ensures others { sections.new ≡ record sections.old {
-      debug_abbrev = sections.new.debug_abbrev;
-      debug_info = sections.new.debug_info;
-      debug_info_fixups = sections.new.debug_info_fixups;
-    } }
+        (λ e. ListsFail encoding entries.now locations.now has_base_address lists.is_plain e
+        ⊎ TreeFails encoding entries.now tables (W.meaning sections.old.debug_abbrev.0).size
+        (W.meaning sections.old.debug_info.0).is_plain e)) }
+    ensures others { KeepsAllButTree sections.old sections.new }
     ensures faults { fault_sum W.meaning sections.old ≤ fault_sum W.meaning sections.new }
 {
     let tree = flatten(alloc, entries)?;
@@ -122,9 +167,11 @@ pub(crate) fn write_tree<W: Writer>(
     let codes = assigned.codes.as_slice();
     let places = lay_out(alloc, encoding, entries, items, codes)?;
     places.check_length(encoding.format)?;
+    let lists = write_locations(locations, encoding, has_base_address, &places, sections)?;
+    let own = parts.with_locations(lists);
     let targets = Targets {
         places: &places,
-        own,
+        own: &own,
         line_strings,
         strings,
     };

@@ -3,6 +3,7 @@
 ghost use Rattle.std.specs.Prelude.{◌≡◌, ◌≢◌, ◌+◌, ◌<◌, true, false, length, None, Some, slice_get, OnOk, OnErr, IfOk, IfErr};
 ghost use Rattle.std.specs.Option.{is_some, option_map};
 ghost use Rattle.dw_base.specs.declared.error.Error.TheVariants.{NoMemory};
+ghost use Rattle.dw_writer.specs.Sections.{NoFixups};
 ghost use Rattle.dw_entries.specs.Entries.{with_added};
 ghost use Rattle.dw_unit.specs.Places.{offsets_in};
 ghost use Rattle.dw_unit.specs.UnitValue.{new_unit, offsets_of, is_reserved, IsReserved, IsSound};
@@ -11,24 +12,27 @@ use crate::compile_unit::write_tree;
 use crate::entry_mut::EntryMut;
 use crate::header::check_encoding;
 use crate::offsets::UnitOffsets;
-use crate::targets::OwnPlaces;
+use crate::targets::PartPlaces;
 use dw_base::constants::DW_AT_low_pc;
 use dw_base::{Address, DebugLineOffset, DwTag, Encoding, Error, Format, Result, UnitEntryId};
 use dw_entries::{AttributeValue, DebuggingInformationEntry, Entries, OwnLists, OwnParts};
 use dw_line::LineProgram;
-use dw_lists::{RangeListOffsets, RangeListTable};
+use dw_lists::{LocationListTable, RangeListOffsets, RangeListTable};
 use dw_strings::{LineStringTable, StringTable};
 use dw_writer::{Sections, Writer};
 use std::alloc::Global;
 use std::marker::Model;
 
-/// A unit of `.debug_info`: an encoding, a line program, range lists, and entries that ids name.
+/// A unit of `.debug_info`: an encoding, a line program, range lists and location lists, and
+/// entries that ids name.
 #[derive(Drop)]
 pub struct Unit {
     /// The unit's line program.
     pub line_program: LineProgram,
     /// The unit's range lists, which attributes name by their ids.
     pub ranges: RangeListTable,
+    /// The unit's location lists, which attributes name by their ids.
+    pub locations: LocationListTable,
     encoding: Encoding,
     pub(crate) entries: Entries,
     is_written: bool,
@@ -49,6 +53,7 @@ impl Model for Unit {
       encoding = u.encoding;
       line_program = u.line_program;
       ranges = u.ranges;
+      locations = u.locations;
       entries = u.entries.entries;
       reserved = u.entries.reserved;
       is_written = u.is_written;
@@ -68,6 +73,7 @@ impl Unit {
         Ok(Unit {
             line_program,
             ranges: RangeListTable::new(alloc),
+            locations: LocationListTable::new(alloc),
             encoding,
             entries: Entries::new(alloc)?,
             is_written: false,
@@ -242,8 +248,9 @@ impl Unit {
     ghost use Rattle.dw_unit.specs.Whole.{parts_with};
 
     /// Names the line program in the root's `DW_AT_stmt_list` where there is one in use, and in
-    /// version 5 the range lists in `DW_AT_rnglists_base` where there are some, deletes these
-    /// attributes where there is none, and moves the root's base types before its other children.
+    /// version 5 the range lists in `DW_AT_rnglists_base` and the location lists in
+    /// `DW_AT_loclists_base` where there are some, deletes these attributes where there is none, and
+    /// moves the root's base types before its other children.
     fn settle(&mut self, has_line_program: bool) -> Result<()>
         ensures ok { OnOk result
             (self.new ≡ record self.old {
@@ -263,7 +270,7 @@ impl Unit {
     {
         let lists = OwnLists {
             ranges: self.ranges.count() > 0,
-            locations: false,
+            locations: self.locations.count() > 0,
         };
         OwnParts {
             line_program: has_line_program,
@@ -276,38 +283,39 @@ impl Unit {
     ghost use Rattle.std.specs.Prelude.{◌⊎◌, ◌≤◌, [], IsFalse};
     ghost use Rattle.dw_writer.specs.Sections.{SomeHasRisen, fault_sum};
     ghost use Rattle.dw_unit.specs.Alone.{has_info_reference, AppendsAlone, AloneRefused};
-    ghost use Rattle.dw_unit.specs.Whole.{settled, marked_written};
+    ghost use Rattle.dw_unit.specs.Whole.{lines_in_use, settled, marked_written};
     ghost use Rattle.dw_unit.specs.Valid.{IsWritableAt};
     ghost use Rattle.dw_unit.specs.Pending.{PendsUnit, ExtendsPending};
     ghost use Rattle.dw_lists.specs.Tables.{ranges_of};
     ghost use Rattle.dw_line.specs.Parts.{NoCause};
-    ghost use Rattle.dw_unit.specs.Elsewhere.{elsewhere, unit_tables, own_places, parts_fail, AppendsLine, AppendsRanges, PartsAreSound, KeepsAllButParts};
-    ghost use Rattle.dw_unit.specs.Elsewhere.{lines_in_use, line_place, line_fails, LinesAreSound};
+    ghost use Rattle.dw_unit.specs.Elsewhere.{elsewhere, unit_tables, part_places, parts_fail, AppendsLine, AppendsRanges, PartsAreSound, KeepsAllButParts};
+    ghost use Rattle.dw_unit.specs.Elsewhere.{line_place, line_fails, LinesAreSound};
     ghost use Rattle.dw_unit.specs.Elsewhere.{has_base_address, range_places_at, ranges_fail_in};
     ghost use Rattle.dw_unit.specs.Written.{KeepsOtherSections};
     ghost use Rattle.dw_unit.specs.Causes.{Because, Is, UnitRefused};
 
     /// Writes the unit at the end of `.debug_info`, its abbreviation table at the end of
     /// `.debug_abbrev` (DWARF 5, 7.5.1 to 7.5.3), its line program, where it is in use, at the end
-    /// of `.debug_line` (6.2) and its range lists at the end of `.debug_rnglists` (7.28) or up to
-    /// version 4 of `.debug_ranges`, and marks it written; from then on it keeps where its entries
+    /// of `.debug_line` (6.2), its range lists at the end of `.debug_rnglists` (7.28) or up to
+    /// version 4 of `.debug_ranges`, its location lists at the end of `.debug_loclists` (7.29) or up
+    /// to version 4 of `.debug_loc`, and marks it written; from then on it keeps where its entries
     /// stand. A line program is in use where a sequence was begun in it or some entry names one of
     /// its files: then the root names its place in `DW_AT_stmt_list`, and else has no such
-    /// attribute. In version 5 the root names the first offset entry of the range lists in
-    /// `DW_AT_rnglists_base` where there are some, and else has no such attribute. The root's base
-    /// types move before its other children. References to entries by their place in `.debug_info`
-    /// are left open, with a fixup each in `debug_info_fixups`, until `UnitTable::write` fills them
-    /// in.
+    /// attribute. In version 5 the root names the first offset entries of the range lists in
+    /// `DW_AT_rnglists_base` and of the location lists in `DW_AT_loclists_base` where there are
+    /// some, and else has no such attributes. The root's base types move before its other children.
+    /// References to entries by their place in `.debug_info`, in values and in location lists, are
+    /// left open, with a fixup each in the list of their section, until `UnitTable::write` fills
+    /// them in.
     ///
     /// Refused as `UnsupportedVersion` or `UnsupportedWordSize` where the version isn't 2 to 5 or
-    /// the address size isn't 1, 2, 4 or 8, for what `LineProgram::write` or
-    /// `RangeListTable::write` refuse, where the base address of the lists is that of the root's
-    /// `DW_AT_low_pc`, unless it is a constant 0, as `InvalidAttributeValue` where a string has a
-    /// zero byte or a value names a line program that isn't in use or the base of lists that there
-    /// are none of, as `InvalidReference` where a reference within the unit names an entry outside
-    /// its tree, one by its place in `.debug_info` names a symbol, or a string or a range list
-    /// isn't in its table,
-    /// as `UnsetBranchTarget` where a branch of an expression has no target, as
+    /// the address size isn't 1, 2, 4 or 8, for what `LineProgram::write`, `RangeListTable::write`
+    /// or `LocationListTable::write` refuse, where the base address of the lists is that of the
+    /// root's `DW_AT_low_pc`, unless it is a constant 0, as `InvalidAttributeValue` where a string
+    /// has a zero byte or a value names a line program that isn't in use or the base of lists that
+    /// there are none of, as `InvalidReference` where a reference within the unit names an entry
+    /// outside its tree, one by its place in `.debug_info` names a symbol, or a string or a list
+    /// isn't in its table, as `UnsetBranchTarget` where a branch of an expression has no target, as
     /// `UnsupportedExpressionForwardReference` where an expression spells in LEB128 the place of an
     /// entry that comes later in the tree, or any place in the unit of one outside it, as
     /// `InvalidAddress` where an address is a symbol's and the writer records no relocations, as
@@ -367,9 +375,9 @@ impl Unit {
 
     /// Writes the unit as `write` does, as the only one of its file.
     ///
-    /// Refused as `write` refuses it, and as `InvalidReference` where a reference names an entry by
-    /// its place in `.debug_info`, also one of this unit: a unit alone has no number by which such
-    /// a reference could name it.
+    /// Refused as `write` refuses it, and as `InvalidReference` where a value or a location list
+    /// names an entry by its place in `.debug_info`, also one of this unit: a unit alone has no
+    /// number by which such a reference could name it.
     pub fn write_alone<W: Writer>(
         &mut self,
         sections: &mut Sections<W>,
@@ -377,7 +385,7 @@ impl Unit {
         strings: &StringTable,
     ) -> Result<()>
         requires unwritten { self.old.is_written ≡ false }
-        requires none_open { sections.old.debug_info_fixups ≡ [] }
+        requires none_open { NoFixups sections.old }
         ensures appends { OnOk result
             (AppendsAlone W.meaning sections.old sections.new (settled self.old)
             (unit_tables (elsewhere W.meaning sections.old line_strings.now strings.now) self.old)
@@ -388,7 +396,7 @@ impl Unit {
         ensures ranges { OnOk result
             (AppendsRanges W.meaning sections.old sections.new self.old) }
         ensures alone { OnOk result (IsFalse (has_info_reference self.old)) }
-        ensures closed { OnOk result (sections.new.debug_info_fixups ≡ []) }
+        ensures closed { OnOk result (NoFixups sections.new) }
         ensures writable { OnOk result
             (IsWritableAt (W.meaning sections.old.debug_info.0).is_plain
             (elsewhere W.meaning sections.old line_strings.now strings.now)
@@ -405,7 +413,7 @@ impl Unit {
         ensures faults { fault_sum W.meaning sections.old ≤ fault_sum W.meaning sections.new }
     {
         let offsets = self.write_open(sections, line_strings, strings)?;
-        if !sections.debug_info_fixups.is_empty() {
+        if has_fixups(sections) {
             return Err(Error::InvalidReference);
         }
         self.mark_written(offsets);
@@ -445,15 +453,18 @@ impl Unit {
         ensures faults { fault_sum W.meaning sections.old ≤ fault_sum W.meaning sections.new }
     {
         check_encoding(self.encoding)?;
-        let own = self.write_parts(sections, line_strings, strings)?;
-        self.settle(own.has_line_program())?;
+        let parts = self.write_parts(sections, line_strings, strings)?;
+        let based = self.has_base_address();
+        self.settle(parts.has_line_program())?;
         let start = sections.debug_info.0.len();
         let alloc = self.entries.allocator();
         let places = write_tree(
             alloc,
             self.encoding,
             self.entries.as_slice(),
-            &own,
+            parts,
+            &self.locations,
+            based,
             line_strings,
             strings,
             sections,
@@ -461,14 +472,14 @@ impl Unit {
         Ok(UnitOffsets::of(start, places))
     }
 
-    /// Writes what the unit leaves in other sections, its line program, where it is in use, and its
-    /// range lists, and answers where they stand.
+    /// Writes what the unit leaves in other sections that hangs on no place of its entries, its line
+    /// program, where it is in use, and its range lists, and answers where they stand.
     fn write_parts<W: Writer>(
         &self,
         sections: &mut Sections<W>,
         line_strings: &LineStringTable,
         strings: &StringTable,
-    ) -> Result<OwnPlaces>
+    ) -> Result<PartPlaces>
         ensures lines { OnOk result
             (AppendsLine W.meaning sections.old sections.new line_strings.now strings.now
             self.now) }
@@ -476,7 +487,7 @@ impl Unit {
             (AppendsRanges W.meaning sections.old sections.new self.now) }
         ensures places { IfOk result
             (λ p. p
-            ≡ own_places (elsewhere W.meaning sections.old line_strings.now strings.now)
+            ≡ part_places (elsewhere W.meaning sections.old line_strings.now strings.now)
             self.now) }
         ensures used { IfOk result (λ p. is_some p.line_program ≡ lines_in_use self.now) }
         ensures sound { OnOk result
@@ -493,7 +504,7 @@ impl Unit {
     {
         let line_program = self.write_line_program(sections, line_strings, strings)?;
         let ranges = self.write_ranges(sections)?;
-        Ok(OwnPlaces {
+        Ok(PartPlaces {
             line_program,
             ranges,
         })
@@ -608,7 +619,7 @@ impl Unit {
         self.is_written = true;
     }
 
-    /// Gives the line program, the range lists and the entries up, and the memory that they take.
+    /// Gives the line program, the lists and the entries up, and the memory that they take.
     /// The places of the entries stay.
     pub fn free(&mut self)
         requires { self.old.is_written ≡ true }
@@ -616,7 +627,18 @@ impl Unit {
     {
         self.line_program = LineProgram::none();
         self.ranges = RangeListTable::new(self.entries.allocator());
+        self.locations = LocationListTable::new(self.entries.allocator());
         self.entries.free();
         self.is_freed = true;
     }
+}
+
+/// Tells that the place of an entry in `.debug_info` is left open in some section.
+fn has_fixups<W>(sections: &Sections<W>) -> bool
+    ensures closed { result ≡ false → NoFixups sections.now }
+    ensures open { result ≡ true → NoFixups sections.now → ⊥ }
+{
+    !sections.debug_info_fixups.is_empty()
+        || !sections.debug_loc_fixups.is_empty()
+        || !sections.debug_loclists_fixups.is_empty()
 }

@@ -13,7 +13,7 @@ ghost use Rattle.dw_unit.specs.Whole.{IsRefused};
 ghost use Rattle.dw_unit.specs.Causes.{Because, UnitRefused, UnitsFail, RefusesAny};
 ghost use Rattle.dw_unit.specs.Written.{AreWritten, AreStopped, CompletesAny, PendsUnits, WritesIfNew, KeepsOtherSections};
 
-use crate::references::fill;
+use crate::references::fill_all;
 use crate::unit::Unit;
 use crate::unit_iter::UnitIter;
 use dw_base::{Result, UnitId};
@@ -106,10 +106,11 @@ impl UnitTable {
     }
 
     /// Writes the units that aren't written yet, each behind what `.debug_info`, `.debug_abbrev`,
-    /// for its line program `.debug_line` and for its range lists `.debug_rnglists` or
-    /// `.debug_ranges` hold, marks them written, and fills in the references
-    /// across units that are open: those of these units, and those that `Unit::write` left in
-    /// `debug_info_fixups`. After Ok the three lists of fixups are empty.
+    /// for its line program `.debug_line`, and for its lists `.debug_rnglists` and
+    /// `.debug_loclists`, or `.debug_ranges` and `.debug_loc`, hold, marks them written, and fills
+    /// in the references across units that are open: those of these units and their location
+    /// lists, and those that `Unit::write` left in the three lists of fixups. After Ok these are
+    /// empty.
     ///
     /// Refused as `Unit::write` refuses a unit that isn't written yet, and where a reference across
     /// units names an entry outside its unit's tree, or a unit that is absent or was skipped
@@ -159,25 +160,11 @@ impl UnitTable {
             (AreStopped (starts_of W.meaning sections.old)
             (elsewhere W.meaning sections.old line_strings.now strings.now) self.old self.new) }
 
-        ensures others { sections.new
-            ≡ record sections.old {
-              debug_abbrev = sections.new.debug_abbrev;
-              debug_line = sections.new.debug_line;
-              debug_ranges = sections.new.debug_ranges;
-              debug_rnglists = sections.new.debug_rnglists;
-              debug_info = sections.new.debug_info;
-              debug_info_fixups = sections.new.debug_info_fixups;
-              debug_loc_fixups = sections.new.debug_loc_fixups;
-              debug_loclists_fixups = sections.new.debug_loclists_fixups;
-            } }
+        ensures others { KeepsOtherSections sections.old sections.new }
         ensures faults { fault_sum W.meaning sections.old ≤ fault_sum W.meaning sections.new }
     {
         self.write_units(sections, line_strings, strings)?;
-        fill(
-            self.units.as_slice(),
-            &sections.debug_info_fixups,
-            &mut sections.debug_info.0,
-        )?;
+        fill_all(self.units.as_slice(), sections)?;
         sections.debug_info_fixups.clear();
         sections.debug_loc_fixups.clear();
         sections.debug_loclists_fixups.clear();

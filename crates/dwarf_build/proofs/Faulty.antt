@@ -1,10 +1,10 @@
 -- New plain sections take every Dwarf that is valid.
-use Rattle.std.specs.Prelude.{◌≡◌, true, List, []}
+use Rattle.std.specs.Prelude.{◌≡◌, true, List}
 use Rattle.std.proofs.Common.{ℕ, sym, subst, refl}
 use Rattle.dw_base.specs.declared.error.Error.{Error}
 use Rattle.dw_base.specs.declared.error.Error.TheVariants.{NoMemory}
 use Rattle.dw_writer.specs.Contents.{Meaning}
-use Rattle.dw_writer.specs.Sections.{SomeHasRisen}
+use Rattle.dw_writer.specs.Sections.{SomeHasRisen, NoFixups}
 use Rattle.dw_writer.specs.declared.sections.Sections.{Sections}
 use Rattle.dw_unit.specs.Built.{at_begin}
 use Rattle.dw_dwarf.specs.DwarfValue.{DwarfValue}
@@ -19,9 +19,9 @@ use Rattle.dwarf_build.specs.declared.status.Status.TheVariants.{WriteRefused}
 
 -- The clause of the writing call is named for the meaning and the sections that it mentions.
 pub dwarf_faulty : {W : Type 0} {meaning : W → Meaning} {old : Sections W} {Clause : Type 0} → (AreNew meaning old → Clause) → (new : Sections W) → AreNewPlain meaning old → (d : DwarfValue) (e : Error) → AreUnwritten d → (e ≡ NoMemory → ⊥) →
-    (old.debug_info_fixups ≡ [] → AreUnwritten d → DwarfRefused meaning old new d e) → (SomeHasRisen meaning old new → ⊥) → HasFault d e
+    (NoFixups old → AreUnwritten d → DwarfRefused meaning old new d e) → (SomeHasRisen meaning old new → ⊥) → HasFault d e
 dwarf_faulty {W} {meaning} {old} clause new empty d e unwritten some refused calm =
-    let fails = dwarf_fails meaning old new (AreNew-from_plain meaning old empty) calm d e some (refused empty.fixups.info unwritten) in
+    let fails = dwarf_fails meaning old new (AreNew-from_plain meaning old empty) calm d e some (refused empty.fixups unwritten) in
     subst (λ b. DwarfFails b at_begin (empty_ends b) d e) empty.writers.debug_info.plain fails
 
 -- what is said of a script that is refused

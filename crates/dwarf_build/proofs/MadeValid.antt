@@ -1,6 +1,6 @@
 -- What is generated for a number up to the most is valid.
 use Rattle.std.proofs.Common.{◌≡◌, ◌∙◌, sym, ap, subst, refl, arith, inr, ℕ, zero, suc, ◌+◌, ◌-◌, ◌*◌, ◌/◌, ◌<◌, ◌≤◌, ◌^◌, Bool, true, false, List, [], ◌∷◌, ◌++◌, length}
-use Rattle.std.specs.Prelude.{All, Some, None, is_none, IsFalse, min, ◌==◌, if◌then◌else◌}
+use Rattle.std.specs.Prelude.{All, Some, None, is_none, IsFalse, ◌||◌, min, ◌==◌, if◌then◌else◌}
 use Rattle.std.specs.Option.{option_map}
 use Rattle.std.proofs.lemmas.Bool.{lt-ltb}
 use Rattle.std.proofs.lemmas.List.{length-append}
@@ -9,15 +9,18 @@ use Rattle.dw_base.specs.Entries.{Mark, Open, Null}
 use Rattle.dw_base.specs.Numbers.{word_of, fits}
 use Rattle.dw_base.specs.declared.error.Error.{Error}
 use Rattle.dw_base.specs.declared.error.Error.TheVariants as errors
-use Rattle.dw_writer.specs.Drafts.{Draft, Info, then_draft, shifted}
+use Rattle.dw_writer.specs.Drafts.{Draft, Info, no_draft, then_draft, shifted}
+use Rattle.dw_writer.proofs.DraftLaws.{then-nothing}
 use Rattle.dw_writer.specs.declared.fixup.DebugInfoFixup.{DebugInfoFixup}
 use Rattle.dw_entries.specs.Entries.{EntryValue}
 use Rattle.dw_entries.specs.Targets.{Tables, UnitTargets}
 use Rattle.dw_unit.specs.Built.{Numbered, Starts, settled_at, numbered, numbered_from, at_begin, table_size}
 use Rattle.dw_unit.specs.Coded.{code_at}
 use Rattle.dw_unit.specs.Elsewhere.{Elsewhere, tables_in, past_parts, past_elsewhere}
-use Rattle.dw_unit.specs.Pending.{Kept, past_kept, draft_of, draft_at, units_draft, info_of, StandsAt, AreInRow}
+use Rattle.dw_unit.specs.Locations.{location_part}
+use Rattle.dw_unit.specs.Pending.{Kept, past_kept, draft_of, draft_at, units_draft, locations_draft, info_of, StandsAt, AreInRow}
 use Rattle.dw_unit.specs.Places.{targets_of}
+use Rattle.dw_unit.specs.ReferenceFaults.{lists_refer_wrong}
 use Rattle.dw_unit.specs.UnitFaults.{has_no_room, hole_fails, holes_fail}
 use Rattle.dw_unit.specs.UnitText.{entry_draft, mark_draft, marks_draft}
 use Rattle.dw_unit.specs.UnitValue.{UnitValue}
@@ -58,12 +61,12 @@ nowhere = record { line_strings = []; strings = []; ends = empty_ends true }
 
 -- there is nothing elsewhere
 abbrev no_tables : Tables
-no_tables = tables_in (record { line_program = None; ranges = record { base = None; places = [] } }) [] []
+no_tables = tables_in (record { line_program = None; ranges = record { base = None; places = [] }; locations = record { base = None; places = [] } }) [] []
 
 made_writes : (u : UnitValue) → IsMade u → IsWritable true nowhere u
 made_writes u m =
     subst (λ (v : UnitValue). IsWritable true nowhere v) (sym m.is) (
-      λ err. refl,
+      (λ err. refl, λ err. refl),
       subst (λ (v : UnitValue). IsWritableTree true v.encoding v.entries no_tables) (sym (made_settled m.from m.count)) (made_writable no_tables m.from m.count m.within m.few),
     )
 
@@ -192,7 +195,26 @@ module _ (info : Info) (first : info 0 0 ≡ Some 12) where
   holes_sound [] to err = refl
   holes_sound (h ∷ hs) to err = neither (hole_fails info true h err) (holes_fail info true hs err) (hole_sound h to.0 err) (holes_sound hs to.1 err)
 
-references_lead : (us : List UnitValue) → All IsMade us → ReferencesLead true at_begin (numbered nowhere us)
+-- There are no location lists.
+no_part : (five : Bool) (u : UnitValue) → IsMade u → location_part five (settled u) ≡ no_draft
+no_part true u m = ap (λ (v : UnitValue). location_part true (settled v)) m.is
+no_part false u m = ap (λ (v : UnitValue). location_part false (settled v)) m.is
+
+no_lists : (n : ℕ) (us : List UnitValue) → All IsMade us → (five : Bool) → locations_draft (numbered_from n nowhere us) five ≡ no_draft
+no_lists n [] made five = refl
+no_lists n (u ∷ us) made five =
+    let m = All-head IsMade u us made in
+    ap (λ t. then_draft (location_part five (settled u)) (locations_draft (numbered_from (suc n) t us) five)) (past_parts-made u m)
+    ∙ ap (then_draft (location_part five (settled u))) (no_lists (suc n) us (All-tail IsMade u us made) five)
+    ∙ then-nothing (location_part five (settled u))
+    ∙ no_part five u m
+
+lists_sound : (info : Info) (us : List UnitValue) → All IsMade us → (err : Error) → IsFalse (lists_refer_wrong info (empty_ends true) (numbered nowhere us) err)
+lists_sound info us made err =
+    ap (λ d. holes_fail info true d.holes err || holes_fail info true (locations_draft (numbered nowhere us) true).holes err) (no_lists 0 us made false)
+    ∙ ap (λ d. holes_fail info true d.holes err) (no_lists 0 us made true)
+
+references_lead : (us : List UnitValue) → All IsMade us → ReferencesLead true (empty_ends true) at_begin (numbered nowhere us)
 references_lead [] made = record { kept = []; in_row = tt; lead = λ err. refl }
 references_lead (u ∷ us) made =
     let m = All-head IsMade u us made in
@@ -202,7 +224,8 @@ references_lead (u ∷ us) made =
     record {
       kept = row;
       in_row = made_row 0 at_begin (u ∷ us) made;
-      lead = holes_sound (info_of all row) first (units_draft all row).holes (row_to_root 0 at_begin (u ∷ us) made);
+      lead = λ err. neither (holes_fail (info_of all row) true (units_draft all row).holes err) (lists_refer_wrong (info_of all row) (empty_ends true) all err)
+          (holes_sound (info_of all row) first (units_draft all row).holes (row_to_root 0 at_begin (u ∷ us) made) err) (lists_sound (info_of all row) (u ∷ us) made err);
     }
 
 -- What is generated

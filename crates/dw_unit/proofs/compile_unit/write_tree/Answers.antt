@@ -1,19 +1,26 @@
-use Rattle.std.proofs.Common.{◌∙◌, sym, ap, subst, length, refl, arith}
+use Rattle.std.proofs.Common.{◌∙◌, sym, ap, subst, length, refl, arith, inr}
 use Rattle.std.proofs.lemmas.List.{length-map}
 use Rattle.std.proofs.lemmas.Result.{err_from_is_err_and}
-use Rattle.std.specs.Prelude.{IsFalse}
+use Rattle.std.specs.Prelude.{◌≡◌, IsFalse, IsTrue}
+use Rattle.dw_base.specs.Numbers.{word_of}
+use Rattle.dw_writer.specs.Causes.{HasRisen, offset_fits}
 use Rattle.dw_base.specs.declared.error.Error.{Error}
 use Rattle.dw_writer.specs.Sections.{SomeHasRisen}
 use Rattle.dw_writer.proofs.FaultLaws.{SomeHasRisen-abbrev, SomeHasRisen-info}
 use Rattle.dw_entries.specs.Tree.{marks, mark_of, AreTagged}
 use Rattle.dw_entries.proofs.Tagged.{preorder_tagged}
-use Rattle.dw_unit.specs.Causes.{Is, TreeFails}
-use Rattle.dw_unit.specs.Places.{placement_of, targets_of}
-use Rattle.dw_unit.specs.Elsewhere.{tables_in}
+use Rattle.dw_unit.specs.Causes.{Because, Is, TreeFails}
+use Rattle.dw_unit.specs.Places.{known_at, placement_of, targets_of}
+use Rattle.dw_lists.specs.Tables.{locations_of}
+use Rattle.dw_unit.specs.Elsewhere.{tables_in, tree_tables}
+use Rattle.dw_unit.specs.Locations.{lists_part}
+use Rattle.dw_unit.specs.Pending.{PendsTree, kept_in, starts_of}
+use Rattle.dw_unit.specs.Valid.{IsWritableTree}
 use Rattle.dw_unit.specs.UnitFaults.{unit_fails}
 use Rattle.dw_unit.proofs.Faults.{because-map, bytes_because}
 use Rattle.dw_unit.proofs.PlaceSteps.{tree_distinct, tree_closes, tree_codes, tree_end, tree_placed, tree_no_room, places_fit, too_long}
 use Rattle.dw_unit.proofs.TextsThere.{unit_there}
+use Rattle.dw_unit.proofs.TreeLists.{own_tables, lists_refused, lists_none_fail, lists_append, tree_cause, rises_after, pends_after, lists_after, others_after}
 use Rattle.dw_unit.proofs.TreeWritten.{table_added, table_declared, tree_is_one, tree_few, tree_writable, tree_early, faulty, too_long_faulty, room_refused, place_fits, unit_long}
 use Rattle.dw_unit.proofs.compile_unit.write_tree.Goals as goal
 
@@ -43,114 +50,271 @@ pub returns-in_err-places-clause-err : goal.returns-in_err-places-clause-err
 returns-in_err-places-clause-err g c =
     let e = c.args.encoding in
     let es = c.args.entries.now in
+    let xs = c.args.locations.now in
     let meaning = g.W.Writer.meaning in
     let old = c.args.sections.now in
     let ms = marks c.as_slice-items.result.now in
     let tree = ap marks c.as_slice-items.ensures.value ∙ c.in_ok-tree.ensures.items in
+    let lists = locations_of meaning e old in
+    let tables = tree_tables e es c.args.parts xs lists.size c.args.line_strings.now c.args.strings.now in
+    let table = (meaning old.debug_abbrev.0).size in
+    let plain = (meaning old.debug_info.0).is_plain in
+    let cause = λ (rise : Type 0) (err : Error). tree_cause rise e es xs c.args.has_base_address lists.is_plain tables table plain err in
     let failed = err_from_is_err_and c.from_residual-in_err-places.result c.from_residual-in_err-places.ensures.1 in
     rw (failed.1, failed.2)
-    (room_refused (SomeHasRisen meaning old old) e es (tables_in c.args.own.now c.args.line_strings.now c.args.strings.now) (meaning old.debug_abbrev.0).size (meaning old.debug_info.0).is_plain _ (tree_no_room e es ms tree) ms tree c.in_err-places.field-0.0 c.in_err-places.ensures.err)
+    (cause (SomeHasRisen meaning old old) c.in_err-places.field-0.0
+    (room_refused (SomeHasRisen meaning old old) e es tables table plain _ (tree_no_room e es ms tree) ms tree c.in_err-places.field-0.0 c.in_err-places.ensures.err))
 
 pub returns-in_err-check_length-clause-err : goal.returns-in_err-check_length-clause-err
 returns-in_err-check_length-clause-err g c =
     let e = c.args.encoding in
     let es = c.args.entries.now in
+    let xs = c.args.locations.now in
     let meaning = g.W.Writer.meaning in
     let old = c.args.sections.now in
-    let p = placement_of c.in_ok-places.places in
     let ms = marks c.as_slice-items.result.now in
     let tree = ap marks c.as_slice-items.ensures.value ∙ c.in_ok-tree.ensures.items in
+    let places = c.in_ok-places.places in
+    let p = placement_of places in
     let placed = tree_placed e es p ms tree c.in_ok-places.ensures.placed in
-    let end = tree_end e es ms p.place c.in_ok-places.places.end tree c.in_ok-places.ensures.end in
+    let early = tree_early e es ms tree c.in_ok-places.ensures.early in
+    let lists = locations_of meaning e old in
+    let tables = tree_tables e es c.args.parts xs lists.size c.args.line_strings.now c.args.strings.now in
     let table = (meaning old.debug_abbrev.0).size in
     let plain = (meaning old.debug_info.0).is_plain in
+    let cause = λ (rise : Type 0) (err : Error). tree_cause rise e es xs c.args.has_base_address lists.is_plain tables table plain err in
+    let end = tree_end e es ms p.place places.end tree c.in_ok-places.ensures.end in
     let h = c.in_err-check_length.ensures.err in
-    let fails = too_long_faulty e es (tables_in c.args.own.now c.args.line_strings.now c.args.strings.now) p placed table plain (too_long e es p.place c.in_ok-places.places.end end h.1 h.2) in
+    let fails = too_long_faulty e es tables p placed table plain (too_long e es p.place places.end end h.1 h.2) in
     let failed = err_from_is_err_and c.from_residual-in_err-check_length.result c.from_residual-in_err-check_length.ensures.1 in
-    rw (failed.1, failed.2, h.0) fails
+    rw (failed.1, failed.2, h.0) (inr fails)
+
+pub returns-in_err-lists-clause-err : goal.returns-in_err-lists-clause-err
+returns-in_err-lists-clause-err g c =
+    let e = c.args.encoding in
+    let es = c.args.entries.now in
+    let xs = c.args.locations.now in
+    let meaning = g.W.Writer.meaning in
+    let old = c.args.sections.now in
+    let ms = marks c.as_slice-items.result.now in
+    let tree = ap marks c.as_slice-items.ensures.value ∙ c.in_ok-tree.ensures.items in
+    let places = c.in_ok-places.places in
+    let p = placement_of places in
+    let placed = tree_placed e es p ms tree c.in_ok-places.ensures.placed in
+    let early = tree_early e es ms tree c.in_ok-places.ensures.early in
+    let lists = locations_of meaning e old in
+    let tables = tree_tables e es c.args.parts xs lists.size c.args.line_strings.now c.args.strings.now in
+    let table = (meaning old.debug_abbrev.0).size in
+    let plain = (meaning old.debug_info.0).is_plain in
+    let cause = λ (rise : Type 0) (err : Error). tree_cause rise e es xs c.args.has_base_address lists.is_plain tables table plain err in
+    let mid = c.write_locations.new.sections in
+    let failed = err_from_is_err_and c.from_residual-in_err-lists.result c.from_residual-in_err-lists.ensures.1 in
+    rw (failed.1, failed.2)
+    (lists_refused e es places early placed (SomeHasRisen meaning old mid) xs c.args.has_base_address lists.is_plain tables table plain c.in_err-lists.field-0.0 c.in_err-lists.ensures.err)
+
+pub returns-in_err-lists-clause-others : goal.returns-in_err-lists-clause-others
+returns-in_err-lists-clause-others g c = others_after g.W.Writer.meaning c.args.sections.now c.write_locations.new.sections c.write_locations.new.sections c.in_err-lists.ensures.others refl
 
 pub returns-in_err-write-clause-err : goal.returns-in_err-write-clause-err
 returns-in_err-write-clause-err g c =
-    let failed = err_from_is_err_and c.from_residual-in_err-write.result c.from_residual-in_err-write.ensures.1 in
+    let e = c.args.encoding in
+    let es = c.args.entries.now in
+    let xs = c.args.locations.now in
     let meaning = g.W.Writer.meaning in
     let old = c.args.sections.now in
-    let new = record old { debug_abbrev = c.write.new.w } in
+    let ms = marks c.as_slice-items.result.now in
+    let tree = ap marks c.as_slice-items.ensures.value ∙ c.in_ok-tree.ensures.items in
+    let places = c.in_ok-places.places in
+    let p = placement_of places in
+    let placed = tree_placed e es p ms tree c.in_ok-places.ensures.placed in
+    let early = tree_early e es ms tree c.in_ok-places.ensures.early in
+    let lists = locations_of meaning e old in
+    let tables = tree_tables e es c.args.parts xs lists.size c.args.line_strings.now c.args.strings.now in
+    let table = (meaning old.debug_abbrev.0).size in
+    let plain = (meaning old.debug_info.0).is_plain in
+    let cause = λ (rise : Type 0) (err : Error). tree_cause rise e es xs c.args.has_base_address lists.is_plain tables table plain err in
+    let mid = c.write_locations.new.sections in
+    let others = c.in_ok-lists.ensures.others in
+    let own = tables_in c.with_locations-own.result c.args.line_strings.now c.args.strings.now in
+    let own_is = own_tables e es places early placed c.args.parts xs (locations_of meaning e old).size c.args.line_strings.now c.args.strings.now c.with_locations-own.result c.in_ok-lists.lists c.with_locations-own.ensures c.in_ok-lists.ensures.offsets in
+    let drafts = lists_part e (known_at places) xs in
+    let new = record mid { debug_abbrev = c.write.new.w } in
+    let failed = err_from_is_err_and c.from_residual-in_err-write.result c.from_residual-in_err-write.ensures.1 in
+    let rise = λ (r : HasRisen (meaning mid.debug_abbrev.0) (meaning new.debug_abbrev.0)). rises_after meaning old mid new others drafts c.in_ok-lists.ensures.ok (SomeHasRisen-abbrev meaning mid new r) in
     rw (failed.1, failed.2)
-    (bytes_because (TreeFails c.args.encoding c.args.entries.now (tables_in c.args.own.now c.args.line_strings.now c.args.strings.now) (meaning old.debug_abbrev.0).size (meaning old.debug_info.0).is_plain) (meaning old.debug_abbrev.0) (meaning new.debug_abbrev.0) (SomeHasRisen-abbrev meaning old new) c.in_err-write.field-0.0 c.in_err-write.ensures.err)
+    (cause (SomeHasRisen meaning old new) c.in_err-write.field-0.0
+    (bytes_because (TreeFails e es tables table plain) (meaning mid.debug_abbrev.0) (meaning new.debug_abbrev.0) rise c.in_err-write.field-0.0 c.in_err-write.ensures.err))
+
+pub returns-in_err-write-clause-others : goal.returns-in_err-write-clause-others
+returns-in_err-write-clause-others g c =
+    let mid = c.write_locations.new.sections in
+    others_after g.W.Writer.meaning c.args.sections.now mid (record mid { debug_abbrev = c.write.new.w }) c.in_ok-lists.ensures.others refl
 
 pub returns-in_err-write_compile_unit-clause-err : goal.returns-in_err-write_compile_unit-clause-err
 returns-in_err-write_compile_unit-clause-err g c =
     let e = c.args.encoding in
     let es = c.args.entries.now in
-    let err = rw c.len-place.ensures at c.in_err-write_compile_unit.ensures.err in
+    let xs = c.args.locations.now in
     let meaning = g.W.Writer.meaning in
     let old = c.args.sections.now in
-    let new = record old { debug_abbrev = c.write.new.w; debug_info = record { 0 = c.write_compile_unit.new.w }; debug_info_fixups = c.write_compile_unit.new.fixups } in
-    let p = placement_of c.in_ok-places.places in
+    let ms = marks c.as_slice-items.result.now in
     let tree = ap marks c.as_slice-items.ensures.value ∙ c.in_ok-tree.ensures.items in
-    let placed = tree_placed e es p (marks c.as_slice-items.result.now) tree c.in_ok-places.ensures.placed in
+    let places = c.in_ok-places.places in
+    let p = placement_of places in
+    let placed = tree_placed e es p ms tree c.in_ok-places.ensures.placed in
+    let early = tree_early e es ms tree c.in_ok-places.ensures.early in
+    let lists = locations_of meaning e old in
+    let tables = tree_tables e es c.args.parts xs lists.size c.args.line_strings.now c.args.strings.now in
     let table = (meaning old.debug_abbrev.0).size in
     let plain = (meaning old.debug_info.0).is_plain in
+    let cause = λ (rise : Type 0) (err : Error). tree_cause rise e es xs c.args.has_base_address lists.is_plain tables table plain err in
+    let mid = c.write_locations.new.sections in
+    let others = c.in_ok-lists.ensures.others in
+    let own = tables_in c.with_locations-own.result c.args.line_strings.now c.args.strings.now in
+    let own_is = own_tables e es places early placed c.args.parts xs (locations_of meaning e old).size c.args.line_strings.now c.args.strings.now c.with_locations-own.result c.in_ok-lists.lists c.with_locations-own.ensures c.in_ok-lists.ensures.offsets in
+    let drafts = lists_part e (known_at places) xs in
+    let new = record mid { debug_abbrev = c.write.new.w; debug_info = record { 0 = c.write_compile_unit.new.w }; debug_info_fixups = c.write_compile_unit.new.fixups } in
+    let err = c.in_err-write_compile_unit.field-0.0 in
+    let refused = rw c.len-place.ensures at c.in_err-write_compile_unit.ensures.err in
+    let rise = λ (r : HasRisen (meaning mid.debug_info.0) (meaning new.debug_info.0)). rises_after meaning old mid new others drafts c.in_ok-lists.ensures.ok (SomeHasRisen-info meaning mid new r) in
     let failed = err_from_is_err_and c.from_residual-in_err-write_compile_unit.result c.from_residual-in_err-write_compile_unit.ensures.1 in
-    rw (failed.1, failed.2)
-    (because-map {p = Is (unit_fails e es table (targets_of (tables_in c.args.own.now c.args.line_strings.now c.args.strings.now) p) plain)} {q = TreeFails e es (tables_in c.args.own.now c.args.line_strings.now c.args.strings.now) table plain} (SomeHasRisen-info meaning old new) (faulty e es (tables_in c.args.own.now c.args.line_strings.now c.args.strings.now) p placed table plain) c.in_err-write_compile_unit.field-0.0 err)
+    let there = (meaning mid.debug_abbrev.0).size in
+    let kind = (meaning mid.debug_info.0).is_plain in
+    let tree_fails = because-map {p = Is (unit_fails e es there (targets_of own p) kind)} {q = TreeFails e es own there kind} rise (faulty e es own p placed there kind) err refused in
+    let named = subst (λ t. Because (SomeHasRisen meaning old new) (TreeFails e es t there kind) err) own_is tree_fails in
+    let behind = subst (λ s. Because (SomeHasRisen meaning old new) (TreeFails e es tables (meaning s.debug_abbrev.0).size (meaning s.debug_info.0).is_plain) err) others named in
+    rw (failed.1, failed.2) (cause (SomeHasRisen meaning old new) err behind)
+
+pub returns-in_err-write_compile_unit-clause-others : goal.returns-in_err-write_compile_unit-clause-others
+returns-in_err-write_compile_unit-clause-others g c =
+    let mid = c.write_locations.new.sections in
+    let new = record mid { debug_abbrev = c.write.new.w; debug_info = record { 0 = c.write_compile_unit.new.w }; debug_info_fixups = c.write_compile_unit.new.fixups } in
+    others_after g.W.Writer.meaning c.args.sections.now mid new c.in_ok-lists.ensures.others refl
+
+pub returns-clause-others : goal.returns-clause-others
+returns-clause-others g c =
+    let mid = c.write_locations.new.sections in
+    let new = record mid { debug_abbrev = c.write.new.w; debug_info = record { 0 = c.write_compile_unit.new.w }; debug_info_fixups = c.write_compile_unit.new.fixups } in
+    others_after g.W.Writer.meaning c.args.sections.now mid new c.in_ok-lists.ensures.others refl
+
+pub returns-clause-lists : goal.returns-clause-lists
+returns-clause-lists g c =
+    let e = c.args.encoding in
+    let es = c.args.entries.now in
+    let xs = c.args.locations.now in
+    let meaning = g.W.Writer.meaning in
+    let old = c.args.sections.now in
+    let ms = marks c.as_slice-items.result.now in
+    let tree = ap marks c.as_slice-items.ensures.value ∙ c.in_ok-tree.ensures.items in
+    let places = c.in_ok-places.places in
+    let p = placement_of places in
+    let placed = tree_placed e es p ms tree c.in_ok-places.ensures.placed in
+    let early = tree_early e es ms tree c.in_ok-places.ensures.early in
+    let mid = c.write_locations.new.sections in
+    let new = record mid { debug_abbrev = c.write.new.w; debug_info = record { 0 = c.write_compile_unit.new.w }; debug_info_fixups = c.write_compile_unit.new.fixups } in
+    lists_after meaning old mid new c.in_ok-lists.ensures.others refl e es xs (lists_append e es places early placed meaning old mid xs c.in_ok-lists.ensures.again c.in_ok-lists.ensures.ok)
+
+pub returns-clause-lists_sound : goal.returns-clause-lists_sound
+returns-clause-lists_sound g c =
+    let e = c.args.encoding in
+    let es = c.args.entries.now in
+    let xs = c.args.locations.now in
+    let meaning = g.W.Writer.meaning in
+    let old = c.args.sections.now in
+    let ms = marks c.as_slice-items.result.now in
+    let tree = ap marks c.as_slice-items.ensures.value ∙ c.in_ok-tree.ensures.items in
+    let places = c.in_ok-places.places in
+    let p = placement_of places in
+    let placed = tree_placed e es p ms tree c.in_ok-places.ensures.placed in
+    let early = tree_early e es ms tree c.in_ok-places.ensures.early in
+    lists_none_fail e es places early placed xs c.args.has_base_address (locations_of meaning e old).is_plain c.in_ok-lists.ensures.sound
 
 pub returns-clause-writable : goal.returns-clause-writable
 returns-clause-writable g c =
     let e = c.args.encoding in
     let es = c.args.entries.now in
+    let xs = c.args.locations.now in
     let meaning = g.W.Writer.meaning in
     let old = c.args.sections.now in
-    let p = placement_of c.in_ok-places.places in
     let ms = marks c.as_slice-items.result.now in
     let tree = ap marks c.as_slice-items.ensures.value ∙ c.in_ok-tree.ensures.items in
+    let places = c.in_ok-places.places in
+    let p = placement_of places in
     let placed = tree_placed e es p ms tree c.in_ok-places.ensures.placed in
-    let end = tree_end e es ms p.place c.in_ok-places.places.end tree c.in_ok-places.ensures.end in
+    let early = tree_early e es ms tree c.in_ok-places.ensures.early in
+    let mid = c.write_locations.new.sections in
+    let others = c.in_ok-lists.ensures.others in
+    let own = tables_in c.with_locations-own.result c.args.line_strings.now c.args.strings.now in
+    let own_is = own_tables e es places early placed c.args.parts xs (locations_of meaning e old).size c.args.line_strings.now c.args.strings.now c.with_locations-own.result c.in_ok-lists.lists c.with_locations-own.ensures c.in_ok-lists.ensures.offsets in
+    let drafts = lists_part e (known_at places) xs in
+    let end = tree_end e es ms p.place places.end tree c.in_ok-places.ensures.end in
     let sound = rw c.len-place.ensures at c.in_ok-write_compile_unit.ensures.sound in
-    tree_writable e es (tables_in c.args.own.now c.args.line_strings.now c.args.strings.now) p placed (meaning old.debug_abbrev.0).size (meaning old.debug_info.0).is_plain c.requires.encodable (tree_early e es ms tree c.in_ok-places.ensures.early) c.in_ok-places.places.end end (omega arith) c.in_ok-write_compile_unit.ensures.fits sound
+    let can = tree_writable e es own p placed (meaning mid.debug_abbrev.0).size (meaning mid.debug_info.0).is_plain c.requires.encodable early places.end end (omega arith) c.in_ok-write_compile_unit.ensures.fits sound in
+    let named = subst (λ t. IsWritableTree (meaning mid.debug_info.0).is_plain e es t) own_is can in
+    subst (λ s. IsWritableTree (meaning s.debug_info.0).is_plain e es (tree_tables e es c.args.parts xs (locations_of meaning e old).size c.args.line_strings.now c.args.strings.now)) others named
 
 pub returns-clause-place : goal.returns-clause-place
 returns-clause-place g c =
     let e = c.args.encoding in
     let es = c.args.entries.now in
+    let xs = c.args.locations.now in
     let meaning = g.W.Writer.meaning in
     let old = c.args.sections.now in
     let p = placement_of c.in_ok-places.places in
+    let mid = c.write_locations.new.sections in
+    let own = tables_in c.with_locations-own.result c.args.line_strings.now c.args.strings.now in
     let sound = rw c.len-place.ensures at c.in_ok-write_compile_unit.ensures.sound in
-    place_fits e es (meaning old.debug_abbrev.0).size (targets_of (tables_in c.args.own.now c.args.line_strings.now c.args.strings.now) p) (meaning old.debug_info.0).is_plain sound
+    let fits = place_fits e es (meaning mid.debug_abbrev.0).size (targets_of own p) (meaning mid.debug_info.0).is_plain sound in
+    subst (λ s. IsTrue (offset_fits (meaning s.debug_info.0).is_plain (word_of e.format) (meaning s.debug_abbrev.0).size)) c.in_ok-lists.ensures.others fits
 
 pub returns-clause-room : goal.returns-clause-room
 returns-clause-room g c =
     let e = c.args.encoding in
     let es = c.args.entries.now in
-    let p = placement_of c.in_ok-places.places in
+    let xs = c.args.locations.now in
+    let meaning = g.W.Writer.meaning in
+    let old = c.args.sections.now in
     let ms = marks c.as_slice-items.result.now in
     let tree = ap marks c.as_slice-items.ensures.value ∙ c.in_ok-tree.ensures.items in
-    let end = tree_end e es ms p.place c.in_ok-places.places.end tree c.in_ok-places.ensures.end in
-    let long = unit_long e es (tables_in c.args.own.now c.args.line_strings.now c.args.strings.now) p c.len-place.result in
-    omega (arith, c.in_ok-write_compile_unit.ensures.ok.text.size, c.in_ok-write_compile_unit.ensures.room, end, long)
+    let places = c.in_ok-places.places in
+    let p = placement_of places in
+    let mid = c.write_locations.new.sections in
+    let own = tables_in c.with_locations-own.result c.args.line_strings.now c.args.strings.now in
+    let end = tree_end e es ms p.place places.end tree c.in_ok-places.ensures.end in
+    let long = unit_long e es own p c.len-place.result in
+    let same : (meaning mid.debug_info.0).size ≡ (meaning old.debug_info.0).size = ap (λ s. (meaning s.debug_info.0).size) c.in_ok-lists.ensures.others in
+    omega (arith, same, c.in_ok-write_compile_unit.ensures.ok.text.size, c.in_ok-write_compile_unit.ensures.room, end, long)
 
 pub returns-clause-unit : goal.returns-clause-unit
 returns-clause-unit g c =
     let e = c.args.encoding in
     let es = c.args.entries.now in
+    let xs = c.args.locations.now in
     let meaning = g.W.Writer.meaning in
     let old = c.args.sections.now in
     let items = c.as_slice-items.result.now in
-    let ms = marks items in
-    let shapes = c.in_ok-assigned.assigned.table in
-    let p = placement_of c.in_ok-places.places in
+    let ms = marks c.as_slice-items.result.now in
     let tree = ap marks c.as_slice-items.ensures.value ∙ c.in_ok-tree.ensures.items in
+    let places = c.in_ok-places.places in
+    let p = placement_of places in
     let placed = tree_placed e es p ms tree c.in_ok-places.ensures.placed in
+    let early = tree_early e es ms tree c.in_ok-places.ensures.early in
+    let mid = c.write_locations.new.sections in
+    let others = c.in_ok-lists.ensures.others in
+    let own = tables_in c.with_locations-own.result c.args.line_strings.now c.args.strings.now in
+    let own_is = own_tables e es places early placed c.args.parts xs (locations_of meaning e old).size c.args.line_strings.now c.args.strings.now c.with_locations-own.result c.in_ok-lists.lists c.with_locations-own.ensures c.in_ok-lists.ensures.offsets in
+    let drafts = lists_part e (known_at places) xs in
+    let new = record mid { debug_abbrev = c.write.new.w; debug_info = record { 0 = c.write_compile_unit.new.w }; debug_info_fixups = c.write_compile_unit.new.fixups } in
+    let shapes = c.in_ok-assigned.assigned.table in
     let unit = rw c.len-place.ensures at c.in_ok-write_compile_unit.ensures.ok in
-    let table = (meaning old.debug_abbrev.0).size in
+    let table = (meaning mid.debug_abbrev.0).size in
     let sound = rw c.len-place.ensures at c.in_ok-write_compile_unit.ensures.sound in
-    let fit = places_fit e.format p c.in_ok-places.places.end c.in_ok-check_length.ensures.ok c.in_ok-places.ensures.bounded in
-    record {
+    let fit = places_fit e.format p places.end c.in_ok-check_length.ensures.ok c.in_ok-places.ensures.bounded in
+    let pends : PendsTree meaning mid new e es own (kept_in (starts_of meaning mid) places) = record {
       stands = record {
         starts = refl;
         placed = placed;
-        early = tree_early e es ms tree c.in_ok-places.ensures.early;
+        early = early;
         draft = unit.is;
         encodable = c.requires.encodable;
         fits = c.in_ok-write_compile_unit.ensures.fits;
@@ -161,5 +325,7 @@ returns-clause-unit g c =
       };
       unit = unit;
       table = table_added e es ms shapes tree c.in_ok-assigned.ensures.table c.in_ok-write.ensures.ok;
-      there = λ plain. unit_there e es (tables_in c.args.own.now c.args.line_strings.now c.args.strings.now) table p fit c.requires.encodable (subst (λ b. (err : Error) → IsFalse (unit_fails e es table (targets_of (tables_in c.args.own.now c.args.line_strings.now c.args.strings.now) p) b err)) plain sound);
-    }
+      there = λ plain. unit_there e es own table p fit c.requires.encodable (subst (λ b. (err : Error) → IsFalse (unit_fails e es table (targets_of own p) b err)) plain sound);
+    } in
+    let named = subst (λ t. PendsTree meaning mid new e es t (kept_in (starts_of meaning mid) places)) own_is pends in
+    pends_after meaning old mid new others e es (tree_tables e es c.args.parts xs (locations_of meaning e old).size c.args.line_strings.now c.args.strings.now) places named

@@ -1,5 +1,5 @@
-use Rattle.std.proofs.Common.{◌≡◌, ◌∙◌, sym, ap, subst, Result, Ok, Err, IfErr, ℕ, Bool, true, false, ◌||◌, ◌+◌, ◌<◌, ◌≤◌, ◌^◌, List, length, drop, get_or, arith, refl}
-use Rattle.std.specs.Prelude.{Option, IsTrue, IsFalse}
+use Rattle.std.proofs.Common.{◌≡◌, ◌∙◌, sym, ap, subst, Result, Err, IfErr, ℕ, ◌||◌, ◌+◌, ◌<◌, ◌≤◌, ◌^◌, List, length, drop, get_or, arith}
+use Rattle.std.specs.Prelude.{Option, IsFalse}
 use Rattle.std.proofs.lemmas.Bool.{or_left}
 use Rattle.std.proofs.lemmas.List.{at_drop_more, at_drop_all}
 use Rattle.std.proofs.lemmas.Result.{err_from_is_err_and}
@@ -7,7 +7,6 @@ use Rattle.dw_base.specs.declared.common.Encoding.{Encoding}
 use Rattle.dw_base.specs.declared.error.Error.{Error}
 use Rattle.dw_base.specs.declared.error.Error.TheVariants as errors
 use Rattle.dw_entries.specs.declared.attribute.Attribute.{Attribute}
-use Rattle.dw_entries.specs.declared.value.AttributeValue.{AttributeValue}
 use Rattle.dw_entries.specs.Values.{operand_size, value_unplaced, KeepsPlaces, SizeRefused}
 use Rattle.dw_unit.specs.Early.{attributes_unplaced, ValuesUnsized}
 use Rattle.dw_unit.specs.Laid.{values_size}

@@ -1,5 +1,5 @@
-use Rattle.std.proofs.Common.{◌≡◌, ◌∙◌, sym, ap, subst, Err, true, Result}
-use Rattle.std.specs.Prelude.{Bool, Some, IsTrue, IsFalse, IfErr}
+use Rattle.std.proofs.Common.{◌∙◌, sym, ap, subst, Err, true}
+use Rattle.std.specs.Prelude.{Bool, Some, IsTrue, IfErr}
 use Rattle.std.proofs.lemmas.Bool.{or_left}
 use Rattle.std.proofs.lemmas.Result.{err_from_is_err_and}
 use Rattle.dw_base.specs.Leb128.{uleb}

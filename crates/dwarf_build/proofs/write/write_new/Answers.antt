@@ -4,7 +4,7 @@ use Rattle.dw_base.specs.Order.{is_big_of}
 use Rattle.dw_writer.proofs.FaultLaws.{SomeHasRisen-never}
 use Rattle.dw_writer.proofs.NewLemmas.{IsNewPlain-from_all_mean}
 use Rattle.dw_dwarf.specs.DwarfValue.{dwarf_in}
-use Rattle.dw_dwarf.proofs.Held.{AreNewPlain-from, same_order, orders_are}
+use Rattle.dw_dwarf.proofs.Held.{AreNewPlain-from, same_order, locations_order, location_lists_order, orders_are}
 use Rattle.dwarf_build.proofs.Faulty.{dwarf_faulty}
 use Rattle.dwarf_build.proofs.write.write_new.Goals as goal
 
@@ -16,10 +16,12 @@ returns-clause-orders c =
     let w = new.writers in
     let wrote = c.in_ok-write.ensures in
     orders_are _ (is_big_of c.args.endian)
-    (same_order _ _ _ _ _ _ new.fixups.info wrote.completes ∙ w.debug_info.order)
+    (same_order _ _ _ _ _ _ new.fixups wrote.completes ∙ w.debug_info.order)
     (wrote.lines.text_is.same.order ∙ w.debug_line.order)
     (wrote.ranges.ranges.same.order ∙ w.debug_ranges.order)
     (wrote.ranges.range_lists.same.order ∙ w.debug_rnglists.order)
+    (locations_order _ _ _ _ _ _ new.fixups wrote.completes ∙ w.debug_loc.order)
+    (location_lists_order _ _ _ _ _ _ new.fixups wrote.completes ∙ w.debug_loclists.order)
 
 pub returns-in_err-write-clause-err : goal.returns-in_err-write-clause-err
 returns-in_err-write-clause-err c =

@@ -1,4 +1,4 @@
-use Rattle.std.proofs.Common.{[], ◌∙◌, sym, ap, subst, inl, inr}
+use Rattle.std.proofs.Common.{◌∙◌, sym, ap, subst, inl, inr}
 use Rattle.std.proofs.lemmas.Result.{err_from_is_err_and}
 use Rattle.std.specs.Prelude.{◌⊎◌, IsTrue}
 use Rattle.dw_writer.proofs.Outcomes.{OnOk-map, IfErr-map, OnErr-always}
@@ -35,7 +35,7 @@ returns-in_err-write-clause-complete g c = λ empty unwritten valid calm.
     let p = err_from_is_err_and c.from_residual.result c.from_residual.ensures.1 in
     rw (p.1, p.2)
     (dwarf_complete meaning old new empty calm d valid c.in_err-write.field-0.0
-    (whole_refused meaning old new d c.write.new.self c.in_err-write.field-0.0 empty.fixups.info unwritten c.in_err-write.ensures.err))
+    (whole_refused meaning old new d c.write.new.self c.in_err-write.field-0.0 empty.fixups unwritten c.in_err-write.ensures.err))
 
 pub returns-in_err-write-clause-refused : goal.returns-in_err-write-clause-refused
 returns-in_err-write-clause-refused g c =
@@ -57,7 +57,7 @@ returns-clause-built g c =
     let programs = rw c.as_slice.ensures.value at c.write_rest.ensures.lines in
     OnOk-both c.write_rest.result programs c.write_rest.ensures.strings
     (λ lines strings empty unwritten.
-    dwarf_held meaning old new d (writes_whole meaning old new d c.write.new.self empty.fixups.info unwritten any) g.met.W.Writer.plain_records_nothing empty unwritten
+    dwarf_held meaning old new d (writes_whole meaning old new d c.write.new.self empty.fixups unwritten any) g.met.W.Writer.plain_records_nothing empty unwritten
     (lines_after meaning old mid new d c.in_ok-write.ensures.lines lines) (ranges_after meaning old mid new d.units same c.in_ok-write.ensures.ranges) c.in_ok-write.ensures.writable
     (strings_after meaning old mid new d.line_strings d.strings (ap (λ s. s.debug_line_str) others) (ap (λ s. s.debug_str) others) strings) (others_after meaning old mid new others same))
 
@@ -71,7 +71,7 @@ returns-clause-resolves g c =
     let any = completes_after meaning old mid new d.units c.write.new.self (found_in meaning old d) c.write_rest.ensures.others c.in_ok-write.ensures.completes in
     let programs = rw c.as_slice.ensures.value at c.write_rest.ensures.lines in
     OnOk-map c.write_rest.result programs
-    (λ lines empty unwritten. dwarf_resolved meaning old new d (writes_whole meaning old new d c.write.new.self empty.fixups.info unwritten any) empty unwritten (lines_after meaning old mid new d c.in_ok-write.ensures.lines lines)
+    (λ lines empty unwritten. dwarf_resolved meaning old new d (writes_whole meaning old new d c.write.new.self empty.fixups unwritten any) empty unwritten (lines_after meaning old mid new d c.in_ok-write.ensures.lines lines)
     (ranges_after meaning old mid new d.units c.write_rest.ensures.others c.in_ok-write.ensures.ranges))
 
 pub returns-clause-left : goal.returns-clause-left
@@ -86,7 +86,7 @@ returns-clause-left g c =
     let programs = rw c.as_slice.ensures.value at c.write_rest.ensures.lines in
     OnOk-both c.write_rest.result programs c.write_rest.ensures.strings
     (λ lines strings big empty unwritten.
-    dwarf_left meaning big old new d empty (writes_whole meaning old new d c.write.new.self empty.fixups.info unwritten any) unwritten (lines_after meaning old mid new d c.in_ok-write.ensures.lines lines)
+    dwarf_left meaning big old new d empty (writes_whole meaning old new d c.write.new.self empty.fixups unwritten any) unwritten (lines_after meaning old mid new d c.in_ok-write.ensures.lines lines)
     (ranges_after meaning old mid new d.units c.write_rest.ensures.others c.in_ok-write.ensures.ranges)
     (strings_after meaning old mid new d.line_strings d.strings (ap (λ s. s.debug_line_str) others) (ap (λ s. s.debug_str) others) strings))
 

@@ -1,16 +1,16 @@
-use Rattle.std.proofs.Common.{[], ◌∙◌, sym, ap, refl, inl, inr, subst}
+use Rattle.std.proofs.Common.{[], ap, refl, inr}
 use Rattle.std.proofs.lemmas.List.Elements.{All-cons, All-nil}
 use Rattle.std.proofs.lemmas.Result.{err_from_is_err_and}
-use Rattle.dw_writer.proofs.Outcomes.{OnOk-map, IfErr-map, OnErr-always}
+use Rattle.dw_writer.proofs.Outcomes.{OnOk-map, IfErr-map}
 use Rattle.dw_unit.specs.Alone.{AloneFails}
-use Rattle.dw_unit.specs.Elsewhere.{elsewhere, unit_tables, AppendsLine}
+use Rattle.dw_unit.specs.Elsewhere.{elsewhere, unit_tables}
 use Rattle.dw_unit.specs.Whole.{settled}
 use Rattle.dw_unit.proofs.Faults.{OnOk-both}
 use Rattle.dw_dwarf.specs.DwarfValue.{dwarf_of}
 use Rattle.dw_dwarf.specs.Valid.{IsUnwritten, programs_fail}
 use Rattle.dw_dwarf.proofs.Held.{dwarf_held, dwarf_resolved}
-use Rattle.dw_dwarf.proofs.OneUnit.{alone_whole, line_alone, line_behind, ranges_alone, no_program, others_kept, no_fixups, alone_complete}
-use Rattle.dw_dwarf.proofs.RestSections.{appends_after, unit_ranges_after, strings_after, rest_because, rest_memory, fixups_after}
+use Rattle.dw_dwarf.proofs.OneUnit.{alone_whole, line_alone, line_behind, ranges_alone, no_program, alone_complete}
+use Rattle.dw_dwarf.proofs.RestSections.{appends_after, unit_ranges_after, strings_after, rest_because, rest_memory, others_after, fixups_after}
 use Rattle.dw_dwarf.proofs.dwarf_unit.DwarfUnit.write.Goals as goal
 
 -- where the unit is refused
@@ -40,7 +40,7 @@ returns-clause-built g c =
     dwarf_held meaning old new (dwarf_of d.line_strings d.strings u) (alone_whole meaning old new d.line_strings d.strings u c.write_alone.new.self.offsets p) g.met.W.Writer.plain_records_nothing empty (All-cons IsUnwritten u [] c.requires.unwritten (All-nil IsUnwritten))
     (line_alone meaning old mid new d.line_strings d.strings u c.requires.unwritten c.in_ok-write_alone.ensures.lines lines)
     (ranges_alone meaning old new u c.requires.unwritten (unit_ranges_after meaning old mid new u same c.in_ok-write_alone.ensures.ranges)) (inr c.in_ok-write_alone.ensures.writable, tt)
-    (strings_after meaning old mid new d.line_strings d.strings (ap (λ s. s.debug_line_str) others) (ap (λ s. s.debug_str) others) strings) (others_kept old mid new others same))
+    (strings_after meaning old mid new d.line_strings d.strings (ap (λ s. s.debug_line_str) others) (ap (λ s. s.debug_str) others) strings) (others_after meaning old mid new others same))
 
 pub returns-clause-resolves : goal.returns-clause-resolves
 returns-clause-resolves g c =
@@ -84,9 +84,8 @@ returns-clause-strings g c =
 pub returns-clause-emptied : goal.returns-clause-emptied
 returns-clause-emptied g c =
     let mid = c.write_alone.new.sections in
-    let none = no_fixups c.args.sections.now mid c.in_ok-write_alone.ensures.others c.requires.fixups c.in_ok-write_alone.ensures.closed in
     OnOk-map c.write_rest.result c.write_rest.ensures.lines
-    (λ lines. fixups_after g.W.Writer.meaning mid c.write_rest.new.sections c.write_rest.ensures.others none)
+    (λ lines. fixups_after g.W.Writer.meaning mid c.write_rest.new.sections c.write_rest.ensures.others c.in_ok-write_alone.ensures.closed)
 
 pub returns-clause-err : goal.returns-clause-err
 returns-clause-err g c =
@@ -113,4 +112,4 @@ returns-clause-complete g c = λ writable alone calm.
 
 pub returns-clause-others : goal.returns-clause-others
 returns-clause-others g c =
-    others_kept c.args.sections.now c.write_alone.new.sections c.write_rest.new.sections c.in_ok-write_alone.ensures.others c.write_rest.ensures.others
+    others_after g.W.Writer.meaning c.args.sections.now c.write_alone.new.sections c.write_rest.new.sections c.in_ok-write_alone.ensures.others c.write_rest.ensures.others

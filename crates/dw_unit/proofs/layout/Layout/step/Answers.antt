@@ -1,13 +1,12 @@
-use Rattle.std.proofs.Common.{◌≡◌, ◌∙◌, sym, ap, subst, length}
-use Rattle.std.specs.Prelude.{ℕ, Result, Ok, Err, OnOk, IsFalse}
-use Rattle.dw_base.specs.Entries.{Mark, Open}
+use Rattle.std.proofs.Common.{◌∙◌, sym, ap, subst, length}
+use Rattle.std.specs.Prelude.{Result, Ok, Err, OnOk, IsFalse}
+use Rattle.dw_base.specs.Entries.{Open}
 use Rattle.dw_base.specs.declared.error.Error.{Error}
 use Rattle.dw_entries.specs.Entries.{EntryValue}
 use Rattle.dw_entries.specs.Tree.{IsIn, mark_of}
 use Rattle.dw_entries.proofs.ChildReads.{indexed}
 use Rattle.dw_unit.specs.Early.{attributes_unplaced, mark_unplaced}
 use Rattle.dw_unit.specs.Laying.{LayoutValue, layout_value, begun, known_in}
-use Rattle.dw_unit.specs.Places.{known_at}
 use Rattle.dw_unit.proofs.layout.Layout.step.Goals as goal
 
 on_ok : (r : Result (Unit {0}) Error) (P : Type 0) → P → OnOk r P

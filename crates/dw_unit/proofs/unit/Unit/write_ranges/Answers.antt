@@ -1,4 +1,4 @@
-use Rattle.std.proofs.Common.{◌≡◌, None, false, subst}
+use Rattle.std.proofs.Common.{None, false, subst}
 use Rattle.std.specs.Prelude.{IfErr, OnOk}
 use Rattle.dw_writer.proofs.Outcomes.{IfErr-map}
 use Rattle.dw_lists.specs.Causes.{Refused, Is, IsNone, table_fails}
