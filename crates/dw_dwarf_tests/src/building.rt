@@ -3,8 +3,9 @@
 use dw_base::DebugMacroOffset;
 use dw_base::constants::DW_AT_sibling;
 use dw_dwarf::{
-    Address, AttributeValue, Bytes, DebugInfoRef, DwAt, DwTag, EntryMut, Error, Range, RangeList,
-    RangeListId, Result, Unit, UnitEntryId,
+    Address, AttributeValue, Bytes, DebugInfoRef, DwAt, DwTag, EntryMut, Error, Expression,
+    Location, LocationList, LocationListId, Range, RangeList, RangeListId, Result, Unit,
+    UnitEntryId,
 };
 use std::alloc::Global;
 
@@ -18,6 +19,7 @@ pub(crate) enum Value {
     Address(Address),
     Macros(usize),
     Ranges(usize),
+    Locations(usize),
 }
 
 /// A call of a handle of an entry.
@@ -43,6 +45,9 @@ pub(crate) enum Call {
     Change(usize, Change),
     /// A range list of one item.
     List(Range),
+    /// A location list of one item: 16 bytes from an address on, where the object is what the
+    /// expression of another entry tells.
+    Located(Address, DebugInfoRef),
     Skip,
 }
 
@@ -57,6 +62,7 @@ pub(crate) fn value_of(alloc: Global, value: &Value) -> Result<AttributeValue> {
         Value::Address(address) => AttributeValue::Address(*address),
         Value::Macros(place) => AttributeValue::DebugMacroRef(DebugMacroOffset(*place)),
         Value::Ranges(index) => AttributeValue::RangeListRef(RangeListId::new(*index)),
+        Value::Locations(index) => AttributeValue::LocationListRef(LocationListId::new(*index)),
     })
 }
 
@@ -122,6 +128,19 @@ fn add_reserved(
     Ok(())
 }
 
+/// Adds a location list of one item, whose expression calls that of another entry.
+fn locate(alloc: Global, unit: &mut Unit, begin: Address, entry: DebugInfoRef) -> Result<()> {
+    let mut expression = Expression::new(alloc);
+    expression.op_call_ref(entry)?;
+    let item = Location::StartLength {
+        begin,
+        length: 16,
+        expression,
+    };
+    unit.locations.add(LocationList(vec![in alloc; item]?))?;
+    Ok(())
+}
+
 /// Makes a call of a unit. One that the unit's state forbids is `InvalidReference`.
 fn make_call(alloc: Global, unit: &mut Unit, call: &Call) -> Result<()> {
     let takes_entries = !unit.is_freed() && unit.reserved() < usize::MAX;
@@ -145,6 +164,7 @@ fn make_call(alloc: Global, unit: &mut Unit, call: &Call) -> Result<()> {
             unit.ranges.add(RangeList(vec![in alloc; *range]?))?;
             Ok(())
         }
+        Call::Located(begin, entry) => locate(alloc, unit, *begin, *entry),
         Call::Skip if !unit.is_written() => {
             unit.skip();
             Ok(())

@@ -6,7 +6,8 @@ use crate::building::{Call, Change, Value, make_calls};
 use crate::plans::{ROOT_INFO, ROOT_TABLE, VERSION_5, new_sections, place_of};
 use dw_base::constants::{DW_AT_type, DW_TAG_base_type};
 use dw_dwarf::{
-    DebugInfoRef, DwarfUnit, Error, LineString, LittleEndian, Result, Sections, UnitEntryId, UnitId,
+    Address, DebugInfoRef, DwarfUnit, Error, LineString, LittleEndian, Result, Sections,
+    UnitEntryId, UnitId,
 };
 use dw_writer::FaultVec;
 use std::alloc::Global;
@@ -19,6 +20,9 @@ const NAMES_FIRST_ROOT: &[Call] = &[
     Call::Add(0, DW_TAG_base_type),
     Call::Change(1, Change::Set(DW_AT_type, Value::InfoRef(FIRST_ROOT))),
 ];
+
+/// A location list that names it, and no attribute that names the list.
+const LISTS_FIRST_ROOT: &[Call] = &[Call::Located(Address::Constant(0), FIRST_ROOT)];
 
 /// What came of a unit that was written alone: why it was refused, whether a root alone is all that
 /// was written, how many entries it has, and where its root stands.
@@ -64,11 +68,13 @@ fn writes_a_unit_alone(rt: HostRuntime) -> std::result::Result<(), Fail> {
     assert_eq!(rt;
         (
             write_alone(rt.alloc(), &[])?,
-            write_alone(rt.alloc(), NAMES_FIRST_ROOT)?
+            write_alone(rt.alloc(), NAMES_FIRST_ROOT)?,
+            write_alone(rt.alloc(), LISTS_FIRST_ROOT)?
         ),
         (
             (None, true, 1, Some((12, 12))),
-            (Some(Error::InvalidReference), false, 2, None)
+            (Some(Error::InvalidReference), false, 2, None),
+            (Some(Error::InvalidReference), false, 1, None)
         )
     );
     Ok(())

@@ -2,7 +2,7 @@
 
 use crate::building::{Call, Change, Value};
 use crate::plans::{Outcome, Plan, ROOT, write_units};
-use dw_base::constants::{DW_AT_low_pc, DW_AT_macros, DW_AT_ranges, DW_AT_type};
+use dw_base::constants::{DW_AT_location, DW_AT_low_pc, DW_AT_macros, DW_AT_ranges, DW_AT_type};
 use dw_dwarf::{
     Address, DebugInfoRef, Error, LittleEndian, Range, Result, SectionId, Sections, UnitEntryId,
     UnitId,
@@ -20,6 +20,7 @@ struct Row {
     abbrevs: &'static [u8],
     in_info: &'static [Relocation],
     in_lists: &'static [Relocation],
+    in_locations: &'static [Relocation],
 }
 
 /// What a linker puts into the first unit: the start of the table's section.
@@ -37,14 +38,19 @@ const SYMBOL: Address = Address::Symbol {
     addend: 16,
 };
 
+/// Where symbol 0 is.
+const FIRST_SYMBOL: Address = Address::Symbol {
+    symbol: 0,
+    addend: 0,
+};
+
 /// 16 bytes behind symbol 0.
 const RANGE: Range = Range::StartLength {
-    begin: Address::Symbol {
-        symbol: 0,
-        addend: 0,
-    },
+    begin: FIRST_SYMBOL,
     length: 16,
 };
+
+const OWN_ROOT: DebugInfoRef = DebugInfoRef::Entry(UnitId(0), UnitEntryId(0));
 
 const NEXT_ROOT: DebugInfoRef = DebugInfoRef::Entry(UnitId(1), UnitEntryId(0));
 
@@ -83,6 +89,7 @@ const ROWS: &[Row] = &[
             },
         ],
         in_lists: &[],
+        in_locations: &[],
     },
     // The table of the second unit stands at 8, and its root at 12 behind the 17 bytes of the
     // first. The reference comes last, as it is filled in once both units stand.
@@ -116,6 +123,7 @@ const ROWS: &[Row] = &[
             },
         ],
         in_lists: &[],
+        in_locations: &[],
     },
     // The index of the list and its offset entry hang on no section's start, but the place of the
     // first offset entry does (DWARF 5, 7.28).
@@ -146,6 +154,48 @@ const ROWS: &[Row] = &[
             target: RelocationTarget::Symbol(0),
             ..FIRST_TABLE
         }],
+        in_locations: &[],
+    },
+    // The table has a header of 12 bytes, the list's entry, and at 16 the list: the kind
+    // DW_LLE_start_length, the address at 17, one byte each for the length and for that of the
+    // expression, and at 27 DW_OP_call_ref with the root's place, which is put in last, as it is
+    // filled in once the unit stands (DWARF 5, 2.6.2, 7.7.1 and 7.29).
+    Row {
+        name: "a location list that names an entry",
+        units: &[Plan {
+            calls: &[
+                Call::Located(FIRST_SYMBOL, OWN_ROOT),
+                Call::Change(0, Change::Set(DW_AT_location, Value::Locations(0))),
+            ],
+            ..ROOT
+        }],
+        refusal: None,
+        info: &[14, 0, 0, 0, 5, 0, 1, 8, 0, 0, 0, 0, 1, 0, 0, 0, 0, 0],
+        abbrevs: &[1, 0x11, 0, 2, 0x22, 0x8c, 1, 0x17, 0, 0, 0],
+        in_info: &[
+            FIRST_TABLE,
+            Relocation {
+                offset: 14,
+                target: RelocationTarget::Section(SectionId::DebugLocLists),
+                addend: 12,
+                ..FIRST_TABLE
+            },
+        ],
+        in_lists: &[],
+        in_locations: &[
+            Relocation {
+                offset: 17,
+                size: 8,
+                target: RelocationTarget::Symbol(0),
+                ..FIRST_TABLE
+            },
+            Relocation {
+                offset: 28,
+                target: RelocationTarget::Section(SectionId::DebugInfo),
+                addend: 12,
+                ..FIRST_TABLE
+            },
+        ],
     },
     // A writer that records takes no offset that isn't below 2^63.
     Row {
@@ -163,6 +213,7 @@ const ROWS: &[Row] = &[
         abbrevs: &[],
         in_info: &[],
         in_lists: &[],
+        in_locations: &[],
     },
 ];
 
@@ -175,7 +226,8 @@ fn holds(row: &Row, sections: &Sections<RelocVec<LittleEndian>>) -> bool {
     let is_recorded = (
         sections.debug_info.0.relocations(),
         sections.debug_rnglists.0.relocations(),
-    ) == (row.in_info, row.in_lists);
+        sections.debug_loclists.0.relocations(),
+    ) == (row.in_info, row.in_lists, row.in_locations);
     is_written && is_recorded && sections.debug_abbrev.0.relocations().is_empty()
 }
 

@@ -11,6 +11,7 @@ use dw_base::constants::{
 };
 use dw_dwarf::{
     DebugInfoRef, Encoding, Error, Format, LittleEndian, Result, Sections, UnitEntryId, UnitId,
+    Writer,
 };
 use dw_writer::{DebugInfoFixup, FaultVec};
 use std::alloc::Global;
@@ -250,7 +251,8 @@ const ROWS: &[Row] = &[
     },
 ];
 
-/// Adds a reference to be fixed up to each of the two lists of location lists.
+/// Leaves room for an offset in each of the two sections of location lists, and a reference to be
+/// fixed up there.
 fn push_fixups(sections: &mut Sections<FaultVec<LittleEndian>>) -> Result<()> {
     let fixup = DebugInfoFixup {
         offset: 0,
@@ -258,7 +260,9 @@ fn push_fixups(sections: &mut Sections<FaultVec<LittleEndian>>) -> Result<()> {
         unit: UnitId(0),
         entry: UnitEntryId(0),
     };
+    sections.debug_loc.0.write_u32(0)?;
     sections.debug_loc_fixups.push(fixup)?;
+    sections.debug_loclists.0.write_u32(0)?;
     sections.debug_loclists_fixups.push(fixup)
 }
 
