@@ -9,6 +9,7 @@ pub mod Kept
 pub mod Expressions
 pub mod Items
 pub mod Ranges
+pub mod Locations
 mod Worked
 mod WorkedValues
 mod WorkedLinePrograms

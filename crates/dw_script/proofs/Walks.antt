@@ -63,7 +63,7 @@ opened_leaves n fields true true few = few
 opened_leaves n fields true false few = tt
 opened_leaves n fields false room few = tt
 
-open_leaves : (n depth : ℕ) (fields : Fields) → length fields ≤ n → LeavesUpTo n (open_field depth fields)
+pub open_leaves : (n depth : ℕ) (fields : Fields) → length fields ≤ n → LeavesUpTo n (open_field depth fields)
 open_leaves n depth [] few = tt
 open_leaves n depth (field ∷ fields) few = opened_leaves n fields (bytes_eq field (codes "[")) (nat_lt depth 64) (omega arith)
 

@@ -3,7 +3,7 @@ use Rattle.std.proofs.Common.{◌≡◌, ◌∷◌, [], Some, None, Ok, Err, cod
 use Rattle.dw_base.specs.declared.common.Format.TheVariants.{Dwarf32}
 use Rattle.dw_script.specs.declared.change.Change.TheVariants as change
 use Rattle.dw_script.specs.declared.command.Command.TheVariants as command
-use Rattle.dw_script.specs.declared.reason.Reason.TheVariants.{BadByte, UnknownWord, BadNumber, NotBuilt}
+use Rattle.dw_script.specs.declared.reason.Reason.TheVariants.{BadByte, UnknownWord, BadNumber}
 use Rattle.dw_script.specs.declared.value.Value.TheVariants as value
 use Rattle.dw_script.specs.Codes.{tag_of, attribute_of}
 use Rattle.dw_script.specs.Kinds.{kind_of}
@@ -59,8 +59,3 @@ set_string = refl
 set_empty : parsed_line (codes "set 0 0 3 string -") ≡ Ok (Some (command.Change 0 (change.Set 0 (record { 0 = 3 }) (value.String []))))
 unfolding parsed_line attribute_of kind_of
 set_empty = refl
-
--- a kind whose fields are not looked at yet
-unbuilt_kind : parsed_line (codes "set 0 0 3 loc_ref 1") ≡ Err NotBuilt
-unfolding parsed_line attribute_of kind_of
-unbuilt_kind = refl

@@ -20,5 +20,7 @@ pub mod LinePrograms
 pub mod Items
 pub mod RangeWords
 pub mod Ranges
+pub mod LocationWords
+pub mod Locations
 pub mod Lists
 pub mod Lines

@@ -4,13 +4,13 @@ use Rattle.std.specs.List.{list_all}
 use Rattle.dw_script.specs.declared.change.Change.TheVariants as change
 use Rattle.dw_script.specs.declared.command.Command.{Command}
 use Rattle.dw_script.specs.declared.command.Command.TheVariants as command
-use Rattle.dw_script.specs.declared.reason.Reason.TheVariants.{BadByte, NotBuilt}
+use Rattle.dw_script.specs.declared.reason.Reason.TheVariants.{BadByte}
 use Rattle.dw_script.specs.declared.word.Word.{Word}
 use Rattle.dw_script.specs.declared.word.Word.TheVariants as word
 use Rattle.dw_script.specs.Pieces.{pieces, space}
 use Rattle.dw_script.specs.Fields.{Fields, Outcome, ◌>>=◌, word_field, end_of_fields, number_field, format_field, flag_field, byte_order_field, hex_field}
 use Rattle.dw_script.specs.LinePrograms.{line_program_line, directory_line, file_line, sequence_line, row_line, end_line}
-use Rattle.dw_script.specs.Lists.{range_list_line}
+use Rattle.dw_script.specs.Lists.{range_list_line, location_list_line}
 use Rattle.dw_script.specs.Values.{tag_field, attribute_field, value_field}
 
 -- an empty line, and one that begins with `#`, which is 35, asks for nothing
@@ -135,7 +135,7 @@ line_of word.Sequence fields = sequence_line fields
 line_of word.Row fields = row_line fields
 line_of word.End fields = end_line fields
 line_of word.Range fields = range_list_line fields
-line_of word.Loc fields = Err NotBuilt
+line_of word.Loc fields = location_list_line fields
 
 -- what the fields of a line ask for, from its word on
 abbrev pub command_of : Fields → Outcome Command

@@ -6,7 +6,7 @@ use Rattle.dw_script.specs.declared.kind.ConstantKind.{ConstantKind}
 use Rattle.dw_script.specs.declared.kind.ConstantKind.TheVariants as constant
 use Rattle.dw_script.specs.declared.kind.Kind.{Kind}
 use Rattle.dw_script.specs.declared.kind.Kind.TheVariants as kind
-use Rattle.dw_script.specs.declared.reason.Reason.TheVariants.{UnknownWord, NotBuilt}
+use Rattle.dw_script.specs.declared.reason.Reason.TheVariants.{UnknownWord}
 use Rattle.dw_script.specs.declared.value.Value.{Value}
 use Rattle.dw_script.specs.declared.value.Value.TheVariants as value
 use Rattle.dw_script.specs.Codes.{tag_of, attribute_of}
@@ -77,10 +77,11 @@ value_of_kind kind.StringRef fields = made value.StringRef (number_field (2 ^ 64
 value_of_kind kind.LineStringRef fields = made value.LineStringRef (number_field (2 ^ 64) fields)
 value_of_kind kind.RangeListRef fields = made value.RangeListRef (number_field (2 ^ 64) fields)
 value_of_kind kind.RangeListsBase fields = Ok (value.RangeListsBase, fields)
+value_of_kind kind.LocationListRef fields = made value.LocationListRef (number_field (2 ^ 64) fields)
+value_of_kind kind.LocationListsBase fields = Ok (value.LocationListsBase, fields)
 value_of_kind kind.LineProgramRef fields = Ok (value.LineProgramRef, fields)
 value_of_kind kind.FileIndex fields = made value.FileIndex (index_or_none_field fields)
 value_of_kind (kind.Constant kind) fields = constant_of_kind kind fields
-value_of_kind kind.Unbuilt fields = Err NotBuilt
 
 -- a value, its kind before it, and the fields after it
 abbrev pub value_field : Fields → Outcome (Value × Fields)

@@ -3,6 +3,7 @@
 use crate::change::Change;
 use crate::hex_bytes::HexBytes;
 use crate::line_change::LineChange;
+use crate::location_list::LocationFields;
 use crate::range_list::RangeFields;
 use dw_base::{Encoding, RunTimeEndian};
 
@@ -18,9 +19,23 @@ pub enum Command<'a> {
     /// A string of `.debug_line_str`.
     LineString(HexBytes<'a>),
     /// A change of the unit at an index.
-    Change { unit: u64, change: Change<'a> },
+    Change {
+        unit: u64,
+        change: Change<'a>,
+    },
     /// A change of the line program of the unit at an index.
-    Line { unit: u64, change: LineChange<'a> },
+    Line {
+        unit: u64,
+        change: LineChange<'a>,
+    },
     /// A range list of the unit at an index.
-    RangeList { unit: u64, ranges: RangeFields<'a> },
+    RangeList {
+        unit: u64,
+        ranges: RangeFields<'a>,
+    },
+    /// A location list of the unit at an index.
+    LocationList {
+        unit: u64,
+        locations: LocationFields<'a>,
+    },
 }

@@ -4,6 +4,7 @@
 ghost use Rattle.std.specs.Prelude.{◌≡◌, ◌<◌, ◌^◌, IfOk, Ok, Err, MatchResult};
 ghost use Rattle.dw_script.specs.Pieces.{pieces_left};
 ghost use Rattle.dw_script.specs.Fields.{address_field, address_or_none_field, index_or_none_field, reference_field, byte_order_field, end_of_fields, flag_field, format_field, hex_field, next_field, number_field, signed_field, target_field, with_rest, word_field};
+ghost use Rattle.dw_script.specs.Locations.{location_word_field};
 ghost use Rattle.dw_script.specs.Operations.{opcode_field};
 ghost use Rattle.dw_script.specs.Ranges.{range_word_field};
 ghost use Rattle.dw_script.specs.Steps.{open_field, step_word_field};
@@ -13,6 +14,7 @@ use crate::address::{parse_address, parse_address_or_none, parse_reference};
 use crate::code::{parse_attribute, parse_opcode, parse_tag};
 use crate::hex_bytes::HexBytes;
 use crate::kind::Kind;
+use crate::location_word::LocationWord;
 use crate::number::{
     parse_i64, parse_index_or_none, parse_target, parse_u8, parse_u16, parse_u32, parse_u64,
     parse_u128, parse_usize,
@@ -227,6 +229,14 @@ pub(crate) fn next_range_word(fields: &mut Pieces<'_>) -> Result<RangeWord, Reas
         range_word_field (pieces_left fields.old) }
 {
     RangeWord::read(next_field(fields)?).ok_or(Reason::UnknownWord)
+}
+
+/// The word of an item of a location list.
+pub(crate) fn next_location_word(fields: &mut Pieces<'_>) -> Result<LocationWord, Reason>
+    ensures { with_rest result (pieces_left fields.new) ≡
+        location_word_field (pieces_left fields.old) }
+{
+    LocationWord::read(next_field(fields)?).ok_or(Reason::UnknownWord)
 }
 
 /// The kind of a value.

@@ -33,11 +33,11 @@ pub(crate) enum Kind {
     LineStringRef,
     RangeListRef,
     RangeListsBase,
+    LocationListRef,
+    LocationListsBase,
     LineProgramRef,
     FileIndex,
     Constant(ConstantKind),
-    /// The kind is known, and its values not built yet.
-    Unbuilt,
 }
 
 /// The kind of a number that the standard gives meanings.
@@ -81,8 +81,8 @@ const KINDS: [(&[u8], Kind); 41] = [
     (b"exprloc", Kind::Exprloc),
     (b"info_ref", Kind::DebugInfoRef),
     (b"line_program_ref", Kind::LineProgramRef),
-    (b"loc_ref", Kind::Unbuilt),
-    (b"loc_base", Kind::Unbuilt),
+    (b"loc_ref", Kind::LocationListRef),
+    (b"loc_base", Kind::LocationListsBase),
     (b"range_ref", Kind::RangeListRef),
     (b"range_base", Kind::RangeListsBase),
     (b"str_ref", Kind::StringRef),

@@ -15,7 +15,7 @@ use crate::line_program::{
 };
 use crate::pieces::Pieces;
 use crate::reason::Reason;
-use crate::unit_list::parse_range_list;
+use crate::unit_list::{parse_location_list, parse_range_list};
 use crate::value::next_value;
 use crate::word::Word;
 use dw_base::Encoding;
@@ -74,7 +74,7 @@ fn parse_fields<'a>(fields: &mut Pieces<'a>) -> Result<Command<'a>, Reason>
         Word::Row => parse_row(fields),
         Word::End => parse_end(fields),
         Word::Range => parse_range_list(fields),
-        Word::Loc => Err(Reason::NotBuilt),
+        Word::Loc => parse_location_list(fields),
     }
 }
 

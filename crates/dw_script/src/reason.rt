@@ -16,8 +16,6 @@ pub enum Reason {
     BadHex,
     /// A field is missing, or left over.
     WrongFields,
-    /// The word is known, and its command not built yet.
-    NotBuilt,
     /// The byte order is chosen after another command.
     OrderNotFirst,
     /// No unit has the index.
@@ -63,7 +61,6 @@ impl Reason {
             Reason::BadNumber => "bad number",
             Reason::BadHex => "bad hex",
             Reason::WrongFields => "wrong fields",
-            Reason::NotBuilt => "not built",
             Reason::OrderNotFirst => "order not first",
             Reason::NoSuchUnit => "no such unit",
             Reason::NoSuchEntry => "no such entry",

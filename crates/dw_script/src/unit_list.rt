@@ -1,11 +1,12 @@
 //! The lines that add a list to a unit.
 
 ghost use Rattle.std.specs.Prelude.{◌≡◌};
-ghost use Rattle.dw_script.specs.Lists.{range_list_line};
+ghost use Rattle.dw_script.specs.Lists.{location_list_line, range_list_line};
 ghost use Rattle.dw_script.specs.Pieces.{pieces_left};
 
 use crate::command::Command;
 use crate::field::next_u64;
+use crate::location_list::LocationFields;
 use crate::pieces::Pieces;
 use crate::range_list::RangeFields;
 use crate::reason::Reason;
@@ -17,4 +18,13 @@ pub(crate) fn parse_range_list<'a>(fields: &mut Pieces<'a>) -> Result<Command<'a
     let unit = next_u64(fields)?;
     let ranges = RangeFields::read(*fields)?;
     Ok(Command::RangeList { unit, ranges })
+}
+
+/// The fields after `loc`.
+pub(crate) fn parse_location_list<'a>(fields: &mut Pieces<'a>) -> Result<Command<'a>, Reason>
+    ensures { result ≡ location_list_line (pieces_left fields.old) }
+{
+    let unit = next_u64(fields)?;
+    let locations = LocationFields::read(*fields)?;
+    Ok(Command::LocationList { unit, locations })
 }

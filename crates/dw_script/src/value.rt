@@ -79,6 +79,12 @@ pub enum Value<'a> {
     /// The unit's range lists, by the place of their first offset in `.debug_rnglists`; a word of
     /// the format (7.28).
     RangeListsBase,
+    /// A location list of the unit, by its index; in version 5 this index in LEB128, before a word
+    /// of the format (7.5.5).
+    LocationListRef(u64),
+    /// The unit's location lists, by the place of their first offset in `.debug_loclists`; a word
+    /// of the format (7.29).
+    LocationListsBase,
     /// The unit's line program, by its place in `.debug_line`; a word of the format (7.5.5).
     LineProgramRef,
     /// A file of the unit's line program, by its index, or none, in LEB128 (2.14).
@@ -140,10 +146,11 @@ pub(crate) fn next_value<'a>(fields: &mut Pieces<'a>) -> Result<Value<'a>, Reaso
         Kind::LineStringRef => Value::LineStringRef(next_u64(fields)?),
         Kind::RangeListRef => Value::RangeListRef(next_u64(fields)?),
         Kind::RangeListsBase => Value::RangeListsBase,
+        Kind::LocationListRef => Value::LocationListRef(next_u64(fields)?),
+        Kind::LocationListsBase => Value::LocationListsBase,
         Kind::LineProgramRef => Value::LineProgramRef,
         Kind::FileIndex => Value::FileIndex(next_index_or_none(fields)?),
         Kind::Constant(kind) => next_constant(kind, fields)?,
-        Kind::Unbuilt => return Err(Reason::NotBuilt),
     };
     Ok(value)
 }

@@ -37,18 +37,18 @@ str => wrong fields
 str 6 => bad hex
 line_str 61 62 => wrong fields
 range 7 pair 1 2 => 7 OffsetPair { begin: 1, end: 2 }
-loc => not built
+loc 7 base 1 => 7 base Constant(1)
+loc => wrong fields
 add \x7f => bad byte
 \x1f => bad byte
-loc x => not built
+loc x => bad number
 ";
 
 pub fn lines() -> &'static str {
     LINES
 }
 
-/// Entries and their attributes. The fields after a kind of value that isn't built aren't
-/// looked at.
+/// Entries and their attributes.
 const ENTRIES: &str = "add 0 0 0x34 => 0 Add { parent: 0, tag: DwTag(52) }
 add 0 0 DW_TAG_variable => 0 Add { parent: 0, tag: DwTag(52) }
 add 1 2 DW_TAG_array_type => 1 Add { parent: 2, tag: DwTag(1) }
@@ -86,11 +86,10 @@ set 0 0 3 block 6 => bad hex
 set 0 0 3 range_ref 1 => 0 0 DwAt(3) RangeListRef(1)
 set 0 0 3 info_ref 0:1 => 0 0 DwAt(3) DebugInfoRef(Entry(UnitId(0), UnitEntryId(1)))
 set 0 0 3 info_ref 0 1 => bad number
-set 0 0 3 loc_ref => not built
+set 0 0 3 loc_ref 1 => 0 0 DwAt(3) LocationListRef(1)
 set 0 0 3 frob => unknown word
 set 0 0 3 => wrong fields
-set 0 0 3 loc_ref x => not built
-set 0 0 3 loc_base x => not built
+set 0 0 3 loc_base => 0 0 DwAt(3) LocationListsBase
 ";
 
 pub fn entries() -> &'static str {
@@ -324,4 +323,64 @@ range 0 pair 1 2 pair x 4 frob => bad number
 
 pub fn ranges() -> &'static str {
     RANGES
+}
+
+/// Location lists. Behind the addresses of each item but a base stands an expression, which is
+/// shown with its brackets.
+const LOCATIONS: &str = "loc 0 base 0x1000 => 0 base Constant(4096)
+loc 1 base sym:2:-1 => 1 base Symbol { symbol: 2, addend: -1 }
+loc 18446744073709551615 pair 0 0xffffffffffffffff [ ] => \
+18446744073709551615 pair 0 18446744073709551615 ]
+loc 0 ends 1 sym:0:2 [ reg 5 ] => \
+0 ends Constant(1) Symbol { symbol: 0, addend: 2 } Register(Register(5)) ]
+loc 0 len sym:0:0 0x20 [ fbreg -20 ] => \
+0 len Symbol { symbol: 0, addend: 0 } 32 FrameOffset(-20) ]
+loc 3 default [ deref ] => 3 default Deref { space: false } ]
+loc 3 pair 2 1 [ ] base 0 pair 2 1 [ entry_value [ ] ] default [ ] len 7 0 [ pick 1 ] => \
+3 pair 2 1 ] base Constant(0) pair 2 1 [ ] ] default ] len Constant(7) 0 Pick(1) ]
+loc 0 default [ bra 1 ] default [ bra - ] => 0 default Branch(Some(1)) ] default Branch(None) ]
+loc => wrong fields
+loc 0 => wrong fields
+loc 0  => unknown word
+loc x base x => bad number
+loc 18446744073709551616 frob => bad number
+loc 0 Base 0 => unknown word
+loc 0 length 0 1 [ ] => unknown word
+loc 0 default [ ] defaults => unknown word
+loc 0 default [ ]  => unknown word
+loc 0 base 0 [ ] => unknown word
+loc 0 base => wrong fields
+loc 0 base none => bad number
+loc 0 base sym:1 => bad number
+loc 0 base 18446744073709551616 => bad number
+loc 0 pair => wrong fields
+loc 0 pair [ ] => bad number
+loc 0 pair 1 => wrong fields
+loc 0 pair 1 [ ] => bad number
+loc 0 pair 1 2 => wrong fields
+loc 0 pair 1 2 base 0 => unknown word
+loc 0 pair 1 2 [ => wrong fields
+loc 0 pair 1 2 [ pair 1 2 ] => unknown word
+loc 0 pair 1 sym:0:0 [ ] => bad number
+loc 0 pair 1 -1 [ ] => bad number
+loc 0 ends 1 [ ] => bad number
+loc 0 ends 1 2 3 => unknown word
+loc 0 ends 1 none frob => bad number
+loc 0 len 1 sym:0:0 [ ] => bad number
+loc 0 len 1 2 [ frob => unknown word
+loc 0 default => wrong fields
+loc 0 default reg 5 => unknown word
+loc 0 default 1 2 [ ] => unknown word
+loc 0 default [ reg ] ] => bad number
+loc 0 default [ ] ] => unknown word
+loc 0 default [ deref raw 96 ] => unknown word
+loc 0 default [ raw 9 ] frob => bad hex
+loc 0 default [ bra 0 ] => bad target
+loc 0 default [ ] default [ bra 2 ] frob => bad target
+loc 0 default [ bra 0 frob ] => unknown word
+loc 0 pair x 2 [ bra 0 ] => bad number
+";
+
+pub fn locations() -> &'static str {
+    LOCATIONS
 }

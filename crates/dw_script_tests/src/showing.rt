@@ -1,7 +1,8 @@
 //! Commands as text, to be compared with tables. A table is a text, a row in each of its lines.
 
 use dw_script::{
-    Change, Command, ExpressionFields, ExpressionStep, RangeFields, Value, parse_line,
+    Change, Command, ExpressionFields, ExpressionStep, LocationFields, RangeFields, ScriptLocation,
+    Value, parse_line,
 };
 use std::alloc::{AllocError, Global};
 
@@ -21,6 +22,9 @@ pub fn show(text: &mut String, line: &[u8]) -> Result<(), AllocError> {
         Ok(Some(Command::Change { unit, change })) => show_change(text, unit, &change),
         Ok(Some(Command::Line { unit, change })) => write!(text, "{unit} {change:?}"),
         Ok(Some(Command::RangeList { unit, ranges })) => show_ranges(text, unit, &ranges),
+        Ok(Some(Command::LocationList { unit, locations })) => {
+            show_locations(text, unit, &locations)
+        }
         Ok(Some(command)) => write!(text, "{command:?}"),
         Err(reason) => text.push_str(reason.text()),
     }
@@ -64,6 +68,53 @@ fn show_ranges(text: &mut String, unit: u64, ranges: &RangeFields<'_>) -> Result
         write!(text, " {range:?}")?;
     }
     Ok(())
+}
+
+fn show_locations(
+    text: &mut String,
+    unit: u64,
+    locations: &LocationFields<'_>,
+) -> Result<(), AllocError> {
+    write!(text, "{unit} ")?;
+    for location in locations.items() {
+        show_location(text, &location)?;
+    }
+    Ok(())
+}
+
+fn show_location(text: &mut String, location: &ScriptLocation<'_>) -> Result<(), AllocError> {
+    let expression = match location {
+        ScriptLocation::BaseAddress { address } => return write!(text, "base {address:?} "),
+        ScriptLocation::OffsetPair {
+            begin,
+            end,
+            expression,
+        } => {
+            write!(text, "pair {begin} {end} ")?;
+            expression
+        }
+        ScriptLocation::StartEnd {
+            begin,
+            end,
+            expression,
+        } => {
+            write!(text, "ends {begin:?} {end:?} ")?;
+            expression
+        }
+        ScriptLocation::StartLength {
+            begin,
+            length,
+            expression,
+        } => {
+            write!(text, "len {begin:?} {length} ")?;
+            expression
+        }
+        ScriptLocation::DefaultLocation { expression } => {
+            text.push_str("default ")?;
+            expression
+        }
+    };
+    show_steps(text, expression)
 }
 
 /// Tells that a row's line is shown as the row tells, less the blanks at its end.

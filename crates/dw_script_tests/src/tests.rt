@@ -42,6 +42,7 @@ fn reads_lines(rt: HostRuntime) -> Result<(), Fail> {
         lines::programs(),
         lines::sequences(),
         lines::ranges(),
+        lines::locations(),
     ] {
         assert_eq!(rt; first_wrong(rt.alloc(), WHOLE, table)?, None);
     }
