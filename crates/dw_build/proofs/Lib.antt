@@ -2,3 +2,4 @@ pub mod Lines
 pub mod ScriptUnits
 mod Worked
 mod WorkedExpressions
+mod WorkedLists

@@ -9,11 +9,12 @@ use Rattle.dw_script.specs.Lines.{parsed_line}
 use Rattle.dw_script.specs.Pieces.{newline, pieces}
 use Rattle.dw_script.specs.Fields.{Outcome, ◌>>=◌}
 use Rattle.dw_script.specs.declared.command.Command.{Command}
-use Rattle.dw_script.specs.declared.command.Command.TheVariants.{Order, Unit as AddUnit, String as AddString, LineString as AddLineString, Change as ChangeUnit, Line as ChangeLines, RangeList as AddRanges}
+use Rattle.dw_script.specs.declared.command.Command.TheVariants.{Order, Unit as AddUnit, String as AddString, LineString as AddLineString, Change as ChangeUnit, Line as ChangeLines, RangeList as AddRanges, LocationList as AddLocations}
 use Rattle.dw_script.specs.declared.change.Change.{Change}
 use Rattle.dw_script.specs.declared.change.Change.TheVariants as change
 use Rattle.dw_script.specs.declared.line_change.LineChange.{LineChange}
 use Rattle.dw_script.specs.declared.line_change.LineChange.TheVariants as change_lines
+use Rattle.dw_script.specs.declared.location.ScriptLocation.{ScriptLocation}
 use Rattle.dw_script.specs.declared.range.ScriptRange.{ScriptRange}
 use Rattle.dw_script.specs.declared.reason.Reason.{Reason}
 use Rattle.dw_script.specs.declared.reason.Reason.TheVariants.{OrderNotFirst, NoSuchUnit, NoSuchEntry, NotReserved, BadTag, BadName, ZeroByte, NoLineProgram, NoSuchDirectory, InSequence, NotInSequence, NoSuchFile, AddressBack}
@@ -23,6 +24,7 @@ use Rattle.dw_line.specs.ProgramTexts.{ProgramValue, with_directory, with_file, 
 use Rattle.dw_unit.specs.UnitValue.{UnitValue, new_unit, is_reserved}
 use Rattle.dw_build.specs.Script.{with_units, with_unit_changed, after_change, after_string, after_line_string, after_command, after_asked, after_line, after_lines, script, IsOpen, AreOpen}
 use Rattle.dw_build.specs.LineChanges.{CountsBytes, with_next_row, after_program_change, after_line_change}
+use Rattle.dw_build.specs.LocationLists.{after_location_list}
 use Rattle.dw_build.specs.Names.{name_of, listed_name}
 use Rattle.dw_build.specs.RangeLists.{after_range_list}
 use Rattle.dw_build.specs.ScriptValue.{ScriptValue, empty_script}
@@ -143,6 +145,9 @@ line_change_leaves c u v e h = by_program (after_program_change c u.encoding u.l
 range_list_leaves : (ranges : List ScriptRange) → LeavesOpen (after_range_list ranges)
 range_list_leaves ranges u v e h = allowed IsOpen _ v e h
 
+location_list_leaves : (locations : List ScriptLocation) → LeavesOpen (after_location_list locations)
+location_list_leaves locations u v e h = allowed IsOpen _ v e h
+
 command_open : (s : ScriptValue) (c : Command) → AreOpen s.dwarf.units → IfBuilds (after_command s c)
 command_open s (Order o) h = order_open s.has_begun s (record s { endian = o; has_begun = true }) h
 command_open s (AddUnit e) h = unit_open s e h
@@ -151,6 +156,7 @@ command_open s (AddLineString bytes) h = strings_open (after_line_string s) (λ 
 command_open s (ChangeUnit unit c) h = changed_open (after_change c) s s.dwarf.units unit (change_leaves c) h
 command_open s (ChangeLines unit c) h = changed_open (after_line_change c) s s.dwarf.units unit (line_change_leaves c) h
 command_open s (AddRanges unit ranges) h = changed_open (after_range_list ranges) s s.dwarf.units unit (range_list_leaves ranges) h
+command_open s (AddLocations unit locations) h = changed_open (after_location_list locations) s s.dwarf.units unit (location_list_leaves locations) h
 
 asked_open : (s : ScriptValue) (r : Outcome (Option Command)) → AreOpen s.dwarf.units → IfBuilds (r >>= after_asked s)
 asked_open s (Ok None) h = h

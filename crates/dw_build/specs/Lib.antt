@@ -4,4 +4,5 @@ pub mod LineChanges
 pub mod Expressions
 pub mod OpenOperations
 pub mod RangeLists
+pub mod LocationLists
 pub mod Script

@@ -5,7 +5,7 @@ use Rattle.dw_script.specs.Fields.{Outcome, ◌>>=◌}
 use Rattle.dw_script.specs.Lines.{parsed_line}
 use Rattle.dw_script.specs.Pieces.{newline, pieces}
 use Rattle.dw_script.specs.declared.command.Command.{Command}
-use Rattle.dw_script.specs.declared.command.Command.TheVariants.{Order, Unit as AddUnit, String as AddString, LineString as AddLineString, Change as ChangeUnit, Line as ChangeLines, RangeList as AddRanges}
+use Rattle.dw_script.specs.declared.command.Command.TheVariants.{Order, Unit as AddUnit, String as AddString, LineString as AddLineString, Change as ChangeUnit, Line as ChangeLines, RangeList as AddRanges, LocationList as AddLocations}
 use Rattle.dw_script.specs.declared.change.Change.{Change}
 use Rattle.dw_script.specs.declared.change.Change.TheVariants as change
 use Rattle.dw_script.specs.declared.reason.Reason.TheVariants.{OrderNotFirst, NoSuchUnit, NoSuchEntry, NotReserved, BadTag, BadName}
@@ -19,6 +19,7 @@ use Rattle.dw_entries.specs.declared.value.AttributeValue.{AttributeValue}
 use Rattle.dw_entries.specs.declared.value.AttributeValue.TheVariants as stored
 use Rattle.dw_build.specs.Expressions.{expression_of}
 use Rattle.dw_build.specs.LineChanges.{CountsBytes, after_line_change}
+use Rattle.dw_build.specs.LocationLists.{after_location_list}
 use Rattle.dw_build.specs.Names.{text_of}
 use Rattle.dw_build.specs.RangeLists.{after_range_list}
 use Rattle.dw_build.specs.ScriptValue.{ScriptValue, empty_script}
@@ -54,6 +55,8 @@ attribute_value (value.StringRef i) = stored.StringRef (record { 0 = i })
 attribute_value (value.LineStringRef i) = stored.LineStringRef (record { 0 = i })
 attribute_value (value.RangeListRef i) = stored.RangeListRef (record { 0 = i })
 attribute_value value.RangeListsBase = stored.RangeListsBase
+attribute_value (value.LocationListRef i) = stored.LocationListRef (record { 0 = i })
+attribute_value value.LocationListsBase = stored.LocationListsBase
 attribute_value value.LineProgramRef = stored.LineProgramRef
 attribute_value (value.FileIndex file) = stored.FileIndex (option_map (λ i. record { 0 = i }) file)
 attribute_value (value.Encoding n) = stored.Encoding n
@@ -139,6 +142,7 @@ after_command s (AddLineString bytes) = text_of bytes >>= λ text. Ok (after_lin
 after_command s (ChangeUnit unit c) = with_unit_changed unit (after_change c) s.dwarf.units >>= λ us. Ok (with_units s us)
 after_command s (ChangeLines unit c) = with_unit_changed unit (after_line_change c) s.dwarf.units >>= λ us. Ok (with_units s us)
 after_command s (AddRanges unit ranges) = with_unit_changed unit (after_range_list ranges) s.dwarf.units >>= λ us. Ok (with_units s us)
+after_command s (AddLocations unit locations) = with_unit_changed unit (after_location_list locations) s.dwarf.units >>= λ us. Ok (with_units s us)
 
 -- after a line that may ask for nothing
 abbrev pub after_asked : ScriptValue → Option Command → Outcome ScriptValue

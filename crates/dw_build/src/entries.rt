@@ -8,7 +8,9 @@ ghost use Rattle.dw_build.specs.Script.{attribute_value, after_change, after_add
 use crate::expressions::owned_expression;
 use crate::script::CommandError;
 use dw_base::constants::DW_AT_sibling;
-use dw_base::{DwAt, DwTag, FileId, LineStringId, RangeListId, StringId, UnitEntryId};
+use dw_base::{
+    DwAt, DwTag, FileId, LineStringId, LocationListId, RangeListId, StringId, UnitEntryId,
+};
 use dw_script::{Change, Reason, Value};
 use dw_unit::{AttributeValue, Unit};
 use dw_writer::Bytes;
@@ -217,6 +219,10 @@ fn owned_value(alloc: Global, value: Value<'_>) -> Result<AttributeValue, AllocE
             AttributeValue::RangeListRef(RangeListId::new(list as usize))
         }
         Value::RangeListsBase => AttributeValue::RangeListsBase,
+        Value::LocationListRef(list) => {
+            AttributeValue::LocationListRef(LocationListId::new(list as usize))
+        }
+        Value::LocationListsBase => AttributeValue::LocationListsBase,
         Value::LineProgramRef => AttributeValue::LineProgramRef,
         Value::FileIndex(None) => AttributeValue::FileIndex(None),
         Value::FileIndex(Some(file)) => AttributeValue::FileIndex(Some(FileId::new(file))),

@@ -5,6 +5,7 @@
 mod entries;
 mod expressions;
 mod line_programs;
+mod location_lists;
 mod range_lists;
 mod script;
 

@@ -8,10 +8,13 @@ ghost use Rattle.dw_build.specs.ScriptValue.{script_in};
 
 use crate::entries::{apply_change, index_below};
 use crate::line_programs::apply_line_change;
+use crate::location_lists::add_location_list;
 use crate::range_lists::add_range_list;
 use dw_base::{Encoding, RunTimeEndian, UnitId};
 use dw_dwarf::Dwarf;
-use dw_script::{Change, Command, HexBytes, LineChange, RangeFields, Reason, lines, parse_line};
+use dw_script::{
+    Change, Command, HexBytes, LineChange, LocationFields, RangeFields, Reason, lines, parse_line,
+};
 use dw_unit::{LineProgram, Unit};
 use std::alloc::Global;
 
@@ -114,6 +117,9 @@ impl Script {
             Command::Change { unit, change } => self.change_unit(alloc, unit, change),
             Command::Line { unit, change } => self.change_line_program(alloc, unit, change),
             Command::RangeList { unit, ranges } => self.add_range_list(alloc, unit, &ranges),
+            Command::LocationList { unit, locations } => {
+                self.add_location_list(alloc, unit, &locations)
+            }
         }
     }
 
@@ -237,6 +243,25 @@ impl Script {
         let index = index_below(unit, self.dwarf.units.count(), Reason::NoSuchUnit)?;
         let unit = self.dwarf.units.get_mut(UnitId::new(index));
         add_range_list(alloc, unit, ranges)?;
+        self.has_begun = true;
+        Ok(())
+    }
+
+    fn add_location_list(
+        &mut self,
+        alloc: Global,
+        unit: u64,
+        locations: &LocationFields<'_>,
+    ) -> Result<(), CommandError>
+        ensures ok { OnOk result
+            (after_command (script_in self.old) (Command.LocationList unit locations.now)
+            ≡ Ok (script_in self.new)) }
+        ensures err { IfErr result (RefusedFor
+            (after_command (script_in self.old) (Command.LocationList unit locations.now))) }
+    {
+        let index = index_below(unit, self.dwarf.units.count(), Reason::NoSuchUnit)?;
+        let unit = self.dwarf.units.get_mut(UnitId::new(index));
+        add_location_list(alloc, unit, locations)?;
         self.has_begun = true;
         Ok(())
     }
