@@ -2,7 +2,8 @@
 //! module `cases` tells how a table is written.
 
 use crate::cases::{
-    expressions, headers, limits, lines, ranges, references, refusals, strings, trees, values,
+    expressions, headers, limits, lines, locations, ranges, references, refusals,
+    refused_locations, strings, trees, values,
 };
 use crate::tests::build;
 use std::alloc::{AllocError, Global};
@@ -347,6 +348,16 @@ fn builds_trees(rt: HostRuntime) -> Result<(), Fail> {
 #[test]
 fn builds_ranges(rt: HostRuntime) -> Result<(), Fail> {
     run_table(&rt, rt.alloc(), ranges::CASES)
+}
+
+#[test]
+fn builds_locations(rt: HostRuntime) -> Result<(), Fail> {
+    run_table(&rt, rt.alloc(), locations::CASES)
+}
+
+#[test]
+fn refuses_locations(rt: HostRuntime) -> Result<(), Fail> {
+    run_table(&rt, rt.alloc(), refused_locations::CASES)
 }
 
 #[test]

@@ -201,11 +201,6 @@ script set 0 0 3 string 6
 status 2
 text line 1: bad hex
 
-case line, not built 1
-script loc
-status 2
-text line 1: not built
-
 case line, wrong fields 10
 script # one
 script
@@ -372,16 +367,6 @@ script unit 5 8 32 / set 9 9 0 info_ref 0:0
 status 2
 text line 2: no such unit
 
-case entry, not built 1
-script unit 5 8 32 / set 9 9 0 loc_ref x y
-status 2
-text line 2: not built
-
-case entry, not built 2
-script unit 5 8 32 / loc 0
-status 2
-text line 2: not built
-
 case entry, zero byte 1
 script unit 5 8 32 / str 6100
 status 2
@@ -479,5 +464,5 @@ script unit 5 8 32 / reserve 0 / delete_child 1 0 0
 status 2
 text line 3: no such unit
 
-end 89
+end 86
 ";
