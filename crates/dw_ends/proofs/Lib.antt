@@ -1,2 +1,11 @@
 pub mod Listings
 pub mod Moves
+pub mod Limits
+pub mod Places
+pub mod HexDigits
+mod Cuts
+mod Visible
+mod Decimals
+mod HexWords
+mod ReadBack
+mod Worked

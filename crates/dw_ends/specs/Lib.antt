@@ -1,3 +1,9 @@
 pub mod Ends
 pub mod Insides
+pub mod Numbers
+pub mod Bytes
+pub mod Reasons
+pub mod Fields
+pub mod Lines
+pub mod Sections
 pub mod Listing

@@ -2,12 +2,24 @@
 //! listing of sections.
 #![tactic(auto)]
 
+mod digits;
+mod fields;
+mod hex_bytes;
+mod line;
+mod line_error;
 mod listing;
+mod listing_reader;
+mod reason;
 mod sink;
 mod source;
 mod transfer;
 
-pub use listing::{push_order, push_section};
+pub use digits::number;
+pub use hex_bytes::HexBytes;
+pub use line_error::LineError;
+pub use listing::{listing_text, push_order, push_section};
+pub use listing_reader::{Listing, ListingReader};
+pub use reason::Reason;
 pub use sink::{FailingSink, Sink, SinkError, StdoutSink, VecSink};
 pub use source::{Failed, FailingSource, SliceSource, Source, StdinSource};
 pub use transfer::{ReadAllError, read_all, write_all};

@@ -1,11 +1,57 @@
 //! The text of a listing: the order of bytes, and then a line for each section.
 
-ghost use Rattle.std.specs.Prelude.{◌≡◌, ◌++◌, OnOk, OnErr};
+ghost use Rattle.std.specs.Prelude.{◌≡◌, ◌++◌, Ok, IfOk, OnOk, OnErr};
 ghost use Rattle.std.specs.Io.{StartsWith};
-ghost use Rattle.dw_ends.specs.Listing.{order_line, hex_word, section_line};
+ghost use Rattle.dw_ends.specs.Listing.{AddsLine, AreBytes, Lists, hex_word, order_line, read_of, section_line, told};
+ghost use Rattle.dw_ends.specs.Sections.{sections_of};
 
+use dw_base::{Endianity, RunTimeEndian};
+use dw_writer::{EndianVec, Section, Sections, Writer};
 use itoa::Buffer;
-use std::alloc::AllocError;
+use std::alloc::{AllocError, Global};
+
+/// The text that lists sections: a line with the byte order, which is that of `.debug_info`, and a
+/// line for each of the eleven sections, in the order of `SectionId`, with its name, the number of
+/// its bytes, and the bytes in hex where there are any. A `ListingReader` reads it back.
+pub fn listing_text(
+    alloc: Global,
+    sections: &Sections<EndianVec<RunTimeEndian>>,
+) -> Result<Vec<u8>, AllocError>
+    ensures lists { IfOk result (λ text.
+        Lists ⟦<EndianVec<RunTimeEndian> as Writer>⟧.meaning sections.now text.items) }
+    ensures read_back { IfOk result (λ text. sections_of text.items ≡
+        Ok (read_of ⟦<EndianVec<RunTimeEndian> as Writer>⟧.meaning sections.now)) }
+{
+    let mut text = Vec::new(alloc);
+    push_order(
+        &mut text,
+        sections.debug_info.section().endian().is_big_endian(),
+    )?;
+    push_one(&mut text, &sections.debug_abbrev)?;
+    push_one(&mut text, &sections.debug_str)?;
+    push_one(&mut text, &sections.debug_line_str)?;
+    push_one(&mut text, &sections.debug_line)?;
+    push_one(&mut text, &sections.debug_ranges)?;
+    push_one(&mut text, &sections.debug_rnglists)?;
+    push_one(&mut text, &sections.debug_loc)?;
+    push_one(&mut text, &sections.debug_loclists)?;
+    push_one(&mut text, &sections.debug_info)?;
+    push_one(&mut text, &sections.debug_frame)?;
+    push_one(&mut text, &sections.eh_frame)?;
+    Ok(text)
+}
+
+// Appends the line of a section: its own name with its own bytes.
+fn push_one<S: Section<EndianVec<RunTimeEndian>>>(
+    text: &mut Vec<u8>,
+    section: &S,
+) -> Result<(), AllocError>
+    ensures { OnOk result (AddsLine S.which
+        (told ⟦<EndianVec<RunTimeEndian> as Writer>⟧.meaning (S.writer section.now))
+        text.old.items text.new.items) }
+{
+    push_section(text, section.name(), section.section().slice())
+}
 
 /// Appends the line that says the order of bytes. Where memory runs out, `text` stays as it was.
 pub fn push_order(text: &mut Vec<u8>, big: bool) -> Result<(), AllocError>
@@ -39,6 +85,7 @@ fn push_hex(text: &mut Vec<u8>, bytes: &[u8]) -> Result<(), AllocError>
 /// front of the line may stay in `text`.
 pub fn push_section(text: &mut Vec<u8>, name: &str, bytes: &[u8]) -> Result<(), AllocError>
     ensures ok { OnOk result (text.new.items ≡ text.old.items ++ section_line name.now bytes.now) }
+    ensures bytes { AreBytes bytes.now }
     ensures err { OnErr result (StartsWith text.new.items text.old.items) }
 {
     text.extend_from_slice(name.as_bytes())?;
