@@ -3,4 +3,8 @@
 #![tactic(auto)]
 
 #[cfg(test)]
+mod listings;
+#[cfg(test)]
+mod showing;
+#[cfg(test)]
 mod tests;

@@ -1,9 +1,14 @@
+use crate::{listings, showing};
+use dw_base::RunTimeEndian;
 use dw_ends::{
-    Failed, FailingSink, FailingSource, ReadAllError, Sink, SinkError, SliceSource, Source,
-    StdinSource, StdoutSink, VecSink, push_order, push_section, read_all, write_all,
+    Failed, FailingSink, FailingSource, LineError, ListingReader, ReadAllError, Sink, SinkError,
+    SliceSource, Source, StdinSource, StdoutSink, VecSink, listing_text, number, read_all,
+    write_all,
 };
-use std::alloc::AllocError;
-use std::io::{self, ErrorKind, Read, Write};
+use dw_writer::{EndianVec, Sections, Writer};
+use std::alloc::{AllocError, Global};
+use std::io::{self, ErrorKind, Read};
+use std::test::Fail;
 
 // Errors that a careless end might take for an end of input, or try again.
 const KINDS: [ErrorKind; 8] = [
@@ -32,7 +37,7 @@ impl Read for FailsOnce {
     }
 }
 
-impl Write for FailsOnce {
+impl io::Write for FailsOnce {
     fn write(&mut self, bytes: &[u8]) -> io::Result<usize> {
         match self.error.take() {
             Some(kind) => Err(io::Error::from(kind)),
@@ -148,14 +153,106 @@ fn fails_at_a_writer_that_takes_nothing(rt: HostRuntime) {
     assert_eq!(rt; write_all(&mut sink, b"e"), Err(SinkError::Failed));
 }
 
+/// Sections with some bytes in a few of them.
+fn some_sections(alloc: Global) -> dw_base::Result<Sections<EndianVec<RunTimeEndian>>> {
+    let mut sections = Sections::new(alloc, EndianVec::new(alloc, RunTimeEndian::Big))?;
+    sections.debug_abbrev.0.write(&[0x01, 0x11, 0x00])?;
+    sections.debug_str.0.write(&[0xa9, 0x0f])?;
+    sections.debug_info.0.write(&[0x00; 12])?;
+    sections.eh_frame.0.write(&[0xff])?;
+    Ok(sections)
+}
+
+const LISTED: &[u8] = b"order big
+.debug_abbrev 3 011100
+.debug_str 2 a90f
+.debug_line_str 0
+.debug_line 0
+.debug_ranges 0
+.debug_rnglists 0
+.debug_loc 0
+.debug_loclists 0
+.debug_info 12 000000000000000000000000
+.debug_frame 0
+.eh_frame 1 ff
+";
+
 #[test]
-fn lists_sections(rt: HostRuntime) -> Result<(), AllocError> {
-    let mut text = Vec::new(rt.alloc());
-    push_order(&mut text, false)?;
-    push_section(&mut text, ".debug_abbrev", &[0x01, 0x11, 0x00])?;
-    push_section(&mut text, ".debug_info", &[])?;
-    push_section(&mut text, ".debug_str", &[0xa9, 0x0f])?;
-    let want = b"order little\n.debug_abbrev 3 011100\n.debug_info 0\n.debug_str 2 a90f\n";
-    assert_eq!(rt; text.as_slice(), want.as_slice());
+fn lists_sections(rt: HostRuntime) -> Result<(), Fail> {
+    let text = listing_text(rt.alloc(), &some_sections(rt.alloc())?)?;
+    assert_eq!(rt; text.as_slice(), LISTED);
     Ok(())
+}
+
+#[test]
+fn reads_listings(rt: HostRuntime) -> Result<(), LineError> {
+    for table in [listings::taken(), listings::refused()] {
+        assert_eq!(rt; showing::first_wrong(rt.alloc(), table)?, None);
+    }
+    Ok(())
+}
+
+#[test]
+fn keeps_what_stood_before_a_refused_line(rt: HostRuntime) -> Result<(), LineError> {
+    let mut reader = ListingReader::new(rt.alloc())?;
+    for (line, is_refused, is_begun) in [
+        ("# a remark", false, false),
+        (".debug_str 2 00", true, false),
+        ("order", true, false),
+        ("order big", false, true),
+        ("order little", true, true),
+        (".debug_str 1 61", false, true),
+        (".debug_str 1 62", true, true),
+        (".debug_info 1 0g", true, true),
+    ] {
+        assert_eq!(rt; reader.line(line.as_bytes()).is_err(), is_refused, "{line}");
+        assert_eq!(rt; reader.is_begun(), is_begun, "{line}");
+    }
+    let mut text = String::new(rt.alloc());
+    showing::show(&mut text, &reader.finish())?;
+    assert_eq!(rt; text.as_str(), "big 1:61");
+    Ok(())
+}
+
+#[test]
+fn reads_a_long_section(rt: HostRuntime) -> Result<(), Fail> {
+    let mut sections = Sections::new(
+        rt.alloc(),
+        EndianVec::new(rt.alloc(), RunTimeEndian::Little),
+    )?;
+    let long = vec![in rt.alloc(); 0xc3u8; 200_000]?;
+    sections.debug_info.0.write(long.as_slice())?;
+    let text = listing_text(rt.alloc(), &sections)?;
+    let mut reader = ListingReader::new(rt.alloc())?;
+    for line in text.as_slice().split(|byte| *byte == b'\n') {
+        reader.line(line)?;
+    }
+    let listing = reader.finish();
+    let section = listing.sections.get(8).ok_or("thirteen sections")?;
+    assert_eq!(rt; section.slice(), long.as_slice());
+    Ok(())
+}
+
+#[test]
+fn reads_numbers(rt: HostRuntime) {
+    for (field, want) in [
+        ("0", Some(0)),
+        ("007", Some(7)),
+        ("0x20", Some(32)),
+        ("0xaF", Some(175)),
+        ("18446744073709551615", Some(u64::MAX)),
+        ("0xffffffffffffffff", Some(u64::MAX)),
+        ("0x00000000000000001", Some(1)),
+        ("18446744073709551616", None),
+        ("0x10000000000000000", None),
+        ("", None),
+        ("0x", None),
+        ("0X1", None),
+        ("-0", None),
+        ("+1", None),
+        ("1a", None),
+        (" 1", None),
+    ] {
+        assert_eq!(rt; number(field.as_bytes()), want, "{field}");
+    }
 }
