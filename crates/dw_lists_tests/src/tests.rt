@@ -387,33 +387,102 @@ fn numbered(alloc: Global, count: u64) -> Result<RangeListTable> {
 }
 
 /// How many lists a large table has, the place of the last, and how many bytes are written.
-fn write_large(
-    alloc: Global,
-    table: &RangeListTable,
-) -> Result<(usize, Option<RangeListsOffset>, usize)> {
+type Large = (usize, Option<RangeListsOffset>, usize);
+
+/// Writes a large table, whose lists of older versions have a base.
+fn write_large(alloc: Global, version: u16) -> Result<Large> {
+    let table = numbered(alloc, 10_000)?;
     let mut sections = plain(alloc, LITTLE)?;
-    let last = last_place(table, &mut sections);
-    let size = sections.debug_rnglists.0.slice().len();
-    Ok((table.count(), last.unwrap_or(None), size))
+    let offsets = table.write(&mut sections, encoding(version, Format::Dwarf32, 8), true)?;
+    let size = if version == 5 {
+        sections.debug_rnglists.0.slice().len()
+    } else {
+        sections.debug_ranges.0.slice().len()
+    };
+    Ok((table.count(), offsets.get(RangeListId(9_999)), size))
 }
 
-fn many(alloc: Global) -> Result<(usize, Option<RangeListsOffset>, usize)> {
-    write_large(alloc, &numbered(alloc, 10_000)?)
-}
+/// Where the last list of version 5 stands: behind the header, an entry for each list, four bytes
+/// for each of the first 127 lists, five for the next one, and then six.
+const LAST: usize = 12 + 40_000 + 127 * 4 + 5 + (9_999 - 128) * 6;
 
-/// Writes a large table, and answers the place of its last list.
-fn last_place(
-    table: &RangeListTable,
-    sections: &mut Sections<EndianVec<RunTimeEndian>>,
-) -> Result<Option<RangeListsOffset>> {
-    let offsets = table.write(sections, encoding(5, Format::Dwarf32, 8), false)?;
-    Ok(offsets.get(RangeListId(9_999)))
-}
+/// A version, the place of the last list, and how many bytes the table has. Up to version 4 a pair
+/// and the close have 16 bytes each.
+const LARGE: [(u16, usize, usize); 2] = [(5, LAST, LAST + 6), (4, 9_999 * 32, 10_000 * 32)];
 
 #[test]
 fn ten_thousand_lists(rt: HostRuntime) {
-    // Four bytes for each of the first 127 lists, five for the next one, and then six.
-    let last = 12 + 40_000 + 127 * 4 + 5 + (9_999 - 128) * 6;
-    let wanted = (10_000, Some(RangeListsOffset(last)), last + 6);
-    assert_eq!(rt; many(rt.alloc()), Ok(wanted));
+    for (version, last, size) in LARGE {
+        let wanted = (10_000, Some(RangeListsOffset(last)), size);
+        assert_eq!(rt; write_large(rt.alloc(), version), Ok(wanted));
+    }
+}
+
+/// A width of addresses, and all ones in it.
+const MARKERS: [(u8, u64); 4] = [
+    (1, 0xff),
+    (2, 0xffff),
+    (4, 0xffff_ffff),
+    (8, 0xffff_ffff_ffff_ffff),
+];
+
+/// Why a pair from a number to 2 is refused, and why two addresses are.
+fn refusals_of(alloc: Global, version: u16, size: u8, begin: u64) -> [Option<Error>; 2] {
+    let encoding = encoding(version, Format::Dwarf32, size);
+    let pair = &[pair!(begin, 2)];
+    let ends = &[ends!(begin, 2)];
+    let (of_pair, _, _) = write_twice(alloc, &[pair], LITTLE, encoding, true, &[]);
+    let (of_ends, _, _) = write_twice(alloc, &[ends], LITTLE, encoding, false, &[]);
+    [of_pair, of_ends]
+}
+
+#[test]
+fn the_marker_of_a_base_is_no_begin(rt: HostRuntime) {
+    for (size, ones) in MARKERS {
+        let answers = [
+            refusals_of(rt.alloc(), 2, size, ones),
+            refusals_of(rt.alloc(), 3, size, ones),
+            refusals_of(rt.alloc(), 4, size, ones),
+            refusals_of(rt.alloc(), 5, size, ones),
+            refusals_of(rt.alloc(), 4, size, ones.wrapping_sub(1)),
+        ];
+        let refused = [Some(Error::InvalidRange); 2];
+        let taken = [None; 2];
+        let wanted = [refused, refused, refused, taken, taken];
+        assert_eq!(rt; (size, answers), (size, wanted));
+    }
+}
+
+/// A list with an item of each kind, and others that differ from it in one place each.
+const EACH: [Range; 4] = [base!(1), pair!(2, 3), ends!(4, 5), start!(6, 7)];
+
+const OTHERS: [[Range; 4]; 8] = [
+    [base!(0), pair!(2, 3), ends!(4, 5), start!(6, 7)],
+    [base!(1), pair!(0, 3), ends!(4, 5), start!(6, 7)],
+    [base!(1), pair!(2, 0), ends!(4, 5), start!(6, 7)],
+    [base!(1), pair!(2, 3), ends!(0, 5), start!(6, 7)],
+    [base!(1), pair!(2, 3), ends!(4, 0), start!(6, 7)],
+    [base!(1), pair!(2, 3), ends!(4, 5), start!(0, 7)],
+    [base!(1), pair!(2, 3), ends!(4, 5), start!(6, 0)],
+    [pair!(2, 3), base!(1), ends!(4, 5), start!(6, 7)],
+];
+
+/// The id of a copy of a list in a table of the list alone, and whether each copied item is equal.
+fn copy_into(alloc: Global, items: &[Range]) -> Result<(usize, bool)> {
+    let list = RangeList(Vec::from_slice(alloc, items)?);
+    let mut are_equal = true;
+    for item in list.0.iter() {
+        are_equal &= item.try_clone()? == *item;
+    }
+    let mut table = table_of(alloc, &[&EACH])?;
+    let id = table.add(list.try_clone()?)?.index();
+    Ok((id, are_equal))
+}
+
+#[test]
+fn copies_equal_what_they_are_of(rt: HostRuntime) {
+    assert_eq!(rt; copy_into(rt.alloc(), &EACH), Ok((0, true)));
+    for other in OTHERS {
+        assert_eq!(rt; copy_into(rt.alloc(), &other), Ok((1, true)));
+    }
 }

@@ -14,7 +14,7 @@ use std::alloc::Global;
 
 /// The places of a unit's entries, by their index.
 #[derive(Drop)]
-struct Entries {
+pub(super) struct Entries {
     places: Vec<u64>,
 }
 
@@ -30,7 +30,7 @@ impl EntryPlaces for Entries {
 
 /// The one operation of an expression, which an expression without bytes has none of.
 #[derive(Clone, Copy)]
-enum Body {
+pub(super) enum Body {
     Empty,
     /// One byte, 0x96.
     Nop,
@@ -42,7 +42,7 @@ enum Body {
 }
 
 /// The addresses of an item, which the default location has none of, and its expression.
-type Item = (Option<Range>, Body);
+pub(super) type Item = (Option<Range>, Body);
 
 /// The base of a table of version 5, and the places of its first three ids.
 type Places = (Option<usize>, [Option<LocationListsOffset>; 3]);
@@ -96,7 +96,7 @@ fn location_list(alloc: Global, items: &[Item]) -> Result<LocationList> {
     Ok(LocationList(list))
 }
 
-fn table_of(alloc: Global, lists: &[&[Item]]) -> Result<LocationListTable> {
+pub(super) fn table_of(alloc: Global, lists: &[&[Item]]) -> Result<LocationListTable> {
     let mut table = LocationListTable::new(alloc);
     for list in lists {
         table.add(location_list(alloc, list)?)?;
@@ -449,4 +449,78 @@ fn add_again(alloc: Global) -> Result<(usize, usize, bool)> {
 #[test]
 fn equal_location_lists_are_kept_once(rt: HostRuntime) {
     assert_eq!(rt; add_again(rt.alloc()), Ok((0, 2, true)));
+}
+
+/// A list with an item of each kind, and others that differ from it in one place each.
+const EACH: [Item; 5] = [
+    (Some(base!(1)), Body::Empty),
+    (Some(pair!(2, 3)), Body::Nop),
+    (Some(ends!(4, 5)), Body::Nop),
+    (Some(start!(6, 7)), Body::Nop),
+    (None, Body::Nop),
+];
+
+const OTHERS: [[Item; 5]; 6] = [
+    [
+        (Some(base!(0)), Body::Empty),
+        (Some(pair!(2, 3)), Body::Nop),
+        (Some(ends!(4, 5)), Body::Nop),
+        (Some(start!(6, 7)), Body::Nop),
+        (None, Body::Nop),
+    ],
+    [
+        (Some(base!(1)), Body::Empty),
+        (Some(pair!(2, 3)), Body::Empty),
+        (Some(ends!(4, 5)), Body::Nop),
+        (Some(start!(6, 7)), Body::Nop),
+        (None, Body::Nop),
+    ],
+    [
+        (Some(base!(1)), Body::Empty),
+        (Some(pair!(2, 3)), Body::Nop),
+        (Some(ends!(4, 5)), Body::Call(0)),
+        (Some(start!(6, 7)), Body::Nop),
+        (None, Body::Nop),
+    ],
+    [
+        (Some(base!(1)), Body::Empty),
+        (Some(pair!(2, 3)), Body::Nop),
+        (Some(ends!(4, 5)), Body::Nop),
+        (Some(start!(6, 0)), Body::Nop),
+        (None, Body::Nop),
+    ],
+    [
+        (Some(base!(1)), Body::Empty),
+        (Some(pair!(2, 3)), Body::Nop),
+        (Some(ends!(4, 5)), Body::Nop),
+        (Some(start!(6, 7)), Body::Nop),
+        (None, Body::Empty),
+    ],
+    [
+        (None, Body::Nop),
+        (Some(pair!(2, 3)), Body::Nop),
+        (Some(ends!(4, 5)), Body::Nop),
+        (Some(start!(6, 7)), Body::Nop),
+        (Some(base!(1)), Body::Empty),
+    ],
+];
+
+/// The id of a copy of a list in a table of the list alone, and whether each copied item is equal.
+fn copy_into(alloc: Global, items: &[Item]) -> Result<(usize, bool)> {
+    let list = location_list(alloc, items)?;
+    let mut are_equal = true;
+    for item in list.0.iter() {
+        are_equal &= item.try_clone()? == *item;
+    }
+    let mut table = table_of(alloc, &[&EACH])?;
+    let id = table.add(list.try_clone()?)?.index();
+    Ok((id, are_equal))
+}
+
+#[test]
+fn copies_of_locations_equal_what_they_are_of(rt: HostRuntime) {
+    assert_eq!(rt; copy_into(rt.alloc(), &EACH), Ok((0, true)));
+    for other in OTHERS {
+        assert_eq!(rt; copy_into(rt.alloc(), &other), Ok((1, true)));
+    }
 }
