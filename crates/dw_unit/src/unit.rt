@@ -249,8 +249,8 @@ impl Unit {
 
     /// Names the line program in the root's `DW_AT_stmt_list` where there is one in use, and in
     /// version 5 the range lists in `DW_AT_rnglists_base` and the location lists in
-    /// `DW_AT_loclists_base` where there are some, deletes these attributes where there is none, and
-    /// moves the root's base types before its other children.
+    /// `DW_AT_loclists_base` where there are some, deletes these attributes where there is none,
+    /// and moves the root's base types before its other children.
     fn settle(&mut self, has_line_program: bool) -> Result<()>
         ensures ok { OnOk result
             (self.new ≡ record self.old {
@@ -297,10 +297,10 @@ impl Unit {
     /// Writes the unit at the end of `.debug_info`, its abbreviation table at the end of
     /// `.debug_abbrev` (DWARF 5, 7.5.1 to 7.5.3), its line program, where it is in use, at the end
     /// of `.debug_line` (6.2), its range lists at the end of `.debug_rnglists` (7.28) or up to
-    /// version 4 of `.debug_ranges`, its location lists at the end of `.debug_loclists` (7.29) or up
-    /// to version 4 of `.debug_loc`, and marks it written; from then on it keeps where its entries
-    /// stand. A line program is in use where a sequence was begun in it or some entry names one of
-    /// its files: then the root names its place in `DW_AT_stmt_list`, and else has no such
+    /// version 4 of `.debug_ranges`, its location lists at the end of `.debug_loclists` (7.29) or
+    /// up to version 4 of `.debug_loc`, and marks it written; from then on it keeps where its
+    /// entries stand. A line program is in use where a sequence was begun in it or some entry names
+    /// one of its files: then the root names its place in `DW_AT_stmt_list`, and else has no such
     /// attribute. In version 5 the root names the first offset entries of the range lists in
     /// `DW_AT_rnglists_base` and of the location lists in `DW_AT_loclists_base` where there are
     /// some, and else has no such attributes. The root's base types move before its other children.
@@ -339,8 +339,8 @@ impl Unit {
             (ExtendsPending W.meaning sections.old sections.new (settled self.old)
             (unit_tables (elsewhere W.meaning sections.old line_strings.now strings.now) self.old)
             self.new.offsets) }
-        // Its line program, where it is in use, stands behind what `.debug_line` held, and its range
-        // lists behind what the section of its version held.
+        // Its line program, where it is in use, stands behind what `.debug_line` held, and its
+        // range lists behind what the section of its version held.
         ensures lines { OnOk result
             (AppendsLine W.meaning sections.old sections.new line_strings.now strings.now
             self.old) }
@@ -472,8 +472,8 @@ impl Unit {
         Ok(UnitOffsets::of(start, places))
     }
 
-    /// Writes what the unit leaves in other sections that hangs on no place of its entries, its line
-    /// program, where it is in use, and its range lists, and answers where they stand.
+    /// Writes what the unit leaves in other sections that hangs on no place of its entries, its
+    /// line program, where it is in use, and its range lists, and answers where they stand.
     fn write_parts<W: Writer>(
         &self,
         sections: &mut Sections<W>,
