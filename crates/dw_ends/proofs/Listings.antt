@@ -10,14 +10,11 @@ pub record IsListing (big : Bool) (done : List (List ℕ × List ℕ)) (text : L
   pub is : text ≡ listing big done
 
 -- with no section it is the order's line alone
-pub listing-nil : (big : Bool) → listing big [] ≡ order_line big
-listing-nil big = append-nil (order_line big)
-
 pub none_listed : (big : Bool) (text : List ℕ) → text ≡ order_line big → IsListing big [] text
-none_listed big text e = record { is = e ∙ sym (listing-nil big) }
+none_listed big text e = record { is = e ∙ sym (append-nil (order_line big)) }
 
 -- one section more adds its line at the end
-pub listing-push : (big : Bool) (sections : List (List ℕ × List ℕ)) (name bytes : List ℕ) →
+listing-push : (big : Bool) (sections : List (List ℕ × List ℕ)) (name bytes : List ℕ) →
     listing big (sections ++ (name, bytes) ∷ []) ≡ listing big sections ++ section_line name bytes
 listing-push big sections name bytes =
     rw (flat_map-append, ← append_assoc) (ap (λ line. listing big sections ++ line) (append-nil (section_line name bytes)))

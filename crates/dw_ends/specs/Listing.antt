@@ -1,5 +1,5 @@
 -- The text of a listing of sections, and what it says when it is read back.
-use Rattle.std.specs.Prelude.{◌≡◌, ℕ, ◌^◌, ◌<◌, Bool, true, false, List, [], ◌∷◌, ◌++◌, length, get_or, codes, decimal}
+use Rattle.std.specs.Prelude.{◌≡◌, ℕ, ◌^◌, ◌<◌, Bool, true, false, List, [], ◌∷◌, ◌++◌, length, get_or, map, replicate, codes, decimal}
 use Rattle.std.specs.List.{flat_map}
 use Rattle.std.specs.Option.{unwrap_or}
 use Rattle.hex.specs.Hex.{encode_lower}
@@ -63,18 +63,19 @@ abbrev pub order_named : Bool → RunTimeEndian
 order_named true = Big
 order_named false = Little
 
--- what the listing says when it is read: the byte order, a line of each of the eleven sections with its bytes, and no line of the
+-- what a listing says when it is read: the byte order, a line of each of the eleven sections with its bytes, and no line of the
 -- two that are only read
-abbrev pub read_of : {W : Type 0} → (W → Meaning) → Sections W → ListingValue
-read_of meaning s = record {
-  endian = order_named (meaning s.debug_info.0).is_big;
+abbrev pub read_as : Bool → List (List ℕ) → ListingValue
+read_as big sections = record {
+  endian = order_named big;
   is_begun = true;
-  is_taken = true ∷ true ∷ true ∷ true ∷ true ∷ true ∷ true ∷ true ∷ true ∷ true ∷ true ∷ false ∷ false ∷ [];
-  sections =
-      told meaning s.debug_abbrev.0 ∷ told meaning s.debug_str.0 ∷ told meaning s.debug_line_str.0 ∷ told meaning s.debug_line.0
-      ∷ told meaning s.debug_ranges.0 ∷ told meaning s.debug_rnglists.0 ∷ told meaning s.debug_loc.0 ∷ told meaning s.debug_loclists.0
-      ∷ told meaning s.debug_info.0 ∷ told meaning s.debug_frame.0 ∷ told meaning s.eh_frame.0 ∷ [] ∷ [] ∷ [];
+  is_taken = replicate 11 true ++ replicate 2 false;
+  sections = sections ++ replicate 2 [];
 }
+
+-- the same of the listing of these sections
+abbrev pub read_of : {W : Type 0} → (W → Meaning) → Sections W → ListingValue
+read_of meaning s = read_as (meaning s.debug_info.0).is_big (map (λ n. n.1) (named meaning s))
 
 -- a text grew by the line of a section with these bytes
 pub record AddsLine (id : SectionId) (bytes old new : List ℕ) : Type 0 where

@@ -53,8 +53,8 @@ fn push_one<S: Section<EndianVec<RunTimeEndian>>>(
     push_section(text, section.name(), section.section().slice())
 }
 
-/// Appends the line that says the order of bytes. Where memory runs out, `text` stays as it was.
-pub fn push_order(text: &mut Vec<u8>, big: bool) -> Result<(), AllocError>
+// Appends the line that says the order of bytes. Where memory runs out, `text` stays as it was.
+fn push_order(text: &mut Vec<u8>, big: bool) -> Result<(), AllocError>
     ensures ok { OnOk result (text.new.items ≡ text.old.items ++ order_line big) }
     ensures err { OnErr result (text.new.items ≡ text.old.items) }
 {
@@ -81,9 +81,9 @@ fn push_hex(text: &mut Vec<u8>, bytes: &[u8]) -> Result<(), AllocError>
     }
 }
 
-/// Appends a section's line: its name, its length and its bytes in hex. Where memory runs out, a
-/// front of the line may stay in `text`.
-pub fn push_section(text: &mut Vec<u8>, name: &str, bytes: &[u8]) -> Result<(), AllocError>
+// Appends a section's line: its name, its length and its bytes in hex. Where memory runs out, a
+// front of the line may stay in `text`.
+fn push_section(text: &mut Vec<u8>, name: &str, bytes: &[u8]) -> Result<(), AllocError>
     ensures ok { OnOk result (text.new.items ≡ text.old.items ++ section_line name.now bytes.now) }
     ensures bytes { AreBytes bytes.now }
     ensures err { OnErr result (StartsWith text.new.items text.old.items) }

@@ -1,6 +1,6 @@
 //! Listings, read line by line.
 
-ghost use Rattle.std.specs.Prelude.{◌≡◌, ◌<◌, [], Ok, replicate, IfOk, IfErr, OnOk, OnErr};
+ghost use Rattle.std.specs.Prelude.{◌≡◌, ◌<◌, [], Ok, length, replicate, IfOk, IfErr, OnOk, OnErr};
 ghost use Rattle.dw_ends.specs.Lines.{HasPlace};
 ghost use Rattle.dw_ends.specs.Sections.{RefusedFor, after_line, after_said, empty_listing};
 
@@ -141,6 +141,7 @@ impl ListingReader {
     pub fn finish(self) -> Listing
         ensures endian { result.endian ≡ self.endian }
         ensures sections { result.sections.items ≡ self.sections }
+        ensures count { length result.sections.items ≡ 13 }
     {
         let ListingReader {
             endian,

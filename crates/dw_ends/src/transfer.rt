@@ -1,7 +1,7 @@
 //! A whole input into memory, and a whole text out of it.
 
 ghost use Rattle.std.specs.Prelude.{◌≡◌, ◌+◌, ◌<◌, ◌≤◌, length, max, IfOk, OnOk, OnErr, IfSome, IsErrOf, vec_len, vec_capacity};
-ghost use Rattle.dw_ends.specs.declared.transfer.ReadAllError.TheVariants.{Failed as ReadFailed, NoMemory};
+ghost use Rattle.dw_ends.specs.declared.transfer.EndError.TheVariants.{Failed as ReadFailed, NoMemory};
 ghost use Rattle.dw_base.specs.Faults.{HasRisen};
 ghost use Rattle.dw_ends.specs.Ends.{TakesPrefix, used_up, with_after};
 
@@ -9,67 +9,66 @@ use crate::sink::{Sink, SinkError};
 use crate::source::{Failed, Source};
 use std::alloc::{AllocError, Global};
 
+/// The most bytes that an input may have.
+pub const INPUT_LIMIT: usize = 16_777_216;
+
 // How many bytes are asked of a source at once.
 const CHUNK: usize = 16 * 1024;
 
 /// Why an input could not be read whole.
 #[derive(Clone, Copy, Debug, PartialEq, Eq)]
-pub enum ReadAllError {
+pub enum EndError {
     /// A read failed.
     Failed,
-    /// There are more bytes than the limit.
+    /// There are more bytes than 16,777,216.
     TooLong,
     /// Memory ran out.
     NoMemory,
 }
 
-impl From<Failed> for ReadAllError {
+impl From<Failed> for EndError {
     ghost from_gives = { λ _ error. error ≡ ReadFailed };
 
-    fn from(_failed: Failed) -> ReadAllError {
-        ReadAllError::Failed
+    fn from(_failed: Failed) -> EndError {
+        EndError::Failed
     }
 }
 
-impl From<AllocError> for ReadAllError {
+impl From<AllocError> for EndError {
     ghost from_gives = { λ _ error. error ≡ NoMemory };
 
-    fn from(_error: AllocError) -> ReadAllError {
-        ReadAllError::NoMemory
+    fn from(_error: AllocError) -> EndError {
+        EndError::NoMemory
     }
 }
 
 // Makes room for `more` bytes, and for twice what there was while that stays within the limit.
-fn make_room(bytes: &mut Vec<u8>, more: usize, limit: usize) -> Result<(), AllocError>
-    requires { vec_len bytes.old + more ≤ limit }
+fn make_room(bytes: &mut Vec<u8>, more: usize) -> Result<(), AllocError>
+    requires { vec_len bytes.old + more ≤ INPUT_LIMIT }
     ensures same { bytes.new.items ≡ bytes.old.items }
     ensures room { OnOk result (vec_len bytes.new + more ≤ vec_capacity bytes.new) }
-    ensures capped { vec_capacity bytes.new ≤ max (vec_capacity bytes.old) limit }
+    ensures capped { vec_capacity bytes.new ≤ max (vec_capacity bytes.old) INPUT_LIMIT }
 {
     let held = bytes.len();
     if more <= bytes.capacity() - held {
         return Ok(());
     }
-    let doubled = bytes.capacity().saturating_mul(2).min(limit);
+    let doubled = bytes.capacity().saturating_mul(2).min(INPUT_LIMIT);
     bytes.reserve_exact(doubled.max(held + more) - held)
 }
 
-/// Reads a source to its end, where that comes within `limit` bytes. What was read before an error
-/// is lost.
-pub fn read_all<S: Source>(
-    alloc: Global,
-    source: &mut S,
-    limit: usize,
-) -> Result<Vec<u8>, ReadAllError>
+/// Reads a source to its end, where that comes within 16,777,216 bytes. What was read before an
+/// error is lost.
+pub fn read_all<S: Source>(alloc: Global, source: &mut S) -> Result<Vec<u8>, EndError>
     ensures faults { (S.input source.old).faults ≤ (S.input source.new).faults }
-    ensures within { IfOk result (λ bytes. vec_len bytes ≤ limit) }
+    ensures within { IfOk result (λ bytes. vec_len bytes ≤ INPUT_LIMIT) }
     ensures whole { IfOk result (λ bytes.
         IfSome (S.input source.old).left (λ xs. bytes.items ≡ xs)) }
     ensures ended { OnOk result ((S.input source.new).left ≡ used_up (S.input source.old).left) }
 
-    ensures too_long { IsErrOf result ReadAllError.TooLong →
-        IfSome (S.input source.old).left (λ xs. limit < length xs) }
-    ensures failed { IsErrOf result ReadAllError.Failed →
+    ensures too_long { IsErrOf result EndError.TooLong →
+        IfSome (S.input source.old).left (λ xs. INPUT_LIMIT < length xs) }
+    ensures failed { IsErrOf result EndError.Failed →
         HasRisen (S.input source.old).faults (S.input source.new).faults }
 {
     let mut chunk = [0; CHUNK];
@@ -79,10 +78,10 @@ pub fn read_all<S: Source>(
         if count == 0 {
             return Ok(bytes);
         }
-        if count > limit - bytes.len() {
-            return Err(ReadAllError::TooLong);
+        if count > INPUT_LIMIT - bytes.len() {
+            return Err(EndError::TooLong);
         }
-        make_room(&mut bytes, count, limit)?;
+        make_room(&mut bytes, count)?;
         bytes.extend_from_slice(&chunk[..count])?;
     }
 }

@@ -1,9 +1,9 @@
 use crate::{listings, showing};
 use dw_base::RunTimeEndian;
 use dw_ends::{
-    Failed, FailingSink, FailingSource, LineError, ListingReader, ReadAllError, Sink, SinkError,
-    SliceSource, Source, StdinSource, StdoutSink, VecSink, listing_text, number, read_all,
-    write_all,
+    EndError, Failed, FailingSink, FailingSource, INPUT_LIMIT, LineError, ListingReader, Sink,
+    SinkError, SliceSource, Source, StdinSource, StdoutSink, VecSink, listing_text, number,
+    read_all, write_all,
 };
 use dw_writer::{EndianVec, Sections, Writer};
 use std::alloc::{AllocError, Global};
@@ -51,26 +51,33 @@ impl io::Write for FailsOnce {
 }
 
 #[test]
-fn reads_a_whole_slice(rt: HostRuntime) -> Result<(), ReadAllError> {
+fn reads_a_whole_slice(rt: HostRuntime) -> Result<(), EndError> {
     let mut source = SliceSource::new(b"seven\n!");
-    let bytes = read_all(rt.alloc(), &mut source, 7)?;
+    let bytes = read_all(rt.alloc(), &mut source)?;
     assert_eq!(rt; bytes.as_slice(), b"seven\n!".as_slice());
     assert_eq!(rt; source.read(&mut [0; 4]), Ok(0));
     Ok(())
 }
 
 #[test]
-fn reads_more_than_one_chunk(rt: HostRuntime) -> Result<(), ReadAllError> {
+fn reads_more_than_one_chunk(rt: HostRuntime) -> Result<(), EndError> {
     let long = vec![in rt.alloc(); 7u8; 40_000]?;
-    let bytes = read_all(rt.alloc(), &mut SliceSource::new(long.as_slice()), 40_000)?;
+    let bytes = read_all(rt.alloc(), &mut SliceSource::new(long.as_slice()))?;
     assert_eq!(rt; bytes.as_slice(), long.as_slice());
     Ok(())
 }
 
 #[test]
-fn refuses_more_than_the_limit(rt: HostRuntime) {
-    let answer = read_all(rt.alloc(), &mut SliceSource::new(b"seven\n!"), 6);
-    assert_eq!(rt; answer.err(), Some(ReadAllError::TooLong));
+fn reads_up_to_the_limit(rt: HostRuntime) -> Result<(), AllocError> {
+    let long = vec![in rt.alloc(); b'#'; INPUT_LIMIT + 1]?;
+    let mut source = SliceSource::new(long.as_slice());
+    assert_eq!(rt;
+        read_all(rt.alloc(), &mut source).err(),
+        Some(EndError::TooLong)
+    );
+    let mut source = SliceSource::new(&long.as_slice()[1..]);
+    assert!(rt; read_all(rt.alloc(), &mut source).is_ok());
+    Ok(())
 }
 
 #[test]
@@ -78,20 +85,20 @@ fn tells_a_failed_read(rt: HostRuntime) -> Result<(), AllocError> {
     for call in 0..2 {
         let mut source = FailingSource::new(b"seven\n!", vec![in rt.alloc(); call]?);
         assert_eq!(rt;
-            read_all(rt.alloc(), &mut source, 9).err(),
-            Some(ReadAllError::Failed),
+            read_all(rt.alloc(), &mut source).err(),
+            Some(EndError::Failed),
             "at {call}"
         );
     }
     let mut source = FailingSource::new(b"seven\n!", vec![in rt.alloc(); 2]?);
-    assert!(rt; read_all(rt.alloc(), &mut source, 9).is_ok());
+    assert!(rt; read_all(rt.alloc(), &mut source).is_ok());
     Ok(())
 }
 
 #[test]
-fn reads_through_a_reader(rt: HostRuntime) -> Result<(), ReadAllError> {
+fn reads_through_a_reader(rt: HostRuntime) -> Result<(), EndError> {
     let mut source = StdinSource::new(b"seven\n!".as_slice());
-    let bytes = read_all(rt.alloc(), &mut source, 9)?;
+    let bytes = read_all(rt.alloc(), &mut source)?;
     assert_eq!(rt; bytes.as_slice(), b"seven\n!".as_slice());
     Ok(())
 }
@@ -104,8 +111,8 @@ fn tells_each_error_of_a_reader(rt: HostRuntime) {
         assert_eq!(rt; source.read(&mut [0; 4]), Ok(0), "{kind:?}");
 
         let mut source = StdinSource::new(FailsOnce { error: Some(kind) });
-        let answer = read_all(rt.alloc(), &mut source, 9).err();
-        assert_eq!(rt; answer, Some(ReadAllError::Failed), "{kind:?}");
+        let answer = read_all(rt.alloc(), &mut source).err();
+        assert_eq!(rt; answer, Some(EndError::Failed), "{kind:?}");
     }
 }
 
@@ -227,9 +234,7 @@ fn reads_a_long_section(rt: HostRuntime) -> Result<(), Fail> {
     for line in text.as_slice().split(|byte| *byte == b'\n') {
         reader.line(line)?;
     }
-    let listing = reader.finish();
-    let section = listing.sections.get(8).ok_or("thirteen sections")?;
-    assert_eq!(rt; section.slice(), long.as_slice());
+    assert_eq!(rt; reader.finish().sections[8].slice(), long.as_slice());
     Ok(())
 }
 

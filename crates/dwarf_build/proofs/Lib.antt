@@ -1,7 +1,6 @@
 pub mod Outcomes
 pub mod CommandWords
 pub mod Texts
-pub mod Listings
 pub mod Answered
 pub mod Faulty
 pub mod Completeness

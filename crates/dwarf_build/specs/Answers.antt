@@ -8,10 +8,11 @@ use Rattle.dw_dwarf.specs.Valid.{IsValid, DwarfFails, empty_ends}
 use Rattle.dw_dwarf.specs.Written.{SectionTexts, AreTextsOf, one_order}
 use Rattle.dw_base.specs.Faults.{HasRisen}
 use Rattle.dw_ends.specs.Ends.{Input, Intake, used_up, with_after, TakesPrefix}
+use Rattle.dw_ends.specs.Sections.{sections_of}
 use Rattle.dw_script.specs.Numbers.{number_below}
 use Rattle.dwarf_build.specs.Generated.{generated}
 use Rattle.dw_build.specs.Script.{script}
-use Rattle.dwarf_build.specs.Texts.{usage_text, too_long_text, refusal_text, refused_text, sections_text, summary_text}
+use Rattle.dwarf_build.specs.Texts.{usage_text, too_long_text, refusal_text, refused_text, sections_text, summary_text, texts_read}
 use Rattle.dwarf_build.specs.declared.answer.Stop.{Stop}
 use Rattle.dwarf_build.specs.declared.answer.Stop.TheVariants as stop
 use Rattle.dwarf_build.specs.declared.status.Status.{Status}
@@ -50,14 +51,15 @@ longest_script = 16777216
 abbrev pub IsShort : List ℕ → Type 0
 IsShort bytes = length bytes ≤ longest_script
 
--- the listing of sections that are read as exactly the script's units, with their line programs, range lists and strings in
--- their sections and nothing in the others. It comes, with status 0, only for valid units, so that each reference in it names an
--- entry of its unit's tree
+-- the listing of sections that are read as exactly the script's units, with their line programs, lists and strings in their
+-- sections and nothing in the others. It comes, with status 0, only for valid units, so that each reference in it names an entry
+-- of its unit's tree. Read as a listing, it gives the same sections in the same byte order
 pub record ListsScript (s : ScriptValue) (text : List ℕ) : Type 0 where
   pub texts : SectionTexts
   pub valid : IsValid true s.dwarf
   pub are : AreTextsOf (one_order (is_big_of s.endian)) s.dwarf texts
   pub listed : text ≡ sections_text (is_big_of s.endian) texts
+  pub read_back : sections_of text ≡ Ok (texts_read (is_big_of s.endian) texts)
 
 -- A plain writer can't take some unit, where its table and its own parts of other sections stand behind those of the units before it, or some
 -- reference across units leads to no entry, or to one whose place has no room.

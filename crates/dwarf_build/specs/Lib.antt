@@ -1,5 +1,4 @@
 pub mod Generated
 pub mod Drafted
 pub mod Texts
-pub mod Listed
 pub mod Answers

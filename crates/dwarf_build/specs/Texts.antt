@@ -1,12 +1,13 @@
 -- The texts that are printed.
-use Rattle.std.specs.Prelude.{ℕ, Bool, List, [], ◌∷◌, ◌++◌, length, codes, decimal, sum, sum_by}
+use Rattle.std.specs.Prelude.{ℕ, Bool, List, [], ◌∷◌, ◌++◌, length, map, codes, decimal, sum, sum_by}
 use Rattle.dw_base.specs.SectionName.{section_name}
 use Rattle.dw_base.specs.declared.section_id.SectionId.TheVariants.{DebugAbbrev, DebugStr, DebugLineStr, DebugLine, DebugRanges, DebugRngLists, DebugLoc, DebugLocLists, DebugInfo, DebugFrame, EhFrame}
 use Rattle.dw_base.specs.ErrorName.{error_name}
 use Rattle.dw_base.specs.declared.error.Error.{Error}
 use Rattle.dw_dwarf.specs.Written.{SectionTexts}
 use Rattle.dw_dwarf.specs.DwarfValue.{DwarfValue}
-use Rattle.dw_ends.specs.Listing.{listing}
+use Rattle.dw_ends.specs.Listing.{listing, read_as}
+use Rattle.dw_ends.specs.Sections.{ListingValue}
 use Rattle.dw_script.specs.Reasons.{reason_text}
 use Rattle.dw_build.specs.declared.script.Refusal.{Refusal}
 
@@ -37,6 +38,10 @@ named s =
 -- the listing of sections in a byte order
 abbrev pub sections_text : Bool → SectionTexts → List ℕ
 sections_text big s = listing big (named s)
+
+-- what that listing says when it is read
+abbrev pub texts_read : Bool → SectionTexts → ListingValue
+texts_read big s = read_as big (map (λ n. n.1) (named s))
 
 -- how many units and entries there are, how long .debug_info and .debug_abbrev are, and the sum of the bytes of the former
 abbrev pub counts_text : ℕ → ℕ → List ℕ → List ℕ → List ℕ

@@ -8,14 +8,13 @@ ghost use Rattle.dw_build.specs.Script.{AreOpen};
 ghost use Rattle.dw_build.specs.ScriptValue.{script_in};
 ghost use Rattle.dwarf_build.specs.Texts.{refusal_text, refused_text};
 
-use crate::listing::list_sections;
 use crate::make::generate;
 use crate::status::Status;
 use crate::summary::{Counts, summarize};
 use crate::write::write_new;
 use dw_base::{Error, RunTimeEndian};
 use dw_build::{Refusal, SCRIPT_LIMIT, Script, ScriptError, read_script};
-use dw_ends::{ReadAllError, Source, read_all};
+use dw_ends::{EndError, Source, listing_text, read_all};
 use dw_script::parse_u64;
 use dw_writer::Section;
 use std::alloc::{AllocError, Global};
@@ -124,7 +123,7 @@ fn write_script(alloc: Global, mut script: Script) -> Result<Answer, AllocError>
 {
     match write_new(alloc, script.endian, &mut script.dwarf) {
         Ok(sections) => {
-            let text = list_sections(alloc, script.endian, &sections)?;
+            let text = listing_text(alloc, &sections)?;
             Ok(Answer {
                 status: Status::Listed,
                 text,
@@ -172,11 +171,11 @@ fn answer_build<S: Source>(alloc: Global, source: &mut S) -> Result<Answer, Stop
         (S.input source.old) (S.input source.new)) }
     ensures faults { (S.input source.old).faults ≤ (S.input source.new).faults }
 {
-    match read_all(alloc, source, SCRIPT_LIMIT) {
+    match read_all(alloc, source) {
         Ok(bytes) => Ok(build(alloc, bytes.as_slice())?),
-        Err(ReadAllError::TooLong) => Ok(answer_with(alloc, Status::TooLong, b"too long\n")?),
-        Err(ReadAllError::Failed) => Err(Stop::SourceFailed),
-        Err(ReadAllError::NoMemory) => Err(Stop::NoMemory),
+        Err(EndError::TooLong) => Ok(answer_with(alloc, Status::TooLong, b"too long\n")?),
+        Err(EndError::Failed) => Err(Stop::SourceFailed),
+        Err(EndError::NoMemory) => Err(Stop::NoMemory),
     }
 }
 

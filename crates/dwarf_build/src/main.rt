@@ -8,7 +8,6 @@ mod case_tests;
 mod cases;
 #[cfg(test)]
 mod generated_tests;
-mod listing;
 mod make;
 #[cfg(test)]
 mod make_tests;
@@ -23,7 +22,11 @@ ghost use Rattle.std.specs.Prelude.{◌≡◌, ◌⊎◌, IfErr};
 
 use crate::run::end;
 use crate::status::Status;
-use dw_ends::{StdinSource, StdoutSink};
+pub use dw_ends::{
+    EndError, Failed, FailingSink, FailingSource, LineError, Listing, ListingReader, Reason, Sink,
+    SinkError, SliceSource, Source, StdinSource, StdoutSink, VecSink, listing_text, number,
+    read_all, write_all,
+};
 use std::env;
 use std::io::{self, ErrorKind};
 use std::process::ExitCode;
