@@ -134,6 +134,7 @@ macro_rules! start {
     };
 }
 
+mod damage;
 mod expressions;
 mod location_lists;
 mod range_lists;
