@@ -48,6 +48,8 @@ pub(crate) enum Call {
     /// A location list of one item: 16 bytes from an address on, where the object is what the
     /// expression of another entry tells.
     Located(Address, DebugInfoRef),
+    /// A location list of one item, whose expression is empty.
+    Location(Range),
     Skip,
 }
 
@@ -141,6 +143,29 @@ fn locate(alloc: Global, unit: &mut Unit, begin: Address, entry: DebugInfoRef) -
     Ok(())
 }
 
+/// An item of a location list: the same addresses, with an empty expression.
+fn located(alloc: Global, range: Range) -> Location {
+    let expression = Expression::new(alloc);
+    match range {
+        Range::BaseAddress { address } => Location::BaseAddress { address },
+        Range::OffsetPair { begin, end } => Location::OffsetPair {
+            begin,
+            end,
+            expression,
+        },
+        Range::StartEnd { begin, end } => Location::StartEnd {
+            begin,
+            end,
+            expression,
+        },
+        Range::StartLength { begin, length } => Location::StartLength {
+            begin,
+            length,
+            expression,
+        },
+    }
+}
+
 /// Makes a call of a unit. One that the unit's state forbids is `InvalidReference`.
 fn make_call(alloc: Global, unit: &mut Unit, call: &Call) -> Result<()> {
     let takes_entries = !unit.is_freed() && unit.reserved() < usize::MAX;
@@ -165,6 +190,11 @@ fn make_call(alloc: Global, unit: &mut Unit, call: &Call) -> Result<()> {
             Ok(())
         }
         Call::Located(begin, entry) => locate(alloc, unit, *begin, *entry),
+        Call::Location(range) => {
+            let item = located(alloc, *range);
+            unit.locations.add(LocationList(vec![in alloc; item]?))?;
+            Ok(())
+        }
         Call::Skip if !unit.is_written() => {
             unit.skip();
             Ok(())

@@ -3,11 +3,11 @@
 ghost use Rattle.dw_writer.specs.Sections.{NoFixups};
 
 use crate::building::{Call, Change, Value, make_calls};
-use crate::plans::{ROOT_INFO, ROOT_TABLE, VERSION_5, new_sections, place_of};
-use dw_base::constants::{DW_AT_type, DW_TAG_base_type};
+use crate::plans::{ROOT_INFO, ROOT_TABLE, VERSION_4, VERSION_5, new_sections, place_of};
+use dw_base::constants::{DW_AT_low_pc, DW_AT_type, DW_TAG_base_type};
 use dw_dwarf::{
-    Address, DebugInfoRef, DwarfUnit, Error, LineString, LittleEndian, Result, Sections,
-    UnitEntryId, UnitId,
+    Address, DebugInfoRef, DwarfUnit, Encoding, Error, LineString, LittleEndian, Range, Result,
+    Sections, UnitEntryId, UnitId,
 };
 use dw_writer::FaultVec;
 use std::alloc::Global;
@@ -56,8 +56,8 @@ fn write_into_new(alloc: Global, calls: &[Call], dwarf: &mut DwarfUnit) -> Resul
 }
 
 /// Writes a unit that is made by these calls.
-fn write_alone(alloc: Global, calls: &[Call]) -> Result<Alone> {
-    let mut dwarf = DwarfUnit::new(alloc, VERSION_5)?;
+fn write_alone(alloc: Global, encoding: Encoding, calls: &[Call]) -> Result<Alone> {
+    let mut dwarf = DwarfUnit::new(alloc, encoding)?;
     write_into_new(alloc, calls, &mut dwarf)
 }
 
@@ -67,9 +67,9 @@ fn write_alone(alloc: Global, calls: &[Call]) -> Result<Alone> {
 fn writes_a_unit_alone(rt: HostRuntime) -> std::result::Result<(), Fail> {
     assert_eq!(rt;
         (
-            write_alone(rt.alloc(), &[])?,
-            write_alone(rt.alloc(), NAMES_FIRST_ROOT)?,
-            write_alone(rt.alloc(), LISTS_FIRST_ROOT)?
+            write_alone(rt.alloc(), VERSION_5, &[])?,
+            write_alone(rt.alloc(), VERSION_5, NAMES_FIRST_ROOT)?,
+            write_alone(rt.alloc(), VERSION_5, LISTS_FIRST_ROOT)?
         ),
         (
             (None, true, 1, Some((12, 12))),
@@ -77,6 +77,77 @@ fn writes_a_unit_alone(rt: HostRuntime) -> std::result::Result<(), Fail> {
             (Some(Error::InvalidReference), false, 1, None)
         )
     );
+    Ok(())
+}
+
+/// The root begins at the address 0, which is no base.
+const AT_0: Call = Call::Change(
+    0,
+    Change::Set(DW_AT_low_pc, Value::Address(Address::Constant(0))),
+);
+
+const AT_1: Call = Call::Change(
+    0,
+    Change::Set(DW_AT_low_pc, Value::Address(Address::Constant(1))),
+);
+
+const PAIR: Range = Range::OffsetPair { begin: 6, end: 7 };
+
+const ENDS: Range = Range::StartEnd {
+    begin: Address::Constant(6),
+    end: Address::Constant(7),
+};
+
+const LENGTH: Range = Range::StartLength {
+    begin: Address::Constant(6),
+    length: 1,
+};
+
+/// Lists of one item in version 4, and why they are refused. Up to there pairs count from the
+/// root's first address, where it isn't 0, and whole addresses want none (DWARF 4, 2.6.2 and
+/// 2.17.3).
+const BASES: [(&[Call], Option<Error>); 18] = [
+    (&[Call::List(PAIR)], Some(Error::MissingBaseAddress)),
+    (&[AT_0, Call::List(PAIR)], Some(Error::MissingBaseAddress)),
+    (&[AT_1, Call::List(PAIR)], None),
+    (&[Call::List(ENDS)], None),
+    (&[AT_0, Call::List(ENDS)], None),
+    (
+        &[AT_1, Call::List(ENDS)],
+        Some(Error::UnexpectedBaseAddress),
+    ),
+    (&[Call::List(LENGTH)], None),
+    (&[AT_0, Call::List(LENGTH)], None),
+    (
+        &[AT_1, Call::List(LENGTH)],
+        Some(Error::UnexpectedBaseAddress),
+    ),
+    (&[Call::Location(PAIR)], Some(Error::MissingBaseAddress)),
+    (
+        &[AT_0, Call::Location(PAIR)],
+        Some(Error::MissingBaseAddress),
+    ),
+    (&[AT_1, Call::Location(PAIR)], None),
+    (&[Call::Location(ENDS)], None),
+    (&[AT_0, Call::Location(ENDS)], None),
+    (
+        &[AT_1, Call::Location(ENDS)],
+        Some(Error::UnexpectedBaseAddress),
+    ),
+    (&[Call::Location(LENGTH)], None),
+    (&[AT_0, Call::Location(LENGTH)], None),
+    (
+        &[AT_1, Call::Location(LENGTH)],
+        Some(Error::UnexpectedBaseAddress),
+    ),
+];
+
+#[test]
+fn counts_pairs_of_version_4_from_the_root(rt: HostRuntime) -> std::result::Result<(), Fail> {
+    for (number, (calls, refusal)) in BASES.iter().enumerate() {
+        let (outcome, _, _, _) = write_alone(rt.alloc(), VERSION_4, calls)?;
+        assert_eq!(rt; (number, outcome), (number, *refusal));
+    }
     Ok(())
 }
 

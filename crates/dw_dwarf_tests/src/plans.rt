@@ -26,6 +26,11 @@ pub(crate) const VERSION_5: Encoding = Encoding {
     version: 5,
 };
 
+pub(crate) const VERSION_4: Encoding = Encoding {
+    version: 4,
+    ..VERSION_5
+};
+
 /// A unit, and what it is to tell once its `Dwarf` was written.
 pub(crate) struct Plan {
     pub(crate) encoding: Encoding,

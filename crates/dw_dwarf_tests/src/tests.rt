@@ -2,7 +2,7 @@
 
 use crate::building::{Call, Change, Value};
 use crate::plans::{
-    Outcome, Plan, ROOT, ROOT_INFO, ROOT_TABLE, VERSION_5, new_sections, write_units,
+    Outcome, Plan, ROOT, ROOT_INFO, ROOT_TABLE, VERSION_4, VERSION_5, new_sections, write_units,
 };
 use dw_base::DwEhPe;
 use dw_base::constants::{
@@ -26,11 +26,6 @@ struct Row {
     refusal: Option<Error>,
     bytes: Option<(&'static [u8], &'static [u8])>,
 }
-
-const VERSION_4: Encoding = Encoding {
-    version: 4,
-    ..VERSION_5
-};
 
 const VERSION_6: Encoding = Encoding {
     version: 6,
