@@ -1,8 +1,10 @@
 //! Lists, each with its close.
 
 ghost use Rattle.std.specs.Prelude.{◌≡◌, true, false, OnOk, IfOk, IfErr};
+ghost use Rattle.dw_base.specs.Numbers.{num};
+ghost use Rattle.dw_writer.specs.Causes.{BytesRefused};
 ghost use Rattle.dw_writer.specs.Drafts.{Drafts};
-ghost use Rattle.dw_writer.specs.Meaning.{IsSameWriter};
+ghost use Rattle.dw_writer.specs.Meaning.{Adds, IsSameWriter};
 ghost use Rattle.dw_expr.specs.Places.{known_by, place_by};
 ghost use Rattle.dw_lists.specs.Items.{is_five};
 ghost use Rattle.dw_lists.specs.Kinds.{kinds_of};
@@ -13,6 +15,7 @@ ghost use Rattle.dw_lists.specs.Causes.{list_fails, parts_unsized, parts_unsized
 use crate::address::sum;
 use crate::item::has_base_after;
 use crate::item_list::ItemList;
+use crate::kinds::Kinds;
 use crate::part::{part_size, write_new_part, write_old_part};
 use dw_base::{Encoding, Result};
 use dw_expr::EntryPlaces;
@@ -40,6 +43,16 @@ pub(crate) fn new_list_size<L: ItemList, P: EntryPlaces>(
         size = sum(size, more)?;
     }
     Ok(size)
+}
+
+/// Writes the kind that ends a list of version 5.
+fn write_end<W: Writer>(kinds: Kinds, w: &mut W) -> Result<()>
+    ensures ok { OnOk result (Adds (W.meaning w.old) (W.meaning w.new)
+        (num (W.meaning w.old).is_big 1 kinds.end_of_list)) }
+    ensures err { IfErr result (BytesRefused (W.meaning w.old) (W.meaning w.new)) }
+    ensures same { IsSameWriter (W.meaning w.old) (W.meaning w.new) }
+{
+    w.write_u8(kinds.end_of_list)
 }
 
 /// Writes a list of version 5 (DWARF 5, 7.25 and 7.7.3).
@@ -71,7 +84,7 @@ fn write_new_list<W: Writer, L: ItemList, P: EntryPlaces>(
         let expression = list.expression(index);
         write_new_part(range, expression, kinds, encoding, places, w, fixups)?;
     }
-    w.write_u8(kinds.end_of_list)
+    write_end(kinds, w)
 }
 
 /// Writes a list up to version 4 (DWARF 4, 2.6.2 and 2.17.3).

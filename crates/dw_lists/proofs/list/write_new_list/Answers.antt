@@ -79,8 +79,8 @@ returns-clause-ok g c =
     let d : Part = record { range = None; expression = None } in
     let x = get_or parts i d in
     let past : length parts ≤ i = omega (arith, c.loop-index-test.false, c.loop-index.invariant.end) in
-    let close = rw c.kinds-kinds.ensures at c.write_u8.ensures.ok in
-    OnOk-map c.write_u8.result close
+    let close = rw c.kinds-kinds.ensures at c.write_end.ensures.ok in
+    OnOk-map c.write_end.result close
     (λ p. Drafts-is (Drafts-then c.loop-index.invariant.written (Drafts-whole c.loop-index.fixups (written-byte (kinds_of g.L.ItemList.is_location).end_of_list (kinds_are_bytes g.L.ItemList.is_location).0 p))) (list_is true v place k parts i past))
 
 pub returns-clause-readable : goal.returns-clause-readable
@@ -95,7 +95,7 @@ returns-clause-readable g c =
     let d : Part = record { range = None; expression = None } in
     let x = get_or parts i d in
     let past : length parts ≤ i = omega (arith, c.loop-index-test.false, c.loop-index.invariant.end) in
-    OnOk-map c.write_u8.result c.write_u8.ensures.ok (λ p. subst (AreReadable true v place) (take_all i parts past) c.loop-index.invariant.readable)
+    OnOk-map c.write_end.result c.write_end.ensures.ok (λ p. subst (AreReadable true v place) (take_all i parts past) c.loop-index.invariant.readable)
 
 pub returns-clause-sound : goal.returns-clause-sound
 returns-clause-sound g c =
@@ -109,7 +109,7 @@ returns-clause-sound g c =
     let d : Part = record { range = None; expression = None } in
     let x = get_or parts i d in
     let past : length parts ≤ i = omega (arith, c.loop-index-test.false, c.loop-index.invariant.end) in
-    OnOk-map c.write_u8.result c.write_u8.ensures.ok (λ p. λ e. c.loop-index.invariant.none e ∙ any_ended (new_part_fails v known plain) parts i past e)
+    OnOk-map c.write_end.result c.write_end.ensures.ok (λ p. λ e. c.loop-index.invariant.none e ∙ any_ended (new_part_fails v known plain) parts i past e)
 
 pub returns-clause-err : goal.returns-clause-err
 returns-clause-err g c =
@@ -122,8 +122,8 @@ returns-clause-err g c =
     let i = c.loop-index.index in
     let d : Part = record { range = None; expression = None } in
     let x = get_or parts i d in
-    IfErr-map c.write_u8.result c.write_u8.ensures.err
-    (close_refused (g.W.Writer.meaning c.args.w.now) (g.W.Writer.meaning c.loop-index.w) (g.W.Writer.meaning c.write_u8.new.self) (Is (new_list_fails v known plain parts)) c.loop-index.invariant.written.text.same)
+    IfErr-map c.write_end.result c.write_end.ensures.err
+    (close_refused (g.W.Writer.meaning c.args.w.now) (g.W.Writer.meaning c.loop-index.w) (g.W.Writer.meaning c.write_end.new.w) (Is (new_list_fails v known plain parts)) c.loop-index.invariant.written.text.same)
 
 pub returns-clause-same : goal.returns-clause-same
-returns-clause-same g c = IsSameWriter-trans c.loop-index.invariant.written.text.same c.write_u8.ensures.same
+returns-clause-same g c = IsSameWriter-trans c.loop-index.invariant.written.text.same c.write_end.ensures.same
