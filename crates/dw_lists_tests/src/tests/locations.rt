@@ -451,6 +451,50 @@ fn equal_location_lists_are_kept_once(rt: HostRuntime) {
     assert_eq!(rt; add_again(rt.alloc()), Ok((0, 2, true)));
 }
 
+/// A table of a list of one pair with an operation for each number below this.
+fn numbered(alloc: Global, count: u64) -> Result<LocationListTable> {
+    let mut table = LocationListTable::new(alloc);
+    for begin in 0..count {
+        let items = [(Some(pair!(begin, begin + 1)), Body::Nop)];
+        table.add(location_list(alloc, &items)?)?;
+    }
+    Ok(table)
+}
+
+/// How many lists a large table has, the place of the last, and how many bytes are written.
+type Large = (usize, Option<LocationListsOffset>, usize);
+
+/// Writes a large table, whose lists of older versions have a base.
+fn write_large(alloc: Global, version: u16) -> Result<Large> {
+    let table = numbered(alloc, 10_000)?;
+    let mut sections = plain(alloc, LITTLE)?;
+    let encoding = encoding(version, Format::Dwarf32, 8);
+    let none: Option<&Entries> = None;
+    let offsets = table.write(&mut sections, encoding, true, none)?;
+    let size = if version == 5 {
+        sections.debug_loclists.0.slice().len()
+    } else {
+        sections.debug_loc.0.slice().len()
+    };
+    Ok((table.count(), offsets.get(LocationListId(9_999)), size))
+}
+
+/// Where the last list of version 5 stands: behind the header, an entry for each list, six bytes
+/// for each of the first 127 lists, seven for the next one, and then eight.
+const LAST: usize = 12 + 40_000 + 127 * 6 + 7 + (9_999 - 128) * 8;
+
+/// A version, the place of the last list, and how many bytes the table has. Up to version 4 a pair
+/// and the close have 16 bytes each, and the operation one behind its length in two.
+const LARGE: [(u16, usize, usize); 2] = [(5, LAST, LAST + 8), (4, 9_999 * 35, 10_000 * 35)];
+
+#[test]
+fn ten_thousand_location_lists(rt: HostRuntime) {
+    for (version, last, size) in LARGE {
+        let wanted = (10_000, Some(LocationListsOffset(last)), size);
+        assert_eq!(rt; write_large(rt.alloc(), version), Ok(wanted));
+    }
+}
+
 /// A list with an item of each kind, and others that differ from it in one place each.
 const EACH: [Item; 5] = [
     (Some(base!(1)), Body::Empty),
