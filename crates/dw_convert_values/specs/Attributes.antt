@@ -10,6 +10,7 @@ use Rattle.dw_base.specs.declared.ids.UnitEntryId.{UnitEntryId}
 use Rattle.dw_entries.specs.declared.value.AttributeValue.{AttributeValue}
 use Rattle.dw_entries.specs.declared.value.AttributeValue.TheVariants as built
 use Rattle.dw_read.specs.Attributes.{attribute_of}
+use Rattle.dw_read.specs.Orders.{attribute_order}
 use Rattle.dw_read.specs.Reading.{Reading}
 use Rattle.dw_read.specs.Values.{Value, raw_value_of, named_value}
 use Rattle.dw_read.specs.declared.attribute.Attribute.{Attribute}
@@ -20,15 +21,15 @@ use Rattle.dw_sources.specs.declared.convert_error.ConvertError.{ConvertError}
 use Rattle.dw_convert_values.specs.Files.{declared_image}
 use Rattle.dw_convert_values.specs.Images.{Image}
 use Rattle.dw_convert_values.specs.Tables.{Tables, stored, Means}
-use Rattle.dw_convert_values.specs.Values.{ValueOutcome, MadeOf}
+use Rattle.dw_convert_values.specs.Values.{ValueOutcome, MadeOf, order_or_little}
 use Rattle.dw_convert_values.specs.declared.image.Image.TheVariants as image
 
--- an attribute, with the encoding of its unit
+-- an attribute, with the encoding of its unit and the byte order of its bytes, where it has some
 abbrev pub Seen : Type 0
-Seen = Encoding × ReadAttribute
+Seen = Encoding × ReadAttribute × Option Bool
 
 abbrev pub seen : {R E : Type 0} → (R → Reading) → Attribute R E → Seen
-seen reading a = (a.encoding, attribute_of reading a)
+seen reading a = (a.encoding, attribute_of reading a, attribute_order reading a)
 
 -- the value by the form
 abbrev pub raw_of : Seen → Value
@@ -62,10 +63,9 @@ module _ {R E : Type 0} (reading : R → Reading) (answers : ℕ → Option Addr
   FormOutcome form name v r = PresentOutcome (form == DW_FORM_flag_present.0) form name v r
 
 module _ {R E : Type 0} (reading : R → Reading) (answers : ℕ → Option Address → Type 0) (entries : ℕ → Option UnitEntryId) (infos : ℕ → Option DebugInfoRef) (u : UnitRef R E) (files : List FileId) (a : Seen) where
-  -- what an attribute becomes, an expression being in some byte order: the value by the form is bytes, and tells none
-  pub record AttributeOutcome (r : Result Image ConvertError) : Type 0 where
-    pub big : Bool
-    pub is : FormOutcome reading answers entries infos u files big a.1.form a.1.name (raw_of a) r
+  -- what an attribute becomes, an expression being read in the byte order of its bytes
+  abbrev pub AttributeOutcome : Result Image ConvertError → Type 0
+  AttributeOutcome r = FormOutcome reading answers entries infos u files (order_or_little a.2) a.1.form a.1.name (raw_of a) r
 
   abbrev pub AttributeImage : Image → Type 0
   AttributeImage i = AttributeOutcome (Ok i)

@@ -1,9 +1,7 @@
 -- What values become before strings and lists have their ids, so that they are told by what they are.
-use Rattle.std.specs.Prelude.{ℕ, List, Bool, false}
+use Rattle.std.specs.Prelude.{ℕ, List}
 use Rattle.dw_base.specs.Spellable.{IsText}
 use Rattle.dw_read.specs.Reading.{Reading, left}
-use Rattle.dw_read.specs.declared.value.AttributeValue.{AttributeValue as ReadValue}
-use Rattle.dw_read.specs.declared.value.AttributeValue.TheVariants as read
 use Rattle.dw_convert_values.specs.declared.image.Image.{Image as HeldImage}
 use Rattle.dw_convert_values.specs.declared.image.Image.TheVariants.{Value, String, LineString, Ranges, Locations}
 
@@ -24,8 +22,3 @@ abbrev pub HoldsText : Image → Type 0
 HoldsText (String xs) = IsText xs
 HoldsText (LineString xs) = IsText xs
 HoldsText i = Unit {0}
-
--- the byte order of an expression that is a value; other values have none
-abbrev pub value_order : {R E : Type 0} → (R → Reading) → ReadValue R E → Bool
-value_order reading (read.Exprloc x) = (reading x.0).is_big
-value_order reading v = false

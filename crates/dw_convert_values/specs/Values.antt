@@ -1,5 +1,5 @@
 -- The table of images: what each kind of value becomes (DWARF 5, 7.5.5).
-use Rattle.std.specs.Prelude.{◌≡◌, ℕ, ◌==◌, Bool, List, Option, Some, None, Result, Ok, Err, if◌then◌else◌}
+use Rattle.std.specs.Prelude.{◌≡◌, ℕ, ◌==◌, Bool, false, List, Option, Some, None, Result, Ok, Err, if◌then◌else◌}
 use Rattle.dw_base.specs.declared.address.Address.{Address}
 use Rattle.dw_base.specs.declared.address.DebugInfoRef.{DebugInfoRef}
 use Rattle.dw_base.specs.declared.ids.FileId.{FileId}
@@ -27,6 +27,11 @@ use Rattle.dw_convert_values.specs.Files.{file_image}
 use Rattle.dw_convert_values.specs.Images.{Image}
 use Rattle.dw_convert_values.specs.Sources.{string_in, line_string_in, string_of, ranges_of, locations_of}
 use Rattle.dw_convert_values.specs.declared.image.Image.TheVariants as image
+
+-- the byte order of bytes, where a value has some; what has none is no expression
+abbrev pub order_or_little : Option Bool → Bool
+order_or_little None = false
+order_or_little (Some big) = big
 
 -- the unit's own line program, and no other
 abbrev pub program_image : Option DebugLineOffset → ℕ → Result AttributeValue ConvertError

@@ -1,10 +1,11 @@
 //! What a value becomes, by its kind.
 
 ghost use Rattle.std.specs.Prelude.{◌≡◌, ◌⊎◌, IfOk, IfErr, Ok, Err};
+ghost use Rattle.dw_read.specs.Orders.{value_order};
 ghost use Rattle.dw_read.specs.Values.{value_of};
 ghost use Rattle.dw_sources.specs.declared.convert_error.ConvertError.TheVariants.{NoMemory};
-ghost use Rattle.dw_convert_values.specs.Images.{image_of, HoldsText, value_order};
-ghost use Rattle.dw_convert_values.specs.Values.{ValueOutcome, program_image};
+ghost use Rattle.dw_convert_values.specs.Images.{image_of, HoldsText};
+ghost use Rattle.dw_convert_values.specs.Values.{ValueOutcome, order_or_little, program_image};
 
 use crate::address::{converted, indexed};
 use crate::constant::same_value;
@@ -34,12 +35,12 @@ pub(crate) fn convert_value<R: Reader, C: ConvertDebugInfoRef, F: Fn(u64) -> Opt
     requires { F.IsAlwaysCallable convert_address.now }
     ensures ok { IfOk result (λ i. ValueOutcome R.reading (F.post convert_address.now)
         (C.entries refs.now) (C.infos refs.now) unit.entry files.now
-        (value_order R.reading value) name.0 (value_of R.reading value)
+        (order_or_little (value_order R.reading value)) name.0 (value_of R.reading value)
         (Ok (image_of R.reading i))) }
     ensures text { IfOk result (λ i. HoldsText (image_of R.reading i)) }
     ensures err { IfErr result (λ e. (e ≡ NoMemory) ⊎ ValueOutcome R.reading
         (F.post convert_address.now) (C.entries refs.now) (C.infos refs.now) unit.entry files.now
-        (value_order R.reading value) name.0 (value_of R.reading value) (Err e)) }
+        (order_or_little (value_order R.reading value)) name.0 (value_of R.reading value) (Err e)) }
 {
     match value {
         ReadValue::Addr(address) => {

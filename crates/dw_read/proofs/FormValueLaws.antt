@@ -1,7 +1,6 @@
 -- Values outside of entries, from the operands in them.
 use Rattle.std.proofs.Common.{◌≡◌, ◌∙◌, sym, ap, refl, ℕ, List, None, Ok, Err, Bool, true, false, ◌&&◌, ◌||◌, nat_eq}
 use Rattle.dw_base.specs.Forms.{Operand}
-use Rattle.dw_base.specs.Entries.{ReadAttribute}
 use Rattle.dw_base.specs.declared.common.Encoding.{Encoding}
 use Rattle.dw_read.specs.Reading.{Reading, left}
 use Rattle.dw_read.specs.Took.{Took}

@@ -5,6 +5,7 @@ pub mod AttributeLaws
 pub mod FormLaws
 pub mod RowLaws
 pub mod ValueLaws
+pub mod OrderLaws
 pub mod Groups
 pub mod Lefts
 pub mod Laws

@@ -5,6 +5,7 @@ pub mod Numbers
 pub mod Took
 pub mod Kinds
 pub mod Operands
+pub mod Orders
 pub mod FormReasons
 pub mod Attributes
 pub mod Values

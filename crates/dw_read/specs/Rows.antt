@@ -10,6 +10,7 @@ use Rattle.dw_read.specs.Reading.{Reading, Read, Passes, Reads, Refuses, left}
 use Rattle.dw_read.specs.UnitHeaders.{header_size}
 use Rattle.dw_read.specs.Took.{Took}
 use Rattle.dw_read.specs.Reasons.{uleb_read}
+use Rattle.dw_read.specs.Orders.{attribute_order, IsInOrder}
 use Rattle.dw_read.specs.Attributes.{attribute_of}
 use Rattle.dw_read.specs.FormReasons.{attributes_read, mark_read}
 use Rattle.dw_read.specs.declared.entries.EntriesRaw.{EntriesRaw}
@@ -124,6 +125,7 @@ module _ {R E : Type 0} (reading : R → Reading) (old new : EntriesRaw R E) (be
     pub offset : after.offset.0 ≡ (reading old.input).place - old.start
     pub depth : after.depth ≡ shown_depth old.open_lists
     pub encoded : All (λ a. a.encoding ≡ old.fields.now.encoding) after.attrs.items
+    pub in_order : All (λ a. IsInOrder (reading old.input).is_big (attribute_order reading a)) after.attrs.items
     pub lists : new.open_lists ≡ deeper after.has_children old.open_lists
 
   -- the row at the place is read as the entry, or is a null entry

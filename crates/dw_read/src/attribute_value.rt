@@ -1,9 +1,10 @@
 //! The values of attributes, by their forms and names (DWARF 5, 7.5.4 and 7.5.5).
 
-ghost use Rattle.std.specs.Prelude.{◌≡◌, ◌%◌, ◌^◌};
+ghost use Rattle.std.specs.Prelude.{◌≡◌, ◌%◌, ◌^◌, Some};
 ghost use Rattle.dw_read.specs.Reading.{left};
 ghost use Rattle.dw_read.specs.Took.{option_of};
 ghost use Rattle.dw_read.specs.Attributes.{attribute_of};
+ghost use Rattle.dw_read.specs.Orders.{attribute_order, value_order};
 ghost use Rattle.dw_read.specs.Values.{value_of, raw_value_of, named_value};
 ghost use Rattle.dw_read.specs.Values.{absent_value, number_value, index_value};
 ghost use Rattle.dw_read.specs.Values.{block_value, place_value};
@@ -28,8 +29,9 @@ impl<R: Reader> Attribute<R> {
     /// The value by its form alone; in versions 2 and 3, which have no form for a place in a
     /// section, by its name too.
     pub fn raw_value(&self) -> AttributeValue<R>
-        ensures { value_of R.reading result
+        ensures is { value_of R.reading result
             ≡ raw_value_of self.now.encoding (attribute_of R.reading self.now) }
+        ensures order { value_order R.reading result ≡ attribute_order R.reading self.now }
     {
         match &self.operand {
             Operand::Absent => absent_value(self.constant),
@@ -49,9 +51,10 @@ impl<R: Reader> Attribute<R> {
     /// The value by its form and its name: a block is an expression where the name asks for one, a
     /// place is one in the section that the name tells, a constant has the type of its name.
     pub fn value(&self) -> AttributeValue<R>
-        ensures { value_of R.reading result
+        ensures is { value_of R.reading result
             ≡ named_value self.now.name.0
             (raw_value_of self.now.encoding (attribute_of R.reading self.now)) }
+        ensures order { value_order R.reading result ≡ attribute_order R.reading self.now }
     {
         let name = self.name;
         match self.raw_value() {
@@ -80,7 +83,8 @@ fn absent_value<R: Reader>(constant: Option<i64>) -> AttributeValue<R>
 
 /// Bytes, which one form says to be an expression.
 fn block_value<R: Reader>(form: DwForm, bytes: R) -> AttributeValue<R>
-    ensures { value_of R.reading result ≡ block_value form.0 (left (R.reading bytes)) }
+    ensures is { value_of R.reading result ≡ block_value form.0 (left (R.reading bytes)) }
+    ensures order { value_order R.reading result ≡ Some (R.reading bytes).is_big }
 {
     if form.0 == DW_FORM_exprloc.0 {
         AttributeValue::Exprloc(Expression(bytes))
@@ -209,7 +213,8 @@ fn place_value<R: Reader>(name: DwAt, place: usize) -> AttributeValue<R>
 
 /// A block under a name.
 fn named_block<R: Reader>(name: DwAt, bytes: R) -> AttributeValue<R>
-    ensures { value_of R.reading result ≡ named_block name.0 (left (R.reading bytes)) }
+    ensures is { value_of R.reading result ≡ named_block name.0 (left (R.reading bytes)) }
+    ensures order { value_order R.reading result ≡ Some (R.reading bytes).is_big }
 {
     if is_expression_name(name) {
         AttributeValue::Exprloc(Expression(bytes))

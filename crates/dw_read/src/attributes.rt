@@ -5,6 +5,7 @@ ghost use Rattle.dw_base.specs.Entries.{ReadAttribute};
 ghost use Rattle.dw_read.specs.Reading.{left};
 ghost use Rattle.dw_read.specs.Took.{Took, RefusesOrFull};
 ghost use Rattle.dw_read.specs.Attributes.{attribute_of};
+ghost use Rattle.dw_read.specs.Orders.{attribute_order, IsInOrder};
 ghost use Rattle.dw_read.specs.Specifications.{specification_of};
 ghost use Rattle.dw_read.specs.FormReasons.{attribute_read, attributes_read};
 
@@ -26,6 +27,8 @@ pub(crate) fn read_attribute<R: Reader>(
         (R.reading input.old).is_big encoding (specification_of specification))
         (R.reading input.old) (R.reading input.new) (attribute_of R.reading a)) }
     ensures encoded { IfOk result (λ a. a.encoding ≡ encoding) }
+    ensures order { IfOk result (λ a.
+        IsInOrder (R.reading input.old).is_big (attribute_order R.reading a)) }
     ensures err { IfErr result (λ e. attribute_read
         (R.reading input.old).is_big encoding (specification_of specification)
         (left (R.reading input.old)) ≡ Err e) }
@@ -53,6 +56,8 @@ pub(crate) fn read_attributes<R: Reader>(
         (R.reading input.old) (R.reading input.new)
         (map (attribute_of R.reading) attrs.new.items)) }
     ensures encoded { OnOk result (All (λ a. a.encoding ≡ encoding) attrs.new.items) }
+    ensures order { OnOk result (All (λ a.
+        IsInOrder (R.reading input.old).is_big (attribute_order R.reading a)) attrs.new.items) }
     ensures err { IfErr result (RefusesOrFull _ (attributes_read
         (R.reading input.old).is_big encoding (map specification_of specifications.now))
         (R.reading input.old)) }

@@ -5,6 +5,7 @@ ghost use Rattle.dw_read.specs.Reading.{left};
 ghost use Rattle.dw_read.specs.Took.{Took};
 ghost use Rattle.dw_read.specs.FormValues.{value_read};
 ghost use Rattle.dw_read.specs.Values.{value_of};
+ghost use Rattle.dw_read.specs.Orders.{value_order, IsInOrder};
 
 use crate::attribute::Attribute;
 use crate::error::ReadResult;
@@ -24,6 +25,8 @@ pub fn read_value<R: Reader>(
     ensures ok { IfOk result (λ v. Took _
         (value_read (R.reading input.old).is_big encoding form.0)
         (R.reading input.old) (R.reading input.new) (value_of R.reading v)) }
+    ensures order { IfOk result (λ v.
+        IsInOrder (R.reading input.old).is_big (value_order R.reading v)) }
     ensures err { IfErr result (λ e. value_read (R.reading input.old).is_big encoding form.0
         (left (R.reading input.old)) ≡ Err e) }
 {

@@ -5,6 +5,7 @@ ghost use Rattle.dw_read.specs.Reading.{left};
 ghost use Rattle.dw_read.specs.Took.{Took};
 ghost use Rattle.dw_read.specs.Kinds.{kind_in_grammar, width_of};
 ghost use Rattle.dw_read.specs.Operands.{operand_of, formed};
+ghost use Rattle.dw_read.specs.Orders.{operand_order, IsInOrder};
 ghost use Rattle.dw_read.specs.FormReasons.{direct_read, indirect_read, form_read};
 
 use crate::declaration::read_uleb16;
@@ -35,6 +36,8 @@ pub(crate) fn read_form<R: Reader>(
     requires { encoding.address_size ≤ 8 }
     ensures ok { IfOk result (λ x. Took _ (form_read (R.reading input.old).is_big encoding form.0)
         (R.reading input.old) (R.reading input.new) (formed R.reading x)) }
+    ensures order { IfOk result (λ x.
+        IsInOrder (R.reading input.old).is_big (operand_order R.reading x.1)) }
     ensures err { IfErr result (λ e. form_read (R.reading input.old).is_big encoding form.0
         (left (R.reading input.old)) ≡ Err e) }
 {
@@ -58,6 +61,8 @@ fn read_indirect<R: Reader>(input: &mut R, encoding: Encoding) -> ReadResult<(Dw
     requires { encoding.address_size ≤ 8 }
     ensures ok { IfOk result (λ x. Took _ (indirect_read (R.reading input.old).is_big encoding)
         (R.reading input.old) (R.reading input.new) (formed R.reading x)) }
+    ensures order { IfOk result (λ x.
+        IsInOrder (R.reading input.old).is_big (operand_order R.reading x.1)) }
     ensures err { IfErr result (λ e. indirect_read (R.reading input.old).is_big encoding
         (left (R.reading input.old)) ≡ Err e) }
 {
@@ -79,6 +84,8 @@ fn read_operand<R: Reader>(input: &mut R, kind: Kind) -> ReadResult<Operand<R>>
     ensures ok { IfOk result (λ o. Took _
         (direct_read (R.reading input.old).is_big (kind_in_grammar kind))
         (R.reading input.old) (R.reading input.new) (operand_of R.reading o)) }
+    ensures order { IfOk result (λ o.
+        IsInOrder (R.reading input.old).is_big (operand_order R.reading o)) }
     ensures err { IfErr result (λ e. direct_read (R.reading input.old).is_big (kind_in_grammar kind)
         (left (R.reading input.old)) ≡ Err e) }
 {

@@ -1,9 +1,10 @@
-use Rattle.std.proofs.Common.{◌≡◌, ◌∙◌, sym, ap, map, get_or, None, List}
+use Rattle.std.proofs.Common.{◌≡◌, ◌∙◌, sym, ap, subst, map, get_or, None, List, Bool}
 use Rattle.std.proofs.lemmas.Result.{err_from_is_err_and}
 use Rattle.std.proofs.lemmas.List.{map-append, get_or-map, length-map}
 use Rattle.std.proofs.lemmas.List.Elements.{All-push}
 use Rattle.dw_base.specs.Entries.{ReadAttribute}
 use Rattle.dw_read.specs.Attributes.{attribute_of}
+use Rattle.dw_read.specs.Orders.{attribute_order, IsInOrder}
 use Rattle.dw_read.specs.Specifications.{specification_of}
 use Rattle.dw_read.specs.FormReasons.{attributes_read}
 use Rattle.dw_read.specs.declared.abbreviation.AttributeSpecification.{AttributeSpecification}
@@ -36,6 +37,8 @@ loop-specification-preserved g c =
       so = so_more _ _ c.args.encoding (map specification_of xs) i (specification_of x) front _ _ _ _ _ so (rw length-map c.loop-specification-test.true) (sym (get_or-map specification_of xs i d (specification_of x) c.loop-specification-test.true)) (went_order _ _ so.went) c.in_ok-attribute.ensures.ok
           (ap (map (attribute_of reading)) c.in_ok-push.ensures.items ∙ map-append (attribute_of reading) c.loop-specification.attrs.items _);
       encoded = rw c.in_ok-push.ensures.items (All-push (λ a. a.encoding ≡ c.args.encoding) c.loop-specification.attrs.items c.in_ok-attribute.attribute c.loop-specification.invariant.encoded c.in_ok-attribute.ensures.encoded);
+      in_order = rw c.in_ok-push.ensures.items (All-push (λ a. IsInOrder (reading c.args.input.now).is_big (attribute_order reading a)) c.loop-specification.attrs.items c.in_ok-attribute.attribute c.loop-specification.invariant.in_order
+          (subst (λ (b : Bool). IsInOrder b (attribute_order reading c.in_ok-attribute.attribute)) (went_order _ _ so.went) c.in_ok-attribute.ensures.order));
     }
 
 pub returns-clause-ok : goal.returns-clause-ok

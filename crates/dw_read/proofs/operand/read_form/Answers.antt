@@ -25,7 +25,7 @@ pub returns-in_err-operand-in_default-kind : goal.returns-in_err-operand-in_defa
 returns-in_err-operand-in_default-kind g c =
     let s = kind_some c.args.encoding c.args.form.0 _ _ c.in-Some.is c.kind_of.ensures.is in
     let p = err_from_is_err_and c.from_residual-in_err-operand-in_default-kind.result c.from_residual-in_err-operand-in_default-kind.ensures.1 in
-    rw (p.1, p.2) (record { ok = tt; err = form_direct_err (g.R.Reader.reading c.args.input.now).is_big c.args.encoding c.args.form.0 _ _ _ s c.in_default-kind.not-Indirect c.in_err-operand-in_default-kind.ensures.err })
+    rw (p.1, p.2) (record { ok = tt; order = tt; err = form_direct_err (g.R.Reader.reading c.args.input.now).is_big c.args.encoding c.args.form.0 _ _ _ s c.in_default-kind.not-Indirect c.in_err-operand-in_default-kind.ensures.err })
 
 pub returns-in_ok-operand-in_default-kind : goal.returns-in_ok-operand-in_default-kind
 returns-in_ok-operand-in_default-kind g c =
@@ -33,5 +33,6 @@ returns-in_ok-operand-in_default-kind g c =
     let o = c.in_ok-operand-in_default-kind.ensures in
     record {
       ok = took (ℕ × Operand) (form_read (g.R.Reader.reading c.args.input.now).is_big c.args.encoding c.args.form.0) _ _ _ (went Operand (direct_read (g.R.Reader.reading c.args.input.now).is_big (kind_in_grammar c.in-Some.kind)) _ _ _ o.ok) (form_direct (g.R.Reader.reading c.args.input.now).is_big c.args.encoding c.args.form.0 _ _ _ _ s c.in_default-kind.not-Indirect o.ok.value);
+      order = o.order;
       err = tt;
     }

@@ -1,10 +1,13 @@
-use Rattle.std.proofs.Common.{◌∙◌, ap, sym, Bool, refl, inr, rules}
+use Rattle.std.proofs.Common.{◌∙◌, ap, sym, subst, ℕ, Bool, All, refl, inr, rules}
 use Rattle.std.proofs.lemmas.Result.{err_from_is_err_and}
 use mir.Val.{SFits}
 use mir.Syntax.{w64}
 use Rattle.std.proofs.lemmas.Int.{to_z-of_z}
 use Rattle.dw_read.specs.Reading.{Reading}
+use Rattle.dw_read.specs.Reasons.{uleb_read}
+use Rattle.dw_read.specs.Orders.{attribute_order, IsInOrder}
 use Rattle.dw_read.specs.Rows.{deeper}
+use Rattle.dw_read.proofs.Chain.{went, went_order}
 use Rattle.dw_read.proofs.RowLaws.{reads_null, reads_entry, refuses_code, refuses_entry}
 use Rattle.dw_read.proofs.entries.EntriesRaw.read_entry.Goals as goal
 
@@ -52,5 +55,7 @@ returns g c =
       offset = c.next_offset-offset.ensures;
       depth = (let fits : SFits w64 c.shown_depth-entry.result = search rules in to_z-of_z w64 c.shown_depth-entry.result fits ∙ c.shown_depth-entry.ensures);
       encoded = c.in_ok-read_attributes.ensures.encoded;
+      in_order = subst (λ (b : Bool). All (λ a. IsInOrder b (attribute_order g.R.Reader.reading a)) c.read_attributes.new.attrs.items)
+          (went_order _ _ (went ℕ uleb_read _ _ _ h.0) ∙ ap (λ (r : Reading). r.is_big) c.duplicate-after.ensures) c.in_ok-read_attributes.ensures.order;
       lists = c.deeper-self.ensures ∙ ap (λ (b : Bool). deeper b u.open_lists) (c.has_children.ensures ∙ sym c.has_children-entry.ensures);
     }
