@@ -3,3 +3,6 @@ pub mod RootLaws
 pub mod UnitLaws
 mod EndLaws
 pub mod WalkLaws
+pub mod RowWalk
+pub mod UnitParts
+pub mod UnitWalk

@@ -7,3 +7,4 @@ pub mod Texts
 pub mod UnitReads
 pub mod Begins
 pub mod Walks
+pub mod Passes

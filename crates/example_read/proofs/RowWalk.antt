@@ -1,181 +1,46 @@
--- The rows of a unit, one after the other.
-use Rattle.std.proofs.Common.{◌≡◌, ◌∙◌, sym, ap, subst, ℕ, zero, suc, ◌+◌, ◌-◌, ◌^◌, ◌<◌, ◌≤◌, min, List, [], ◌∷◌, ◌++◌, length, map, Bool, true, false, Result, Ok, Err, refl, arith, append_assoc, append-nil, if◌then◌else◌}
+-- The rows of a unit as a user holds them, one after the other.
+use Rattle.std.proofs.Common.{◌≡◌, ◌∙◌, sym, ap, ℕ, ◌-◌, ◌≤◌, List, [], ◌∷◌, ◌++◌, length, map, Err, ◌<◌, refl}
 use Rattle.std.proofs.lemmas.List.{map-append}
 use Rattle.dw_base.specs.Abbreviations.{Declaration}
-use Rattle.dw_base.specs.Entries.{ReadEntry, Mark, Open, Null, Row as ReadRow, next_depth}
-use Rattle.dw_base.specs.declared.common.Encoding.{Encoding}
+use Rattle.dw_base.specs.Entries.{Row as ReadRow}
 use Rattle.dw_read.specs.Reading.{Reading, IsReading, left}
-use Rattle.dw_read.specs.Reasons.{◌=>>◌}
-use Rattle.dw_read.specs.FormReasons.{mark_read}
-use Rattle.dw_read.specs.UnitHeaders.{header_size}
-use Rattle.dw_read.specs.Rows.{BeginsAt, deeper, row_read}
-use Rattle.dw_read.specs.declared.fields.Fields.{Fields}
+use Rattle.dw_read.specs.Rows.{BeginsAt, row_read}
 use Rattle.dw_read.specs.declared.unit_header.UnitHeader.{UnitHeader}
 use Rattle.dw_read.specs.declared.entries.EntriesRaw.{EntriesRaw}
 use Rattle.dw_read.specs.declared.error.ReadError.{ReadError}
-use Rattle.dw_read.proofs.Lefts.{shorter, same_order}
-use Rattle.dw_read.proofs.Shorter.{mark_shorter}
-use Rattle.dw_read_units.specs.Walks.{rows_read}
+use Rattle.dw_read_units.specs.Passes.{rows_reading}
+use Rattle.dw_read_units.proofs.RowWalk.{WalkedRows, row_here, walked_none as rows_none, walked_more as rows_more, walked_end as rows_end, walked_refused as rows_refused, row_shorter as passes_shorter}
 use Rattle.example_read.specs.declared.row.Row.{Row}
-use Rattle.example_read.specs.Seen.{shown_row, seen_row, lists_after, SeesRow, SeesRows}
-
-pub then_none : {A : Type 0} (r : Result (List A) ReadError) → r ≡ (r =>> λ more. Ok ([] ++ more))
-then_none (Ok x) = refl
-then_none (Err e) = refl
-
-pub then_one : {A : Type 0} (r : Result (List A) ReadError) (front : List A) (x : A) → ((r =>> λ more. Ok (x ∷ more)) =>> λ more. Ok (front ++ more)) ≡ (r =>> λ more. Ok ((front ++ x ∷ []) ++ more))
-then_one (Ok xs) front x = ap (λ l. Ok l) (sym (append_assoc front (x ∷ []) xs))
-then_one (Err e) front x = refl
-
-pub length-zero : (bytes : List ℕ) → length bytes ≡ 0 → bytes ≡ []
-length-zero [] h = refl
-length-zero (b ∷ bs) h = absurd (omega arith)
-
-deeper_next : (b : Bool) (n : ℕ) → n + 1 ≤ 2 ^ 64 - 1 → deeper b n ≡ (if b then suc n else n)
-deeper_next true n h = let e : min (n + 1) (2 ^ 64 - 1) ≡ suc n = omega arith in e
-deeper_next false n h = refl
-
-lists_next : (m : Mark ReadEntry) (n : ℕ) → n + 1 ≤ 2 ^ 64 - 1 → lists_after m n ≡ next_depth m n
-lists_next (Open x) n h = deeper_next x.has_children n h
-lists_next Null n h = refl
-
-deeper_bound : (b : Bool) (n : ℕ) → deeper b n ≤ n + 1
-deeper_bound true n = let e : min (n + 1) (2 ^ 64 - 1) ≤ n + 1 = omega arith in e
-deeper_bound false n = omega arith
-
-lists_bound : (m : Mark ReadEntry) (n : ℕ) → lists_after m n ≤ n + 1
-lists_bound (Open x) n = deeper_bound x.has_children n
-lists_bound Null n = omega arith
-
-module _ (big : Bool) (e : Encoding) (table : List Declaration) where
-  rows_none : (fuel from depth : ℕ) → rows_read fuel big e table from depth [] ≡ Ok []
-  unfolding rows_read
-  rows_none zero from depth = refl
-  rows_none (suc fuel) from depth = refl
-
-  rows_step : (fuel from depth : ℕ) (bytes rest : List ℕ) (m : Mark ReadEntry) → length bytes ≤ suc fuel → mark_read big e table bytes ≡ Ok (m, rest)
-      → rows_read (suc fuel) big e table from depth bytes ≡ (rows_read fuel big e table (from + (length bytes - length rest)) (next_depth m depth) rest =>> λ more. Ok (record { from = from; depth = depth; mark = m; to = from + (length bytes - length rest) } ∷ more))
-  unfolding rows_read
-  rows_step fuel from depth [] rest m l h = absurd (let s : length rest < 0 = mark_shorter big e table [] (m, rest) h in omega arith)
-  rows_step fuel from depth (b ∷ bs) rest m l h =
-      ap (λ r. r =>> λ x. rows_read fuel big e table (from + (length (b ∷ bs) - length x.1)) (next_depth x.0 depth) x.1 =>> λ more. Ok (record { from = from; depth = depth; mark = x.0; to = from + (length (b ∷ bs) - length x.1) } ∷ more)) h
-
-  rows_refused : (fuel from depth : ℕ) (bytes : List ℕ) (y : ReadError) → (length bytes ≡ 0 → ⊥) → mark_read big e table bytes ≡ Err y → rows_read (suc fuel) big e table from depth bytes ≡ Err y
-  unfolding rows_read
-  rows_refused fuel from depth [] y n h = absurd (n refl)
-  rows_refused fuel from depth (b ∷ bs) y n h =
-      ap (λ r. r =>> λ x. rows_read fuel big e table (from + (length (b ∷ bs) - length x.1)) (next_depth x.0 depth) x.1 =>> λ more. Ok (record { from = from; depth = depth; mark = x.0; to = from + (length (b ∷ bs) - length x.1) } ∷ more)) h
-
--- a row that is read in one unit is read in the same unit
-same_row : (big : Bool) (f : Fields) (t : List Declaration) (order : Bool) (g : Fields) (table : List Declaration) (bytes : List ℕ) (x : Result (Mark ReadEntry × List ℕ) ReadError) → big ≡ order → f ≡ g → t ≡ table → mark_read big f.encoding t bytes ≡ x → mark_read order g.encoding table bytes ≡ x
-same_row big f t order g table bytes x p q r h =
-    subst (λ (b : Bool). mark_read b g.encoding table bytes ≡ x) p
-    (subst (λ (y : Fields). mark_read big y.encoding table bytes ≡ x) q
-    (subst (λ (y : List Declaration). mark_read big f.encoding y bytes ≡ x) r h))
+use Rattle.example_read.specs.Seen.{shown_row, seen_row, SeesRow, SeesRows}
 
 module _ {R E : Type 0} (reading : R → Reading) (h : UnitHeader R E) (table : List Declaration) where
-  -- what is read from the first row on is what is read from here on, after the rows before
+  -- what is held are the rows that were read up to here
   pub record Walked (now : EntriesRaw R E) (rows : List (Row R E)) : Type 0 where
     pub front : List ReadRow
     pub seen : map (seen_row reading) rows ≡ map shown_row front
-    pub fuel : ℕ
-    pub enough : length (left (reading now.input)) ≤ fuel
-    pub is : rows_read (length (left (reading h.body))) (reading h.body).is_big h.fields.encoding table (header_size reading h) 0 (left (reading h.body))
-        ≡ (rows_read fuel (reading h.body).is_big h.fields.encoding table ((reading now.input).place - h.offset.0) now.open_lists (left (reading now.input)) =>> λ more. Ok (front ++ more))
-    pub declarations : now.abbreviations.now ≡ table
-    pub fields : now.fields.now ≡ h.fields
-    pub start : now.start ≡ h.offset.0
-    pub order : (reading now.input).is_big ≡ (reading h.body).is_big
-    pub began : h.offset.0 ≤ (reading now.input).place
-    pub deep : now.open_lists ≤ (reading now.input).place
+    pub walked : WalkedRows reading h table now front
 
   pub walked_none : (u : EntriesRaw R E) → h.offset.0 ≤ (reading h.body).place → BeginsAt reading h table u → Walked u []
-  walked_none u l b =
-      let q : reading u.input ≡ reading h.body = b.input in
-      let p : (reading u.input).place ≡ (reading h.body).place = ap (λ (r : Reading). r.place) q in
-      let bytes = left (reading h.body) in
-      record {
-        front = [];
-        seen = refl;
-        fuel = length bytes;
-        enough = (let e : length (left (reading u.input)) ≡ length bytes = ap (λ (r : Reading). length (left r)) q in omega arith);
-        is = then_none (rows_read (length bytes) (reading h.body).is_big h.fields.encoding table (header_size reading h) 0 bytes)
-            ∙ ap (λ (r : Reading). rows_read (length bytes) (reading h.body).is_big h.fields.encoding table (r.place - h.offset.0) 0 (left r) =>> λ more. Ok ([] ++ more)) (sym q)
-            ∙ ap (λ (n : ℕ). rows_read (length bytes) (reading h.body).is_big h.fields.encoding table ((reading u.input).place - h.offset.0) n (left (reading u.input)) =>> λ more. Ok ([] ++ more)) (sym b.lists);
-        declarations = b.declarations;
-        fields = b.fields;
-        start = b.start;
-        order = ap (λ (r : Reading). r.is_big) q;
-        began = omega arith;
-        deep = (let z : u.open_lists ≡ 0 = b.lists in omega arith);
-      }
-
-  -- the row at the place as the unit has it
-  pub row_at_place : (now other : EntriesRaw R E) (rows : List (Row R E)) (x : Result (Mark ReadEntry × List ℕ) ReadError) → Walked now rows → row_read reading now other (left (reading now.input)) ≡ x → mark_read (reading h.body).is_big h.fields.encoding table (left (reading now.input)) ≡ x
-  row_at_place now other rows x w e = same_row (reading now.input).is_big now.fields.now now.abbreviations.now (reading h.body).is_big h.fields table (left (reading now.input)) x w.order w.fields w.declarations e
+  walked_none u l b = record { front = []; seen = refl; walked = rows_none reading h table u l b }
 
   pub walked_more : (old new : EntriesRaw R E) (rows next : List (Row R E)) (row : Row R E) → IsReading (reading old.input) → IsReading (reading new.input) → Walked old rows → SeesRow reading old new row → next ≡ rows ++ row ∷ [] → Walked new next
   walked_more old new rows next row i j w s q =
-      let a = left (reading old.input) in
-      let b = left (reading new.input) in
-      let from = (reading old.input).place - h.offset.0 in
-      let m = row_at_place old new rows (Ok (s.mark, b)) w s.took.value in
-      let less : length b < length a = mark_shorter (reading h.body).is_big h.fields.encoding table a (s.mark, b) m in
-      let passed : length b + s.took.count ≡ length a = shorter s.took.count (reading old.input) (reading new.input) i j s.took.passes in
-      let place : (reading new.input).place ≡ (reading old.input).place + s.took.count = ap (λ (r : Reading). r.place) s.took.passes.is in
-      let within : (reading old.input).place + s.took.count ≤ (reading old.input).end = s.took.passes.within in
-      let small : (reading old.input).end < 2 ^ 64 = i.small in
-      let began : h.offset.0 ≤ (reading old.input).place = w.began in
-      let deep : old.open_lists ≤ (reading old.input).place = w.deep in
-      let enough : length a ≤ w.fuel = w.enough in
-      let fuel : w.fuel ≡ suc (w.fuel - 1) = omega arith in
-      let one : ReadRow = record { from = from; depth = old.open_lists; mark = s.mark; to = from + (length a - length b) } in
-      let to : from + (length a - length b) ≡ (reading new.input).place - h.offset.0 = omega arith in
-      let lists : next_depth s.mark old.open_lists ≡ new.open_lists = sym (s.lists ∙ lists_next s.mark old.open_lists (omega arith)) in
+      let one = row_here reading h table old new s.mark in
       record {
         front = w.front ++ one ∷ [];
         seen = ap (map (seen_row reading)) q ∙ map-append (seen_row reading) rows (row ∷ [])
             ∙ ap (λ l. l ++ seen_row reading row ∷ []) w.seen
-            ∙ ap (λ x. map shown_row w.front ++ x ∷ []) (s.seen ∙ ap (λ (n : ℕ). shown_row (record one { from = (reading old.input).place - n })) w.start)
+            ∙ ap (λ x. map shown_row w.front ++ x ∷ []) (s.seen ∙ ap (λ (n : ℕ). shown_row (record one { from = (reading old.input).place - n })) w.walked.start)
             ∙ sym (map-append shown_row w.front (one ∷ []));
-        fuel = w.fuel - 1;
-        enough = omega arith;
-        is = w.is
-            ∙ ap (λ (n : ℕ). rows_read n (reading h.body).is_big h.fields.encoding table from old.open_lists a =>> λ more. Ok (w.front ++ more)) fuel
-            ∙ ap (λ r. r =>> λ more. Ok (w.front ++ more)) (rows_step (reading h.body).is_big h.fields.encoding table (w.fuel - 1) from old.open_lists a b s.mark (omega arith) m)
-            ∙ then_one (rows_read (w.fuel - 1) (reading h.body).is_big h.fields.encoding table (from + (length a - length b)) (next_depth s.mark old.open_lists) b) w.front one
-            ∙ ap (λ (n : ℕ). rows_read (w.fuel - 1) (reading h.body).is_big h.fields.encoding table n (next_depth s.mark old.open_lists) b =>> λ more. Ok ((w.front ++ one ∷ []) ++ more)) to
-            ∙ ap (λ (n : ℕ). rows_read (w.fuel - 1) (reading h.body).is_big h.fields.encoding table ((reading new.input).place - h.offset.0) n b =>> λ more. Ok ((w.front ++ one ∷ []) ++ more)) lists;
-        declarations = ap (λ t. t.now) s.unit.table ∙ w.declarations;
-        fields = ap (λ f. f.now) s.unit.fields ∙ w.fields;
-        start = s.unit.start ∙ w.start;
-        order = same_order s.took.count (reading old.input) (reading new.input) s.took.passes ∙ w.order;
-        began = omega arith;
-        deep = (let n : lists_after s.mark old.open_lists ≤ old.open_lists + 1 = lists_bound s.mark old.open_lists in let l : new.open_lists ≡ lists_after s.mark old.open_lists = s.lists in omega arith);
+        walked = rows_more reading h table old new w.front s.mark i j w.walked s.passes;
       }
 
   pub walked_end : (now : EntriesRaw R E) (rows : List (Row R E)) → Walked now rows → length (left (reading now.input)) ≡ 0 → SeesRows reading h table rows
-  walked_end now rows w z =
-      let e : left (reading now.input) ≡ [] = length-zero (left (reading now.input)) z in
-      record {
-        all = w.front;
-        is = w.is
-            ∙ ap (λ bytes. rows_read w.fuel (reading h.body).is_big h.fields.encoding table ((reading now.input).place - h.offset.0) now.open_lists bytes =>> λ more. Ok (w.front ++ more)) e
-            ∙ ap (λ r. r =>> λ more. Ok (w.front ++ more)) (rows_none (reading h.body).is_big h.fields.encoding table w.fuel ((reading now.input).place - h.offset.0) now.open_lists)
-            ∙ ap (λ l. Ok l) (append-nil w.front);
-        seen = w.seen;
-      }
+  walked_end now rows w z = record { all = w.front; is = rows_end reading h table now w.front w.walked z; seen = w.seen }
 
-  pub walked_refused : (now other : EntriesRaw R E) (rows : List (Row R E)) (y : ReadError) → Walked now rows → (length (left (reading now.input)) ≡ 0 → ⊥) → row_read reading now other (left (reading now.input)) ≡ Err y
-      → rows_read (length (left (reading h.body))) (reading h.body).is_big h.fields.encoding table (header_size reading h) 0 (left (reading h.body)) ≡ Err y
-  walked_refused now other rows y w n r =
-      let a = left (reading now.input) in
-      let enough : length a ≤ w.fuel = w.enough in
-      let fuel : w.fuel ≡ suc (w.fuel - 1) = omega arith in
-      w.is
-      ∙ ap (λ (n : ℕ). rows_read n (reading h.body).is_big h.fields.encoding table ((reading now.input).place - h.offset.0) now.open_lists a =>> λ more. Ok (w.front ++ more)) fuel
-      ∙ ap (λ r. r =>> λ more. Ok (w.front ++ more)) (rows_refused (reading h.body).is_big h.fields.encoding table (w.fuel - 1) ((reading now.input).place - h.offset.0) now.open_lists a y n (row_at_place now other rows (Err y) w r))
+  pub walked_refused : (now other : EntriesRaw R E) (rows : List (Row R E)) (y : ReadError) → Walked now rows → (length (left (reading now.input)) ≡ 0 → ⊥) → row_read reading now other (left (reading now.input)) ≡ Err y → rows_reading reading h table ≡ Err y
+  walked_refused now other rows y w n r = rows_refused reading h table now other w.front y w.walked n r
 
 -- a row takes a byte at least
 pub row_shorter : {R E : Type 0} (reading : R → Reading) (old new : EntriesRaw R E) (row : Row R E) → SeesRow reading old new row → length (left (reading new.input)) < length (left (reading old.input))
-row_shorter reading old new row s = mark_shorter (reading old.input).is_big old.fields.now.encoding old.abbreviations.now (left (reading old.input)) (s.mark, left (reading new.input)) s.took.value
+row_shorter reading old new row s = passes_shorter reading old new s.mark s.passes

@@ -1,19 +1,16 @@
 -- What a user sees of a file, and what the grammar has there.
-use Rattle.std.specs.Prelude.{◌≡◌, ℕ, ◌-◌, List, length, map, Option, Some, Result, Ok, ℤ, Bool}
+use Rattle.std.specs.Prelude.{◌≡◌, ℕ, ◌-◌, List, map, Some, Ok, ℤ, Bool}
 use Rattle.dw_base.specs.Abbreviations.{Declaration}
 use Rattle.dw_base.specs.Headers.{Header}
 use Rattle.dw_base.specs.Entries.{ReadAttribute, ReadEntry, Mark, Open, Null, Row as ReadRow}
-use Rattle.dw_base.specs.Info.{ReadUnit, read_info}
-use Rattle.dw_read.specs.Reading.{Reading, left}
-use Rattle.dw_read.specs.Took.{Took}
+use Rattle.dw_base.specs.Info.{ReadUnit}
+use Rattle.dw_read.specs.Reading.{Reading}
 use Rattle.dw_read.specs.Attributes.{attribute_of}
 use Rattle.dw_read.specs.Fields.{header_of}
-use Rattle.dw_read.specs.UnitHeaders.{header_size}
-use Rattle.dw_read.specs.Rows.{shown_depth, deeper, IsSameUnit, row_read}
+use Rattle.dw_read.specs.Rows.{shown_depth}
 use Rattle.dw_read.specs.declared.entries.EntriesRaw.{EntriesRaw}
 use Rattle.dw_read.specs.declared.unit_header.UnitHeader.{UnitHeader}
-use Rattle.dw_read.specs.declared.error.ReadError.{ReadError}
-use Rattle.dw_read_units.specs.Walks.{rows_read, unit_read, units_in, units_read}
+use Rattle.dw_read_units.specs.Passes.{rows_reading, unit_reading, units_there, PassesRow}
 use Rattle.dw_read_units.specs.declared.dwarf.Dwarf.{Dwarf}
 use Rattle.example_read.specs.declared.row.Row.{Row}
 use Rattle.example_read.specs.declared.row.Row.TheVariants.{Entry as HeldEntry, Null as HeldNull}
@@ -60,23 +57,11 @@ abbrev pub seen_unit : {R E : Type 0} → (R → Reading) → UnitRows R E → S
 seen_unit reading u =
     record { from = u.unit.header.offset.0; header = header_of u.unit.header.fields; table = u.unit.abbreviations; rows = map (seen_row reading) u.rows.items }
 
--- how many lists of children are open after a row
-abbrev pub lists_after : Mark ReadEntry → ℕ → ℕ
-lists_after (Open x) lists = deeper x.has_children lists
-lists_after Null lists = lists - 1
-
 -- the row at the place is read and passed
 pub record SeesRow {R E : Type 0} (reading : R → Reading) (old new : EntriesRaw R E) (row : Row R E) : Type 0 where
-  pub unit : IsSameUnit old new
   pub mark : Mark ReadEntry
-  pub took : Took (Mark ReadEntry) (row_read reading old new) (reading old.input) (reading new.input) mark
+  pub passes : PassesRow reading old new mark
   pub seen : seen_row reading row ≡ shown_mark ((reading old.input).place - old.start) old.open_lists mark
-  pub lists : new.open_lists ≡ lists_after mark old.open_lists
-
--- the rows of a unit, or the reason why one can't be read
-abbrev pub rows_reading : {R E : Type 0} → (R → Reading) → UnitHeader R E → List Declaration → Result (List ReadRow) ReadError
-rows_reading reading h table =
-    rows_read (length (left (reading h.body))) (reading h.body).is_big h.fields.encoding table (header_size reading h) 0 (left (reading h.body))
 
 -- all rows of a unit
 pub record SeesRows {R E : Type 0} (reading : R → Reading) (h : UnitHeader R E) (table : List Declaration) (rows : List (Row R E)) : Type 0 where
@@ -84,29 +69,10 @@ pub record SeesRows {R E : Type 0} (reading : R → Reading) (h : UnitHeader R E
   pub is : rows_reading reading h table ≡ Ok all
   pub seen : map (seen_row reading) rows ≡ map shown_row all
 
--- the unit of a header
-abbrev pub unit_reading : {R E : Type 0} → (R → Reading) → Dwarf R E → UnitHeader R E → Result ReadUnit ReadError
-unit_reading reading d h =
-    unit_read (reading h.body).is_big (reading d.debug_abbrev) (reading d.debug_addr) h.offset.0 (header_of h.fields) (header_size reading h) (left (reading h.body))
-
 pub record SeesUnit {R E : Type 0} (reading : R → Reading) (d : Dwarf R E) (h : UnitHeader R E) (u : UnitRows R E) : Type 0 where
   pub unit : ReadUnit
   pub is : unit_reading reading d h ≡ Ok unit
   pub seen : seen_unit reading u ≡ shown_unit unit
-
--- the units of the sections, each with the table that its header names
-abbrev pub units_there : {R E : Type 0} → (R → Reading) → Dwarf R E → Option (List ReadUnit)
-units_there reading d =
-    units_in (length (left (reading d.debug_info))) (reading d.debug_info).is_big (left (reading d.debug_abbrev)) (reading d.debug_info).place (left (reading d.debug_info))
-
--- the same with their roots' addresses, or the reason why one can't be read
-abbrev pub units_reading : {R E : Type 0} → (R → Reading) → Dwarf R E → Result (List ReadUnit) ReadError
-units_reading reading d =
-    units_read (length (left (reading d.debug_info))) (reading d.debug_info).is_big (reading d.debug_abbrev) (reading d.debug_addr) (reading d.debug_info).place (left (reading d.debug_info))
-
--- the units of the sections where units and tables stand without a gap and each unit is one tree
-abbrev pub info_there : {R E : Type 0} → (R → Reading) → Dwarf R E → Option (List ReadUnit)
-info_there reading d = read_info (reading d.debug_info).is_big (left (reading d.debug_info)) (left (reading d.debug_abbrev))
 
 -- what a user holds are all units that the grammar reads, each with its table and its rows
 abbrev pub AreSeen : {R E : Type 0} → (R → Reading) → List (UnitRows R E) → List ReadUnit → Type 0

@@ -5,10 +5,10 @@ ghost use Rattle.dw_base.specs.Info.{ReadUnit};
 ghost use Rattle.dw_read.specs.Reading.{left};
 ghost use Rattle.dw_read.specs.Rows.{row_read};
 ghost use Rattle.dw_read.specs.declared.error.ReadError.TheVariants.{NoMemory};
+ghost use Rattle.dw_read_units.specs.Passes.{rows_reading, unit_reading, units_reading};
+ghost use Rattle.dw_read_units.specs.Passes.{units_there, info_there};
 ghost use Rattle.dw_read_units.specs.Walks.{HasRoot};
 ghost use Rattle.example_read.specs.Seen.{SeesRow, SeesRows, SeesUnit, SeesUnits, AreSeen};
-ghost use Rattle.example_read.specs.Seen.{rows_reading, unit_reading, units_reading};
-ghost use Rattle.example_read.specs.Seen.{units_there, info_there};
 
 use crate::row::{Row, UnitRows};
 use dw_read::{DebuggingInformationEntry, EntriesRaw, ReadResult, Reader, UnitHeader};

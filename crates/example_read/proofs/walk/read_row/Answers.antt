@@ -15,11 +15,9 @@ returns-then-branch-clause-ok g c =
     let d = c.read_entry.new.entry in
     let e = subst (λ (b : Bool). ReadsRow reading old new c.new-entry.result d (Ok b)) c.if-branch.true c.in_ok-read_entry.ensures in
     record {
-      unit = e.unit;
       mark = Open (entry_of reading e.code d);
-      took = took_of (Mark ReadEntry) (row_at reading old new) (row_read reading old new) (reading old.input) (reading new.input) (Open (entry_of reading e.code d)) (mark_law (reading old.input).is_big old.fields.now.encoding old.abbreviations.now) e.row;
+      passes = record { unit = e.unit; took = took_of (Mark ReadEntry) (row_at reading old new) (row_read reading old new) (reading old.input) (reading new.input) (Open (entry_of reading e.code d)) (mark_law (reading old.input).is_big old.fields.now.encoding old.abbreviations.now) e.row; lists = e.lists };
       seen = ap₂ (λ (o : ℕ) (z : ℤ). Entry (record { offset = o; depth = z; tag = d.tag.0; has_children = d.has_children; attributes = map (attribute_of reading) d.attrs.items })) e.offset e.depth;
-      lists = e.lists;
     }
 
 pub returns-else-branch-clause-ok : goal.returns-else-branch-clause-ok
@@ -29,9 +27,7 @@ returns-else-branch-clause-ok g c =
     let new = c.read_entry.new.self in
     let e = subst (λ (b : Bool). ReadsRow reading old new c.new-entry.result c.read_entry.new.entry (Ok b)) c.if-branch.false c.in_ok-read_entry.ensures in
     record {
-      unit = e.0.unit;
       mark = Null;
-      took = took_of (Mark ReadEntry) (row_at reading old new) (row_read reading old new) (reading old.input) (reading new.input) Null (mark_law (reading old.input).is_big old.fields.now.encoding old.abbreviations.now) e.0.row;
+      passes = record { unit = e.0.unit; took = took_of (Mark ReadEntry) (row_at reading old new) (row_read reading old new) (reading old.input) (reading new.input) Null (mark_law (reading old.input).is_big old.fields.now.encoding old.abbreviations.now) e.0.row; lists = e.0.lists };
       seen = ap Closing c.next_offset-offset.ensures;
-      lists = e.0.lists;
     }

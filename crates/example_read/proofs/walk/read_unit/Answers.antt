@@ -1,6 +1,7 @@
 use Rattle.std.proofs.Common.{⊎_elim, inl, inr}
 use Rattle.std.proofs.lemmas.Result.{err_from_is_err_and}
-use Rattle.example_read.proofs.UnitParts.{sees_unit, misses_rows, misses_unit}
+use Rattle.dw_read_units.proofs.UnitParts.{misses_rows, misses_unit}
+use Rattle.example_read.proofs.UnitParts.{sees_unit}
 use Rattle.example_read.proofs.walk.read_unit.Goals as goal
 
 pub returns-in_err-unit-clause-err : goal.returns-in_err-unit-clause-err
