@@ -7,6 +7,7 @@ use Rattle.dw_base.specs.declared.common.Encoding.{Encoding}
 use Rattle.dw_base.specs.declared.constants.TheConstants.{DW_FORM_string}
 use Rattle.dw_base.specs.declared.error.Error.{Error}
 use Rattle.dw_base.specs.declared.error.Error.TheVariants.{IncompatibleLineProgramEncoding, UnsupportedVersion, UnsupportedWordSize, NeedVersion, LineStringFormMismatch}
+use Rattle.dw_line_machine.specs.LineReader.{is_line_version}
 use Rattle.dw_line.specs.Names.{form_of}
 use Rattle.dw_line.specs.Files.{first_source, source_of}
 use Rattle.dw_line.specs.Headers.{directory_form, file_form}
@@ -16,9 +17,6 @@ use Rattle.dw_line.specs.declared.file.FileEntry.{FileEntry}
 -- a program and its unit have one format and one width of addresses, and both or neither is of version 5
 abbrev pub encodings_agree : Encoding → Encoding → Bool
 encodings_agree a b = (word_of a.format == word_of b.format) && (a.address_size == b.address_size) && beq (a.version == 5) (b.version == 5)
-
-abbrev pub is_line_version : ℕ → Bool
-is_line_version v = nat_le 2 v && nat_le v 5
 
 -- why a program of an encoding is refused for a unit of another
 abbrev pub encoding_fails : Encoding → Encoding → Error → Bool

@@ -1,6 +1,4 @@
 pub mod Parts
-pub mod LineMachine
-pub mod Instructions
 pub mod RawRows
 pub mod RowTexts
 pub mod SequenceTexts
@@ -15,5 +13,5 @@ pub mod Accepted
 pub mod ProgramTexts
 pub mod LinePrograms
 pub mod Lends
-pub mod LineTables
-pub mod LineReader
+pub mod BuiltTables
+pub mod Shows

@@ -1,9 +1,10 @@
 -- Rows as they are built, with files by their ids.
-use Rattle.std.specs.Prelude.{ℕ, ℤ, pos, negsuc, ◌-◌, ◌+◌, ◌%◌, ◌^◌, ◌<◌, Bool, true, false, ◌&&◌, ◌==◌, nat_le, nat_lt, List, [], ◌∷◌, map, Option, Some, None, if◌then◌else◌}
+use Rattle.std.specs.Prelude.{ℕ, ◌+◌, ◌%◌, ◌^◌, ◌<◌, Bool, true, false, ◌&&◌, ◌==◌, nat_le, nat_lt, List, [], ◌∷◌, map, Option, Some, None, if◌then◌else◌}
 use Rattle.dw_base.specs.declared.address.Address.{Address}
 use Rattle.dw_base.specs.declared.common.LineEncoding.{LineEncoding}
 use Rattle.dw_writer.specs.SignedNumbers.{twos_complement}
-use Rattle.dw_line.specs.LineMachine.{LineHeader}
+use Rattle.dw_line_machine.specs.LineMachine.{LineHeader}
+use Rattle.dw_line_machine.specs.LineReader.{signed_byte}
 use Rattle.dw_line.specs.RawRows.{RawRow}
 use Rattle.dw_line.specs.SequenceTexts.{BuiltSequence}
 use Rattle.dw_line.specs.declared.row.LineRow.{LineRow}
@@ -72,10 +73,6 @@ is_end_in_order m from (Some end) = nat_le from end && (end % m == 0)
 -- how many operands the standard instructions have (DWARF 5, 6.2.5.2)
 abbrev pub standard_operand_counts : List ℕ
 standard_operand_counts = 0 ∷ 1 ∷ 1 ∷ 1 ∷ 1 ∷ 0 ∷ 0 ∷ 0 ∷ 1 ∷ 0 ∷ 0 ∷ 1 ∷ []
-
--- a byte as a signed number, in two's complement
-abbrev pub signed_byte : ℕ → ℤ
-signed_byte b = if nat_lt b 128 then pos b else negsuc (255 - b)
 
 -- what is read of the header that is written
 abbrev pub written_header : Bool → LineEncoding → LineHeader

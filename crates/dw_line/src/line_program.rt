@@ -6,7 +6,7 @@ ghost use Rattle.dw_base.specs.declared.error.Error.TheVariants.{NoMemory};
 ghost use Rattle.dw_writer.specs.Meaning.{IsTidy, IsSameWriter, Appends};
 ghost use Rattle.dw_writer.specs.Causes.{BytesRefused};
 ghost use Rattle.dw_line.specs.Lends.{LendsRow};
-ghost use Rattle.dw_line.specs.LineReader.{ShowsSequences, ShowsTables};
+ghost use Rattle.dw_line.specs.Shows.{ShowsSequences, ShowsTables};
 ghost use Rattle.dw_line.specs.LinePrograms.{no_line_program, encoding_of, line_encoding_of, is_in_sequence, directories_of, files_of, file_count_of, last_offset_of, sequences_of, IsInfo, changed, begun, generated, line_program_size, line_program_text, line_program_fails};
 ghost use Rattle.dw_line.specs.LineRows.{first_line_row};
 ghost use Rattle.dw_line.specs.Names.{no_info, IsName};

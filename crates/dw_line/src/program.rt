@@ -11,7 +11,7 @@ ghost use Rattle.dw_line.specs.LineRows.{last_offset, written_header};
 ghost use Rattle.dw_line.specs.SequenceTexts.{AreBuilt};
 ghost use Rattle.dw_line.specs.Parts.{KeepsFront, Refused};
 ghost use Rattle.dw_line.specs.ProgramTexts.{minimum_length, IsFile, IsLineEncoding, directory_index, with_directory, file_index, entry_of, with_file, with_begin, with_row, with_end, program_sequences, sequences_size, sequences_text, sequences_fail, program_length, program_size, contents_text, contents_fail, program_text, program_fails, HeaderIsWide};
-ghost use Rattle.dw_line.specs.LineReader.{ShowsSequences, ShowsTables};
+ghost use Rattle.dw_line.specs.Shows.{ShowsSequences, ShowsTables};
 ghost use Rattle.dw_line.specs.Names.{no_info, IsName, IsFull};
 
 use crate::accept::{check_encoding, check_forms};

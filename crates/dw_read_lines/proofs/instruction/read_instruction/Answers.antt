@@ -2,7 +2,7 @@ use Rattle.std.proofs.Common.{◌≡◌, ◌∙◌, ap, subst, arith, refl, ℕ,
 use Rattle.std.specs.Prelude.{slice_index}
 use Rattle.std.proofs.lemmas.Bool.{ne_eqb, le-leb, lt-leb}
 use Rattle.std.proofs.lemmas.Result.{err_from_is_err_and}
-use Rattle.dw_line.specs.LineMachine.{LineHeader, Instruction}
+use Rattle.dw_line_machine.specs.LineMachine.{LineHeader, Instruction}
 use Rattle.dw_read.specs.Reading.{left}
 use Rattle.dw_read.specs.Took.{Took}
 use Rattle.dw_read.proofs.Chain.{took, went, went_of, went_then, went_order, number_took, number_not}

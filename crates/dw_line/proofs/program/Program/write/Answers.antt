@@ -10,7 +10,8 @@ use Rattle.dw_writer.specs.Meaning.{Adds, Replaces}
 use Rattle.dw_base.specs.Numbers.{is_width, length_fits}
 use Rattle.dw_base.specs.declared.error.Error.TheVariants as errors
 use Rattle.dw_writer.proofs.Outcomes.{OnOk-map}
-use Rattle.dw_line.specs.Accepted.{is_line_version, is_new_file, encoding_fails, forms_agree, forms_fail}
+use Rattle.dw_line_machine.specs.LineReader.{is_line_version}
+use Rattle.dw_line.specs.Accepted.{is_new_file, encoding_fails, forms_agree, forms_fail}
 use Rattle.dw_line.specs.Headers.{header_length, length_fails}
 use Rattle.dw_line.specs.ProgramTexts.{IsLineEncoding, HeaderIsWide, program_sequences, program_length, contents_fail, program_fails}
 use Rattle.dw_line.specs.LineRows.{written_header}

@@ -1,19 +1,11 @@
 -- The directories and files of a line program as a reader finds them in its header: up to version 4 lists that an empty name
 -- closes (DWARF 4, 6.2.4), in version 5 entries whose parts the header describes (DWARF 5, 6.2.4 and 6.2.4.1).
-use Rattle.std.specs.Prelude.{ℕ, zero, suc, ◌+◌, ◌==◌, nat_le, Bool, true, false, List, [], ◌∷◌, map, drop, length, Option, Some, None, is_some, unwrap_or, if◌then◌else◌}
+use Rattle.std.specs.Prelude.{ℕ, zero, suc, ◌==◌, nat_le, Bool, List, [], ◌∷◌, length, Option, Some, None, if◌then◌else◌}
 use Rattle.dw_base.specs.Numbers.{Parser, ◌>>=◌, when, bytes_at, number_at, word_of}
 use Rattle.dw_base.specs.Leb128.{uleb_at}
 use Rattle.dw_base.specs.Forms.{text_at, form_at}
 use Rattle.dw_base.specs.declared.common.Encoding.{Encoding}
 use Rattle.dw_base.specs.declared.constants.TheConstants.{DW_LNCT_path, DW_LNCT_directory_index, DW_LNCT_timestamp, DW_LNCT_size, DW_LNCT_MD5, DW_LNCT_LLVM_source, DW_FORM_string, DW_FORM_strp, DW_FORM_line_strp, DW_FORM_udata, DW_FORM_data1, DW_FORM_data2, DW_FORM_data4, DW_FORM_data8, DW_FORM_data16}
-use Rattle.dw_base.specs.declared.section_id.SectionId.TheVariants.{DebugStr, DebugLineStr}
-use Rattle.dw_writer.specs.Texts.{zeros}
-use Rattle.dw_writer.specs.Meaning.{Layout, start_of}
-use Rattle.dw_strings.specs.Strings.{string_place}
-use Rattle.dw_line.specs.Files.{has_md5, first_source, source_of}
-use Rattle.dw_line.specs.declared.line_string.LineString.{LineString}
-use Rattle.dw_line.specs.declared.line_string.LineString.TheVariants.{String, StringRef, LineStringRef}
-use Rattle.dw_line.specs.declared.file.FileEntry.{FileEntry}
 
 -- a name itself, or its place in .debug_str or in .debug_line_str
 pub data ReadName : Type 0 where
@@ -132,39 +124,3 @@ new_tables_at big e bytes =
 
 unfoldable pub tables_at : Bool → Encoding → Parser LineTables
 tables_at big e bytes = if nat_le e.version 4 then old_tables_at bytes else new_tables_at big e bytes
-
--- a part of every entry or of none
-abbrev pub told : {X : Type 0} → Bool → X → Option X
-told true x = Some x
-told false x = None
-
--- What was built, as it is read: strings by their places in the layout's sections.
-module _ (strings line_strings : List (List ℕ)) (l : Layout) where
-  abbrev pub name_read : LineString → ReadName
-  name_read (String s) = Inline s
-  name_read (StringRef i) = InStrings (string_place strings i.0 + start_of l DebugStr)
-  name_read (LineStringRef i) = InLineStrings (string_place line_strings i.0 + start_of l DebugLineStr)
-
-  abbrev pub directory_read : LineString → ReadEntry
-  directory_read d = named (name_read d)
-
-  -- where some file has a checksum, one that is missing is zeros; where some file has a text, one that is missing is empty
-  abbrev pub file_read : List FileEntry → FileEntry → ReadEntry
-  file_read files f = record {
-    name = Some (name_read f.name);
-    directory = f.directory.0;
-    timestamp = f.info.timestamp;
-    size = f.info.size;
-    md5 = told (has_md5 files) (unwrap_or f.info.md5 (zeros 16));
-    source = told (is_some (first_source files)) (name_read (source_of f));
-  }
-
-  -- up to version 4 the working directory is that of the unit, and stands in no list
-  abbrev pub listed : ℕ → List LineString → List LineString
-  listed version directories = if nat_le version 4 then drop 1 directories else directories
-
-  abbrev pub tables_read : ℕ → List LineString → List FileEntry → LineTables
-  tables_read version directories files = record {
-    directories = map directory_read (listed version directories);
-    files = map (file_read files) files;
-  }

@@ -1,17 +1,18 @@
 -- A line program in its section: what its header tells the machine, its tables of directories and files, and its rows (DWARF 5,
 -- 6.2.4 and 6.2.5). Instructions begin where the header's own length says that it ends.
-use Rattle.std.specs.Prelude.{◌≡◌, ℕ, ◌-◌, Bool, not, ◌==◌, nat_le, List, ◌++◌, drop, Option, Some, if◌then◌else◌}
+use Rattle.std.specs.Prelude.{ℕ, ◌-◌, Bool, not, ◌&&◌, ◌==◌, nat_le, nat_lt, List, drop, Option, Some, ℤ, pos, negsuc, if◌then◌else◌}
 use Rattle.dw_base.specs.Numbers.{Parser, ◌>>=◌, when, bytes_at, number_at, initial_length_at, word_of}
 use Rattle.dw_base.specs.declared.common.Encoding.{Encoding}
-use Rattle.dw_writer.specs.Meaning.{Layout, Meaning, IsTidy, resolved}
-use Rattle.dw_line.specs.Accepted.{is_line_version}
-use Rattle.dw_line.specs.LineMachine.{LineHeader, Shown}
-use Rattle.dw_line.specs.LineRows.{signed_byte}
-use Rattle.dw_line.specs.LineTables.{LineTables, byte_at, tables_at, tables_read}
-use Rattle.dw_line.specs.Instructions.{rows_of}
-use Rattle.dw_line.specs.SequenceTexts.{BuiltSequence, built_rows}
-use Rattle.dw_line.specs.declared.line_string.LineString.{LineString}
-use Rattle.dw_line.specs.declared.file.FileEntry.{FileEntry}
+use Rattle.dw_line_machine.specs.LineMachine.{LineHeader, Shown}
+use Rattle.dw_line_machine.specs.LineTables.{LineTables, byte_at, tables_at}
+use Rattle.dw_line_machine.specs.Instructions.{rows_of}
+
+abbrev pub is_line_version : ℕ → Bool
+is_line_version v = nat_le 2 v && nat_le v 5
+
+-- a byte as a signed number, in two's complement
+abbrev pub signed_byte : ℕ → ℤ
+signed_byte b = if nat_lt b 128 then pos b else negsuc (255 - b)
 
 -- the operations of an instruction, which are told from version 4 on
 abbrev pub operations_at : ℕ → Parser ℕ
@@ -71,15 +72,3 @@ line_rows_at big section place = line_program_at big (drop place section) >>= λ
 -- its directories and files
 unfoldable pub line_tables_at : Bool → List ℕ → ℕ → Option LineTables
 line_tables_at big section place = line_program_at big (drop place section) >>= λ p. tables_at big p.encoding p.tables >>= λ t. Some t.0
-
--- The program that was added at the end shows these sequences, in each layout in which the bytes are told, and whatever follows.
-abbrev pub ShowsSequences : Meaning → Meaning → List BuiltSequence → Type 0
-ShowsSequences old new sequences =
-    IsTidy old → (l : Layout) (bytes more : List ℕ) → resolved l new ≡ Some bytes →
-    line_rows_at old.is_big (bytes ++ more) old.size ≡ built_rows l sequences
-
--- It has these directories and files, which name strings of these tables.
-abbrev pub ShowsTables : Meaning → Meaning → List (List ℕ) → List (List ℕ) → ℕ → List LineString → List FileEntry → Type 0
-ShowsTables old new strings line_strings version directories files =
-    IsTidy old → (l : Layout) (bytes more : List ℕ) → resolved l new ≡ Some bytes →
-    line_tables_at old.is_big (bytes ++ more) old.size ≡ Some (tables_read strings line_strings l version directories files)

@@ -1,0 +1,4 @@
+pub mod LineMachine
+pub mod Instructions
+pub mod LineTables
+pub mod LineReader
