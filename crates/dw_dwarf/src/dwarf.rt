@@ -1,6 +1,6 @@
 //! The DWARF of one file.
 
-ghost use Rattle.std.specs.Prelude.{◌≡◌, ◌⊎◌, ◌≤◌, Bool, [], Some, IsTrue, OnOk, OnErr, IfErr};
+ghost use Rattle.std.specs.Prelude.{◌≡◌, ◌⊎◌, ◌≤◌, Bool, [], Some, Ok, Err, IsTrue, IfSome, IfOk, OnOk, OnErr, IfErr};
 ghost use Rattle.dw_base.specs.declared.error.Error.TheVariants.{NoMemory};
 ghost use Rattle.dw_writer.specs.New.{IsNew};
 ghost use Rattle.dw_writer.specs.Sections.{SomeHasRisen, fault_sum, NoFixups};
@@ -10,6 +10,11 @@ ghost use Rattle.dw_unit.specs.Elsewhere.{ends_of, AppendsAllRanges};
 ghost use Rattle.dw_unit.specs.Pending.{starts_of};
 ghost use Rattle.dw_unit.specs.Valid.{CanFollow};
 ghost use Rattle.dw_unit.specs.Written.{AreWritten, AreStopped, CompletesAny};
+ghost use Rattle.dw_sources.specs.declared.convert_error.ConvertError.TheVariants as refused;
+ghost use Rattle.dw_convert_lines.specs.EntryNames.{Tables};
+ghost use Rattle.dw_convert_lines.specs.HeaderImages.{IsWritable};
+ghost use Rattle.dw_convert_lines.specs.ReadPrograms.{ProgramOutcome};
+ghost use Rattle.dw_convert_lines.specs.Views.{texts_of, tables};
 ghost use Rattle.dw_dwarf.specs.DwarfValue.{dwarf_in};
 ghost use Rattle.dw_dwarf.specs.Left.{IsLeft};
 ghost use Rattle.dw_dwarf.specs.LineNames.{IsThere, bytes_of};
@@ -18,7 +23,12 @@ ghost use Rattle.dw_dwarf.specs.Written.{AreNewPlain, AreNew, HoldsDwarf, Resolv
 
 use crate::line_string::line_string_bytes;
 use crate::rest::write_rest;
-use dw_base::Result;
+use dw_base::{Encoding, LineEncoding, Result};
+use dw_convert_lines::{ConvertLineProgram, read_line_program};
+use dw_read::Reader;
+use dw_read_lines::IncompleteLineProgram;
+use dw_read_units::Dwarf as ReadDwarf;
+use dw_sources::ConvertResult;
 use dw_strings::{LineStringTable, StringTable};
 use dw_unit::{LineProgram, LineString, UnitTable};
 use dw_writer::{Sections, Writer};
@@ -180,5 +190,50 @@ impl Dwarf {
         ensures { bytes_of self.now.line_strings self.now.strings string.now ≡ Some result.now }
     {
         line_string_bytes(string, &self.line_strings, &self.strings)
+    }
+
+    /// Begins to convert a line program that was read, by its parameters, directories and files, so
+    /// that the strings that they lead to go into this `Dwarf`. An encoding or parameters that
+    /// aren't given are those that were read (DWARF 5, 6.2.4).
+    ///
+    /// Refused as `UnsupportedLineProgram` where the parameters are none that a program here has, a
+    /// description of directories or files can't be converted, a name, a number or a checksum has
+    /// another form, or a name below version 5 is empty, as `InvalidDirectoryIndex` where a file's
+    /// directory isn't there or version 5 has no directory, as `Read` where an entry or a string
+    /// can't be read, and as `NoMemory`.
+    ///
+    /// ```
+    /// let program = IncompleteLineProgram::new(&read, offset, 8)?;
+    /// let converting = dwarf.read_line_program(&read, program, None, None)?;
+    /// let (program, files) = converting.convert(&|address| Some(Address::Constant(address)))?;
+    /// dwarf.line_programs.push(program)?;
+    /// ```
+    pub fn read_line_program<'a, R: Reader>(
+        &'a mut self,
+        dwarf: &'a ReadDwarf<R>,
+        program: IncompleteLineProgram<R>,
+        encoding: Option<Encoding>,
+        line_encoding: Option<LineEncoding>,
+    ) -> ConvertResult<ConvertLineProgram<'a, R>>
+        requires { IfSome line_encoding IsWritable }
+        // The tables are lent for as long as the result, so that no clause can tell them.
+        ensures ok { IfOk result (λ c. (t : Tables) × ProgramOutcome R.reading
+            (texts_of R.reading dwarf.now) program encoding line_encoding
+            (tables self.old.strings self.old.line_strings)
+            (Ok (record { program = c.program; ids = c.files.items; tables = t }))) }
+        ensures err { IfErr result (λ e. (e ≡ refused.NoMemory) ⊎ ProgramOutcome R.reading
+            (texts_of R.reading dwarf.now) program encoding line_encoding
+            (tables self.old.strings self.old.line_strings) (Err e)) }
+    {
+        let alloc = *self.line_programs.allocator();
+        read_line_program(
+            alloc,
+            dwarf,
+            program,
+            encoding,
+            line_encoding,
+            &mut self.line_strings,
+            &mut self.strings,
+        )
     }
 }

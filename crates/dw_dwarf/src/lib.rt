@@ -12,7 +12,12 @@ pub use dw_base::{
     Endianity, Error, FileId, Format, LineEncoding, LineStringId, LittleEndian, LocationListId,
     RangeListId, Result, RunTimeEndian, SectionId, StringId, UnitEntryId, UnitId, constants,
 };
+pub use dw_convert::{
+    ConvertDebugInfoRef, NoConvertDebugInfoRef, expression, location_list, range_list,
+};
+pub use dw_convert_lines::ConvertLineProgram;
 pub use dw_lists::{Location, LocationList, LocationListTable, Range, RangeList, RangeListTable};
+pub use dw_sources::{ConvertError, ConvertResult};
 pub use dw_strings::{LineStringTable, StringTable};
 pub use dw_unit::{
     AttrMut, Attribute, AttributeValue, AttributeWalk, AttrsMut, DebuggingInformationEntry,

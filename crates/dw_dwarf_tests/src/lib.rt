@@ -8,6 +8,8 @@ mod building;
 #[cfg(test)]
 mod dwarf_unit_tests;
 #[cfg(test)]
+mod line_program_tests;
+#[cfg(test)]
 mod plans;
 #[cfg(test)]
 mod relocation_tests;
