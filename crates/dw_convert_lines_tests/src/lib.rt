@@ -5,6 +5,8 @@
 #[cfg(test)]
 mod converting;
 #[cfg(test)]
+mod damage_tests;
+#[cfg(test)]
 mod format_list_tests;
 #[cfg(test)]
 mod program_tests;
