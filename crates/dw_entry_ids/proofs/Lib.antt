@@ -1,3 +1,4 @@
 pub mod Steps
+pub mod Found
 mod RowSteps
 mod UnitSteps

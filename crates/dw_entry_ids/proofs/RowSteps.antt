@@ -9,9 +9,10 @@ use Rattle.dw_read.specs.declared.entries.EntriesRaw.{EntriesRaw}
 use Rattle.dw_read.specs.declared.unit_header.UnitHeader.{UnitHeader}
 use Rattle.dw_read.proofs.Lefts.{shorter}
 use Rattle.dw_read_units.proofs.RowWalk.{WalkedRows, row_here, walked_none, walked_more, walked_end, row_shorter}
-use Rattle.dw_entry_ids.specs.Ids.{ids_at, later_or, entry_count, number_among, with_unit}
+use Rattle.dw_entry_ids.specs.Ids.{ids_at, later_or, entry_count, number_among, with_unit, AreFound}
 use Rattle.dw_entry_ids.specs.Units.{NumbersRow, NumbersRows, mark_id}
 use Rattle.dw_entry_ids.specs.declared.ids.EntryIds.{EntryIds}
+use Rattle.dw_entry_ids.proofs.Found.{found_none, found_more}
 use Rattle.dw_entry_ids.proofs.Steps.{count_one, kept_none, kept_more}
 
 module _ {R E : Type 0} (reading : R → Reading) (h : UnitHeader R E) (table : List Declaration) (k : UnitId) (before : EntryIds) where
@@ -21,6 +22,8 @@ module _ {R E : Type 0} (reading : R → Reading) (h : UnitHeader R E) (table : 
     pub walked : WalkedRows reading h table now front
     pub counted : count ≡ entry_count front
     pub few : count ≤ (reading now.input).place
+    pub end : (reading now.input).end ≡ (reading h.body).end
+    pub found : AreFound h.offset.0 front (reading now.input).place
     pub kept : (p : ℕ) → ids_at ids p ≡ later_or (with_unit k (number_among h.offset.0 0 front p)) (ids_at before p)
 
   pub numbered_none : (now : EntriesRaw R E) → h.offset.0 ≤ (reading h.body).place → BeginsAt reading h table now → Numbered now 0 before
@@ -29,6 +32,8 @@ module _ {R E : Type 0} (reading : R → Reading) (h : UnitHeader R E) (table : 
     walked = walked_none reading h table now l b;
     counted = refl;
     few = omega arith;
+    end = ap (λ (r : Reading). r.end) b.input;
+    found = found_none h.offset.0 (reading now.input).place;
     kept = λ p. kept_none k h.offset.0 p (ids_at before p);
   }
 
@@ -62,6 +67,8 @@ module _ {R E : Type 0} (reading : R → Reading) (h : UnitHeader R E) (table : 
         walked = walked_more reading h table old new w.front s.mark i j w.walked s.passes;
         counted = ap (λ (n : ℕ). n + (if is then 1 else 0)) w.counted ∙ ap (λ (b : Bool). entry_count w.front + (if b then 1 else 0)) s.told ∙ sym (count_one w.front one);
         few = omega arith;
+        end = ap (λ (r : Reading). r.end) s.passes.took.passes.is ∙ w.end;
+        found = found_more h.offset.0 w.front one (reading old.input).place (reading new.input).place w.found at began more;
         kept = λ p. s.kept p
             ∙ ap (λ (n : ℕ). later_or (mark_id (reading old.input).place (k, record { 0 = n }) s.mark p) (ids_at mid p)) w.counted
             ∙ ap (λ o. later_or (mark_id (reading old.input).place (k, record { 0 = entry_count w.front }) s.mark p) o) (w.kept p)
@@ -72,5 +79,19 @@ module _ {R E : Type 0} (reading : R → Reading) (h : UnitHeader R E) (table : 
       at_most_one true = omega arith
       at_most_one false = omega arith
 
-  pub numbered_end : (now : EntriesRaw R E) (count : ℕ) (ids : EntryIds) → Numbered now count ids → length (left (reading now.input)) ≡ 0 → NumbersRows reading h table k before ids count
-  numbered_end now count ids w z = record { rows = w.front; is = walked_end reading h table now w.front w.walked z; counted = w.counted; kept = w.kept }
+  pub numbered_end : (now : EntriesRaw R E) (count : ℕ) (ids : EntryIds) → IsReading (reading now.input) → Numbered now count ids → length (left (reading now.input)) ≡ 0 → NumbersRows reading h table k before ids count
+  numbered_end now count ids i w z = record {
+    rows = w.front;
+    is = walked_end reading h table now w.front w.walked z;
+    counted = w.counted;
+    found = record {
+      found = w.found.found;
+      within = λ j p q.
+          let b = w.found.within j p q in
+          let l : p < (reading now.input).place = b.1 in
+          let e : (reading now.input).place ≤ (reading now.input).end = i.place in
+          let same : (reading now.input).end ≡ (reading h.body).end = w.end in
+          (b.0, omega arith);
+    };
+    kept = w.kept;
+  }

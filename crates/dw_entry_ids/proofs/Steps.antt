@@ -35,7 +35,7 @@ count_one [] r = omega arith
 count_one (x ∷ rows) r = let h : entry_count (rows ++ r ∷ []) ≡ entry_count rows + (if is_entry r.mark then 1 else 0) = count_one rows r in omega arith
 
 -- one row more
-number_one : (from n : ℕ) (rows : List Row) (r : Row) (p : ℕ) → number_among from n (rows ++ r ∷ []) p ≡ later_or (mark_number (from + r.from) (entry_count rows + n) r.mark p) (number_among from n rows p)
+pub number_one : (from n : ℕ) (rows : List Row) (r : Row) (p : ℕ) → number_among from n (rows ++ r ∷ []) p ≡ later_or (mark_number (from + r.from) (entry_count rows + n) r.mark p) (number_among from n rows p)
 unfolding number_among
 number_one from n [] r p =
     let e : n ≡ 0 + n = omega arith in

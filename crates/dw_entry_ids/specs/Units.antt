@@ -11,7 +11,7 @@ use Rattle.dw_read.specs.declared.unit_header.UnitHeader.{UnitHeader}
 use Rattle.dw_read_units.specs.Passes.{rows_reading, units_there, PassesRow}
 use Rattle.dw_read_units.specs.UnitReads.{IsUnit}
 use Rattle.dw_read_units.specs.declared.dwarf.Dwarf.{Dwarf}
-use Rattle.dw_entry_ids.specs.Ids.{Id, ids_at, later_or, begins_at, is_entry, entry_count, number_among, with_unit, id_among}
+use Rattle.dw_entry_ids.specs.Ids.{Id, ids_at, later_or, begins_at, is_entry, entry_count, number_among, with_unit, id_among, AreFound, FindsEntries}
 use Rattle.dw_entry_ids.specs.declared.ids.EntryIds.{EntryIds}
 use Rattle.dw_entry_ids.specs.declared.units.NumberedUnit.{NumberedUnit}
 use Rattle.dw_entry_ids.specs.declared.units.NumberedUnits.{NumberedUnits}
@@ -33,6 +33,7 @@ pub record NumbersRows {R E : Type 0} (reading : R → Reading) (h : UnitHeader 
   pub rows : List Row
   pub is : rows_reading reading h table ≡ Ok rows
   pub counted : count ≡ entry_count rows
+  pub found : AreFound h.offset.0 rows (reading h.body).end
   pub kept : (p : ℕ) → ids_at after p ≡ later_or (with_unit k (number_among h.offset.0 0 rows p)) (ids_at before p)
 
 -- what is held of a unit of the grammar
@@ -51,9 +52,11 @@ AreNumbered reading d [] (u ∷ us) = ⊥
 AreNumbered reading d (x ∷ xs) [] = ⊥
 AreNumbered reading d (x ∷ xs) (u ∷ us) = IsNumbered reading d x u × AreNumbered reading d xs us
 
--- the units are all that the grammar reads, each with its number of entries, and an id is kept exactly at the place of each entry
+-- the units are all that the grammar reads, each with its number of entries, and an id is kept exactly at the place of each
+-- entry
 pub record NumbersUnits {R E : Type 0} (reading : R → Reading) (d : Dwarf R E) (r : NumberedUnits R E) : Type 0 where
   pub units : List ReadUnit
   pub are : units_there reading d ≡ Some units
   pub numbered : AreNumbered reading d r.units.items units
   pub ids : (p : ℕ) → ids_at r.ids p ≡ id_among 0 units p
+  pub entries : FindsEntries r.ids units

@@ -46,4 +46,4 @@ rows-preserved g c =
     subst (λ (n : ℕ). Numbered g.R.Reader.reading c.args.unit.unit.now.header c.args.unit.unit.now.abbreviations c.args.id c.args.ids.now c.number_row.new.rows n c.number_row.new.ids) none more
 
 pub returns-clause-ok : goal.returns-clause-ok
-returns-clause-ok g c = numbered_end g.R.Reader.reading c.args.unit.unit.now.header c.args.unit.unit.now.abbreviations c.args.id c.args.ids.now c.rows.rows c.rows.count c.rows.ids c.rows.invariant (c.is_empty.ensures.0 c.rows-test.false)
+returns-clause-ok g c = numbered_end g.R.Reader.reading c.args.unit.unit.now.header c.args.unit.unit.now.abbreviations c.args.id c.args.ids.now c.rows.rows c.rows.count c.rows.ids (g.met.R.Reader.is_reading c.rows.rows.input) c.rows.invariant (c.is_empty.ensures.0 c.rows-test.false)
