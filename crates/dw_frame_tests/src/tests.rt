@@ -3,6 +3,7 @@
 mod conversions;
 mod encodings;
 mod instructions;
+mod returning;
 mod rules;
 mod sections;
 
