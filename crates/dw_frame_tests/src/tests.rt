@@ -1,6 +1,7 @@
 //! Tables of entries, made of plans that stand in tables of cases.
 
 mod conversions;
+mod damage;
 mod encodings;
 mod instructions;
 mod returning;
