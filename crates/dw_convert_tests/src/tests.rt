@@ -138,3 +138,4 @@ mod damage;
 mod expressions;
 mod location_lists;
 mod range_lists;
+mod returning;

@@ -33,7 +33,7 @@ fn location(item: Item, expression: Expression) -> Location {
 }
 
 /// A list of items, where all that can have an expression have the number 0.
-fn list_of(alloc: Global, items: &[Item]) -> Result<LocationList> {
+pub(super) fn list_of(alloc: Global, items: &[Item]) -> Result<LocationList> {
     let mut list = Vec::new(alloc);
     for item in items {
         let zero = vec![in alloc; Operation::UnsignedConstant(0)]?;
