@@ -10,7 +10,7 @@ use Rattle.dw_read_units.specs.Lookups.{bytes_from, indexed, StandsAt, IsMissing
 use Rattle.dw_sources.specs.declared.convert_error.ConvertError.{ConvertError}
 use Rattle.dw_convert.specs.Lookups.{address_behind}
 
-of_ok : {A : Type 0} (r : Result A ReadError) (x : A) → result_ok r ≡ Some x → r ≡ Ok x
+pub of_ok : {A : Type 0} (r : Result A ReadError) (x : A) → result_ok r ≡ Some x → r ≡ Ok x
 of_ok (Ok y) x h = cc
 of_ok (Err e) x h = cc
 

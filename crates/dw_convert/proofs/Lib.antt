@@ -6,3 +6,11 @@ mod Stepping
 mod Zipping
 mod Nesting
 mod LocationSteps
+mod Dropped
+mod Lookups
+mod Defaults
+mod Spelled
+mod Formed
+mod Onces
+mod Converting
+mod Worked

@@ -12,3 +12,12 @@ pub mod Listings
 pub mod Locations
 pub mod LocationLists
 pub mod LocationViews
+pub mod Images
+pub mod Tables
+pub mod Constants
+pub mod Files
+pub mod Sources
+pub mod Exprlocs
+pub mod Values
+pub mod Attributes
+pub mod AttributeLists

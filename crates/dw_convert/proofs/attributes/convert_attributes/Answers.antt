@@ -1,0 +1,20 @@
+use Rattle.std.proofs.Common.{◌∙◌, sym, ap, ⊎_elim, inl, inr}
+use Rattle.dw_base.specs.declared.constants.DwAt.{DwAt}
+use Rattle.dw_convert.specs.AttributeLists.{is_dropped, put}
+use Rattle.dw_convert.proofs.Addresses.{is_err}
+use Rattle.dw_convert.proofs.Converting.{one_more, one_refused}
+use Rattle.dw_convert.proofs.attributes.convert_attributes.Goals as goal
+
+pub returns-in_err-value-clause-err : goal.returns-in_err-value-clause-err
+returns-in_err-value-clause-err g c =
+    let why = c.in_err-value.field-0.0 in
+    let e = is_err _ why c.from_residual.ensures in
+    let d = sym (ap (λ (n : DwAt). is_dropped n.0) c.name.ensures) ∙ sym c.is_dropped.ensures ∙ c.if-is_dropped.false in
+    rw e (⊎_elim (λ n. inl n) (λ h. inr (one_refused _ _ g.R.Reader.reading _ _ _ c.args.unit c.args.files.now c.args.attributes.now c.attributes.attribute-index c.attribute-item.result _ c.attributes-test.true c.attribute-item.is _ _ _ c.attributes.invariant d why h)) c.in_err-value.ensures.err)
+
+pub attributes-preserved : goal.attributes-preserved
+attributes-preserved g c =
+    let d = sym (ap (λ (n : DwAt). is_dropped n.0) c.name.ensures) ∙ sym c.is_dropped.ensures ∙ c.if-is_dropped.false in
+    let v = c.in_ok-value.value in
+    let p = c.in_ok-put.ensures.ok ∙ ap (λ (n : DwAt). put n v c.attributes.converted.items) c.name-in-attributes.ensures in
+    one_more _ _ g.R.Reader.reading _ _ _ c.args.unit c.args.files.now c.args.attributes.now c.attributes.attribute-index c.attribute-item.result _ c.attributes-test.true c.attribute-item.is _ _ _ c.attributes.invariant d v _ c.put.new.attributes.items c.in_ok-value.ensures.ok p

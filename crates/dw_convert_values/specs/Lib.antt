@@ -1,9 +1,0 @@
-pub mod Images
-pub mod Tables
-pub mod Constants
-pub mod Files
-pub mod Sources
-pub mod Exprlocs
-pub mod Values
-pub mod Attributes
-pub mod Lists
