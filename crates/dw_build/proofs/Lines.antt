@@ -4,7 +4,7 @@ use Rattle.std.specs.Prelude.{Result, Ok, Err}
 use Rattle.dw_build.specs.Script.{after_line, after_lines}
 use Rattle.dw_build.specs.ScriptValue.{ScriptValue}
 use Rattle.dw_build.specs.declared.script.Refusal.{Refusal}
-use Rattle.dw_script.specs.declared.reason.Reason.{Reason}
+use Rattle.dw_ends.specs.declared.reason.Reason.{Reason}
 
 -- what is left to do after line n
 after_outcome : ℕ → List (List ℕ) → Result ScriptValue Reason → Result ScriptValue Refusal

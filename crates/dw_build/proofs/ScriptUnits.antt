@@ -16,8 +16,8 @@ use Rattle.dw_script.specs.declared.line_change.LineChange.{LineChange}
 use Rattle.dw_script.specs.declared.line_change.LineChange.TheVariants as change_lines
 use Rattle.dw_script.specs.declared.location.ScriptLocation.{ScriptLocation}
 use Rattle.dw_script.specs.declared.range.ScriptRange.{ScriptRange}
-use Rattle.dw_script.specs.declared.reason.Reason.{Reason}
-use Rattle.dw_script.specs.declared.reason.Reason.TheVariants.{OrderNotFirst, NoSuchUnit, NoSuchEntry, NotReserved, BadTag, BadName, ZeroByte, NoLineProgram, NoSuchDirectory, InSequence, NotInSequence, NoSuchFile, AddressBack}
+use Rattle.dw_ends.specs.declared.reason.Reason.{Reason}
+use Rattle.dw_ends.specs.declared.reason.Reason.TheVariants.{OrderNotFirst, NoSuchUnit, NoSuchEntry, NotReserved, BadTag, BadName, ZeroByte, NoLineProgram, NoSuchDirectory, InSequence, NotInSequence, NoSuchFile, AddressBack}
 use Rattle.dw_entries.specs.Content.{has_zero}
 use Rattle.dw_line.specs.LinePrograms.{LineProgramValue, no_line_program, encoding_of, line_encoding_of, is_in_sequence, directories_of, file_count_of, last_offset_of}
 use Rattle.dw_line.specs.ProgramTexts.{ProgramValue, with_directory, with_file, with_begin, with_row, with_end}

@@ -2,7 +2,7 @@
 use Rattle.std.proofs.Common.{◌≡◌, [], ◌∷◌, true, Ok, Err, codes, refl}
 use Rattle.dw_script.specs.Lines.{parsed_line}
 use Rattle.dw_script.specs.declared.command.Command.TheVariants.{String as AddString, LineString as AddLineString}
-use Rattle.dw_script.specs.declared.reason.Reason.TheVariants.{ZeroByte}
+use Rattle.dw_ends.specs.declared.reason.Reason.TheVariants.{ZeroByte}
 use Rattle.dw_base.specs.declared.common.Format.TheVariants.{Dwarf32, Dwarf64}
 use Rattle.dw_base.specs.declared.endianity.RunTimeEndian.TheVariants.{Little}
 use Rattle.dw_line.specs.LinePrograms.{no_line_program}

@@ -10,7 +10,7 @@ use Rattle.dw_script.specs.Fields.{Outcome, ◌>>=◌}
 use Rattle.dw_script.specs.declared.line_change.LineChange.{LineChange}
 use Rattle.dw_script.specs.declared.line_change.LineChange.TheVariants as change
 use Rattle.dw_script.specs.declared.line_change.LineText.{LineText}
-use Rattle.dw_script.specs.declared.reason.Reason.TheVariants.{NoLineProgram, NoSuchDirectory, InSequence, NotInSequence, NoSuchFile, AddressBack}
+use Rattle.dw_ends.specs.declared.reason.Reason.TheVariants.{NoLineProgram, NoSuchDirectory, InSequence, NotInSequence, NoSuchFile, AddressBack}
 use Rattle.dw_unit.specs.UnitValue.{UnitValue}
 use Rattle.dw_build.specs.Names.{name_of, listed_name}
 

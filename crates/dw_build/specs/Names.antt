@@ -6,7 +6,7 @@ use Rattle.dw_line.specs.declared.line_string.LineString.TheVariants as stored
 use Rattle.dw_script.specs.Fields.{Outcome, ◌>>=◌}
 use Rattle.dw_script.specs.declared.line_change.LineText.{LineText}
 use Rattle.dw_script.specs.declared.line_change.LineText.TheVariants as text
-use Rattle.dw_script.specs.declared.reason.Reason.TheVariants.{ZeroByte, EmptyName}
+use Rattle.dw_ends.specs.declared.reason.Reason.TheVariants.{ZeroByte, EmptyName}
 
 -- a text without a zero byte
 abbrev pub text_of : List ℕ → Outcome (List ℕ)

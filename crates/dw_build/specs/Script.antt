@@ -8,7 +8,7 @@ use Rattle.dw_script.specs.declared.command.Command.{Command}
 use Rattle.dw_script.specs.declared.command.Command.TheVariants.{Order, Unit as AddUnit, String as AddString, LineString as AddLineString, Change as ChangeUnit, Line as ChangeLines, RangeList as AddRanges, LocationList as AddLocations}
 use Rattle.dw_script.specs.declared.change.Change.{Change}
 use Rattle.dw_script.specs.declared.change.Change.TheVariants as change
-use Rattle.dw_script.specs.declared.reason.Reason.TheVariants.{OrderNotFirst, NoSuchUnit, NoSuchEntry, NotReserved, BadTag, BadName}
+use Rattle.dw_ends.specs.declared.reason.Reason.TheVariants.{OrderNotFirst, NoSuchUnit, NoSuchEntry, NotReserved, BadTag, BadName}
 use Rattle.dw_script.specs.declared.value.Value.{Value}
 use Rattle.dw_script.specs.declared.value.Value.TheVariants as value
 use Rattle.dw_strings.specs.Strings.{with_string}

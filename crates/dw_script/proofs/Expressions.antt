@@ -1,7 +1,7 @@
 -- What was read whole is an expression.
 use Rattle.std.proofs.Common.{◌≡◌, ◌∙◌, ℕ, zero, suc, Bool, true, false, ◌&&◌, length, Ok, Err, ap, refl, if◌then◌else◌}
 use Rattle.dw_script.specs.declared.expression_step.ExpressionStep.{ExpressionStep}
-use Rattle.dw_script.specs.declared.reason.Reason.TheVariants.{WrongFields, BadTarget}
+use Rattle.dw_ends.specs.declared.reason.Reason.TheVariants.{WrongFields, BadTarget}
 use Rattle.dw_script.specs.Expressions.{judged}
 use Rattle.dw_script.specs.Fields.{Fields, Outcome}
 use Rattle.dw_script.specs.Steps.{Walk, step_field, walk_on, walk, depth_after, is_open, expression_walk}

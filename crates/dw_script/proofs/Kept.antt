@@ -4,7 +4,7 @@ use Rattle.std.proofs.lemmas.Bool.Decides.{nat_tests}
 use Rattle.dw_script.specs.declared.branches.Branches.{Branches}
 use Rattle.dw_script.specs.declared.expression_step.ExpressionStep.{ExpressionStep}
 use Rattle.dw_script.specs.declared.expression_step.ExpressionStep.TheVariants as step
-use Rattle.dw_script.specs.declared.reason.Reason.TheVariants.{BadTarget}
+use Rattle.dw_ends.specs.declared.reason.Reason.TheVariants.{BadTarget}
 use Rattle.dw_script.specs.Branches.{no_branches, with_operation, closes, after_operation, after_kept, count_all}
 use Rattle.dw_script.specs.Expressions.{judged}
 use Rattle.dw_script.specs.Fields.{Fields, Outcome}

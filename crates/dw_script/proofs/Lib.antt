@@ -15,3 +15,4 @@ mod WorkedValues
 mod WorkedLinePrograms
 mod WorkedExpressions
 mod WorkedLists
+mod WorkedLinks

@@ -6,7 +6,7 @@ use Rattle.dw_script.specs.declared.location_word.LocationWord.{LocationWord}
 use Rattle.dw_script.specs.declared.location_word.LocationWord.TheVariants as word
 use Rattle.dw_script.specs.declared.range.ScriptRange.{ScriptRange}
 use Rattle.dw_script.specs.declared.range.ScriptRange.TheVariants as range
-use Rattle.dw_script.specs.declared.reason.Reason.TheVariants.{UnknownWord, WrongFields, BadTarget}
+use Rattle.dw_ends.specs.declared.reason.Reason.TheVariants.{UnknownWord, WrongFields, BadTarget}
 use Rattle.dw_script.specs.Expressions.{expression_field, expression_rest, judged}
 use Rattle.dw_script.specs.Fields.{Fields, Outcome, ◌>>=◌}
 use Rattle.dw_script.specs.LocationWords.{location_word_of}

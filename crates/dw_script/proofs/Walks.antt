@@ -7,8 +7,8 @@ use Rattle.dw_script.specs.declared.operation_word.PairWord.{PairWord}
 use Rattle.dw_script.specs.declared.operation_word.PairWord.TheVariants as pair
 use Rattle.dw_script.specs.declared.operation_word.StepWord.{StepWord}
 use Rattle.dw_script.specs.declared.operation_word.StepWord.TheVariants as step_word
-use Rattle.dw_script.specs.declared.reason.Reason.{Reason}
-use Rattle.dw_script.specs.declared.reason.Reason.TheVariants.{UnknownWord, WrongFields, TooDeep}
+use Rattle.dw_ends.specs.declared.reason.Reason.{Reason}
+use Rattle.dw_ends.specs.declared.reason.Reason.TheVariants.{UnknownWord, WrongFields, TooDeep}
 use Rattle.dw_script.specs.Fields.{Fields, Outcome, ◌>>=◌, made, next_field}
 use Rattle.dw_script.specs.OperationWords.{step_word_of}
 use Rattle.dw_script.specs.Operations.{made_of_two, operation_of_word, pair_of_word}

@@ -4,7 +4,7 @@ use Rattle.dw_script.specs.declared.change.Change.TheVariants as change
 use Rattle.dw_script.specs.declared.command.Command.TheVariants as command
 use Rattle.dw_script.specs.declared.expression_step.ExpressionStep.TheVariants as step
 use Rattle.dw_script.specs.declared.operation.ScriptOperation.TheVariants as operation
-use Rattle.dw_script.specs.declared.reason.Reason.TheVariants.{UnknownWord, WrongFields, TooDeep, BadTarget}
+use Rattle.dw_ends.specs.declared.reason.Reason.TheVariants.{UnknownWord, WrongFields, TooDeep, BadTarget}
 use Rattle.dw_script.specs.declared.value.Value.TheVariants as value
 use Rattle.dw_script.specs.Codes.{attribute_of, opcode_of}
 use Rattle.dw_script.specs.Expressions.{expression_field}

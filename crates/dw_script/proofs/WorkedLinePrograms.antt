@@ -4,7 +4,7 @@ use Rattle.dw_base.specs.declared.address.Address.TheVariants as address
 use Rattle.dw_script.specs.declared.command.Command.TheVariants as command
 use Rattle.dw_script.specs.declared.line_change.LineChange.TheVariants as change
 use Rattle.dw_script.specs.declared.line_change.LineText.TheVariants as text
-use Rattle.dw_script.specs.declared.reason.Reason.TheVariants.{UnknownWord, BadNumber, BadHex, WrongFields}
+use Rattle.dw_ends.specs.declared.reason.Reason.TheVariants.{UnknownWord, BadNumber, BadHex, WrongFields}
 use Rattle.dw_script.specs.declared.value.Value.TheVariants as value
 use Rattle.dw_script.specs.Kinds.{kind_of}
 use Rattle.dw_script.specs.Lines.{parsed_line}

@@ -6,7 +6,7 @@ use Rattle.dw_script.specs.declared.expression_step.ExpressionStep.TheVariants a
 use Rattle.dw_script.specs.declared.location.ScriptLocation.TheVariants as location
 use Rattle.dw_script.specs.declared.operation.ScriptOperation.TheVariants as operation
 use Rattle.dw_script.specs.declared.range.ScriptRange.TheVariants as range
-use Rattle.dw_script.specs.declared.reason.Reason.TheVariants.{UnknownWord, BadNumber, BadTarget, WrongFields}
+use Rattle.dw_ends.specs.declared.reason.Reason.TheVariants.{UnknownWord, BadNumber, BadTarget, WrongFields}
 use Rattle.dw_script.specs.declared.value.Value.TheVariants as value
 use Rattle.dw_script.specs.Items.{items_up_to}
 use Rattle.dw_script.specs.Kinds.{kind_of}

@@ -2,7 +2,7 @@
 use Rattle.std.proofs.Common.{◌≡◌, ◌∷◌, ◌-◌, ◌^◌, [], pos, negsuc, Some, Ok, Err, codes, refl}
 use Rattle.dw_script.specs.declared.change.Change.TheVariants as change
 use Rattle.dw_script.specs.declared.command.Command.TheVariants as command
-use Rattle.dw_script.specs.declared.reason.Reason.TheVariants.{BadNumber}
+use Rattle.dw_ends.specs.declared.reason.Reason.TheVariants.{BadNumber}
 use Rattle.dw_script.specs.declared.value.Value.TheVariants as value
 use Rattle.dw_base.specs.declared.address.Address.TheVariants as address
 use Rattle.dw_script.specs.Codes.{attribute_of}

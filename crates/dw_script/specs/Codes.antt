@@ -1,7 +1,7 @@
 -- Tags, names of attributes and codes of operations, as they are spelled: a number, or a name that the standard gives one.
 use Rattle.std.specs.Prelude.{ℕ, ◌^◌, List, [], ◌∷◌, Bool, false, ◌&&◌, nat_le, ok_or, bytes_eq, if◌then◌else◌}
 use Rattle.std.specs.Map.{lookup}
-use Rattle.dw_script.specs.declared.reason.Reason.TheVariants.{UnknownWord, BadNumber}
+use Rattle.dw_ends.specs.declared.reason.Reason.TheVariants.{UnknownWord, BadNumber}
 use Rattle.dw_script.specs.Fields.{Outcome}
 use Rattle.dw_script.specs.Names.{tag_names, attribute_names, opcode_names}
 use Rattle.dw_script.specs.Numbers.{number_below}

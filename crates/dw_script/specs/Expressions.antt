@@ -2,7 +2,7 @@
 use Rattle.std.specs.Prelude.{◌≡◌, ℕ, ◌<◌, ◌≤◌, max, List, [], length, Option, Some, None, Ok, Err, if◌then◌else◌}
 use Rattle.dw_script.specs.declared.expression.ExpressionSteps.{ExpressionSteps}
 use Rattle.dw_script.specs.declared.expression_step.ExpressionStep.{ExpressionStep}
-use Rattle.dw_script.specs.declared.reason.Reason.TheVariants.{BadTarget}
+use Rattle.dw_ends.specs.declared.reason.Reason.TheVariants.{BadTarget}
 use Rattle.dw_script.specs.Fields.{Fields, Outcome, ◌>>=◌}
 use Rattle.dw_script.specs.Pieces.{pieces_left}
 use Rattle.dw_script.specs.Steps.{Walk, walk, step_before, depth_after, expression_walk, open_field}

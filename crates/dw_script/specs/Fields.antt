@@ -6,8 +6,8 @@ use Rattle.dw_base.specs.declared.common.Format.{Format}
 use Rattle.dw_base.specs.declared.common.Format.TheVariants.{Dwarf32, Dwarf64}
 use Rattle.dw_base.specs.declared.endianity.RunTimeEndian.{RunTimeEndian}
 use Rattle.dw_base.specs.declared.endianity.RunTimeEndian.TheVariants.{Little, Big}
-use Rattle.dw_script.specs.declared.reason.Reason.{Reason}
-use Rattle.dw_script.specs.declared.reason.Reason.TheVariants.{UnknownWord, BadNumber, BadHex, WrongFields}
+use Rattle.dw_ends.specs.declared.reason.Reason.{Reason}
+use Rattle.dw_ends.specs.declared.reason.Reason.TheVariants.{UnknownWord, BadNumber, BadHex, WrongFields}
 use Rattle.dw_script.specs.declared.word.Word.{Word}
 use Rattle.dw_script.specs.Addresses.{address_of, address_or_none, reference_of}
 use Rattle.dw_script.specs.Bytes.{hex_bytes}

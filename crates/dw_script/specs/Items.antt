@@ -1,6 +1,6 @@
 -- Items of a list, each read from the front of the fields that are left, up to the end of the line.
 use Rattle.std.specs.Prelude.{ℕ, zero, suc, List, [], ◌∷◌, length, Ok, Err}
-use Rattle.dw_script.specs.declared.reason.Reason.TheVariants.{WrongFields}
+use Rattle.dw_ends.specs.declared.reason.Reason.TheVariants.{WrongFields}
 use Rattle.dw_script.specs.Fields.{Fields, Outcome, ◌>>=◌}
 
 -- what is read of a list: the items as far as they can be read, and then that the line ends, or the reason for which they aren't read on

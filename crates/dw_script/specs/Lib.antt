@@ -6,7 +6,6 @@ pub mod Words
 pub mod Kinds
 pub mod Names
 pub mod Spelled
-pub mod Reasons
 pub mod Fields
 pub mod Codes
 pub mod OperationWords
@@ -24,3 +23,5 @@ pub mod LocationWords
 pub mod Locations
 pub mod Lists
 pub mod Lines
+pub mod LinkWords
+pub mod LinkLines

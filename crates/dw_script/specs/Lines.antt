@@ -4,7 +4,7 @@ use Rattle.std.specs.List.{list_all}
 use Rattle.dw_script.specs.declared.change.Change.TheVariants as change
 use Rattle.dw_script.specs.declared.command.Command.{Command}
 use Rattle.dw_script.specs.declared.command.Command.TheVariants as command
-use Rattle.dw_script.specs.declared.reason.Reason.TheVariants.{BadByte}
+use Rattle.dw_ends.specs.declared.reason.Reason.TheVariants.{BadByte}
 use Rattle.dw_script.specs.declared.word.Word.{Word}
 use Rattle.dw_script.specs.declared.word.Word.TheVariants as word
 use Rattle.dw_script.specs.Pieces.{pieces, space}
@@ -143,9 +143,17 @@ command_of fields = do
   (word, fields) ← word_field fields
   line_of word fields
 
--- what a line asks for; its bytes are looked at before its fields
-unfoldable pub parsed_line : List ℕ → Outcome (Option Command)
-parsed_line line =
+-- the fields of a line, if it isn't passed over; its bytes are looked at before them
+abbrev pub line_fields : List ℕ → Outcome (Option Fields)
+line_fields line =
     if passed_over line then Ok None
-    else (if all_printable line then (command_of (pieces space line) >>= λ command. Ok (Some command))
-    else Err BadByte)
+    else (if all_printable line then Ok (Some (pieces space line)) else Err BadByte)
+
+-- what the fields of a line ask for, if it has any
+abbrev pub asked_by : {T : Type 0} → (Fields → Outcome T) → Option Fields → Outcome (Option T)
+asked_by command None = Ok None
+asked_by command (Some fields) = command fields >>= λ asked. Ok (Some asked)
+
+-- what a line asks for
+unfoldable pub parsed_line : List ℕ → Outcome (Option Command)
+parsed_line line = line_fields line >>= asked_by command_of

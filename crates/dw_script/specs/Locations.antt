@@ -7,7 +7,7 @@ use Rattle.dw_script.specs.declared.location_word.LocationWord.{LocationWord}
 use Rattle.dw_script.specs.declared.location_word.LocationWord.TheVariants as word
 use Rattle.dw_script.specs.declared.range.ScriptRange.{ScriptRange}
 use Rattle.dw_script.specs.declared.range.ScriptRange.TheVariants as range
-use Rattle.dw_script.specs.declared.reason.Reason.TheVariants.{UnknownWord}
+use Rattle.dw_ends.specs.declared.reason.Reason.TheVariants.{UnknownWord}
 use Rattle.dw_script.specs.Expressions.{expression_field}
 use Rattle.dw_script.specs.Fields.{Fields, Outcome, ◌>>=◌, made, next_field}
 use Rattle.dw_script.specs.Items.{items_of}

@@ -5,7 +5,7 @@ use Rattle.dw_script.specs.declared.range.ScriptRange.TheVariants as range
 use Rattle.dw_script.specs.declared.range_list.RangeItems.{RangeItems}
 use Rattle.dw_script.specs.declared.range_word.RangeWord.{RangeWord}
 use Rattle.dw_script.specs.declared.range_word.RangeWord.TheVariants as word
-use Rattle.dw_script.specs.declared.reason.Reason.TheVariants.{UnknownWord}
+use Rattle.dw_ends.specs.declared.reason.Reason.TheVariants.{UnknownWord}
 use Rattle.dw_script.specs.Fields.{Fields, Outcome, ◌>>=◌, made, next_field, number_field, address_field}
 use Rattle.dw_script.specs.Items.{items_of}
 use Rattle.dw_script.specs.Operations.{made_of_two}

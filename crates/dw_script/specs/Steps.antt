@@ -6,7 +6,7 @@ use Rattle.dw_script.specs.declared.operation.ScriptOperation.{ScriptOperation}
 use Rattle.dw_script.specs.declared.operation.ScriptOperation.TheVariants as operation
 use Rattle.dw_script.specs.declared.operation_word.StepWord.{StepWord}
 use Rattle.dw_script.specs.declared.operation_word.StepWord.TheVariants as word
-use Rattle.dw_script.specs.declared.reason.Reason.TheVariants.{UnknownWord, WrongFields, TooDeep}
+use Rattle.dw_ends.specs.declared.reason.Reason.TheVariants.{UnknownWord, WrongFields, TooDeep}
 use Rattle.dw_script.specs.Fields.{Fields, Outcome, ◌>>=◌, made, next_field, hex_field}
 use Rattle.dw_script.specs.OperationWords.{step_word_of}
 use Rattle.dw_script.specs.Operations.{operation_of_word, pair_of_word}

@@ -6,7 +6,7 @@ use Rattle.dw_script.specs.declared.kind.ConstantKind.{ConstantKind}
 use Rattle.dw_script.specs.declared.kind.ConstantKind.TheVariants as constant
 use Rattle.dw_script.specs.declared.kind.Kind.{Kind}
 use Rattle.dw_script.specs.declared.kind.Kind.TheVariants as kind
-use Rattle.dw_script.specs.declared.reason.Reason.TheVariants.{UnknownWord}
+use Rattle.dw_ends.specs.declared.reason.Reason.TheVariants.{UnknownWord}
 use Rattle.dw_script.specs.declared.value.Value.{Value}
 use Rattle.dw_script.specs.declared.value.Value.TheVariants as value
 use Rattle.dw_script.specs.Codes.{tag_of, attribute_of}

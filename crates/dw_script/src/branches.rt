@@ -3,11 +3,11 @@
 ghost use Rattle.std.specs.Prelude.{◌≡◌, ◌+◌, ◌<◌, ◌≤◌, [], ◌∷◌, length, MatchResult, Some, None};
 ghost use Rattle.dw_script.specs.Branches.{after_closed, after_kept, after_operation, closes, count_all, no_branches, with_operation};
 ghost use Rattle.dw_script.specs.Steps.{depth_after};
-ghost use Rattle.dw_script.specs.declared.reason.Reason.TheVariants.{BadTarget};
+ghost use Rattle.dw_ends.specs.declared.reason.Reason.TheVariants.{BadTarget};
 
 use crate::expression_step::ExpressionStep;
 use crate::field::MOST_OPEN;
-use crate::reason::Reason;
+use dw_ends::Reason;
 use std::marker::Model;
 
 /// What is kept of the operations of one expression, so that their targets can be looked at once

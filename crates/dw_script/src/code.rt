@@ -7,8 +7,8 @@ ghost use Rattle.dw_script.specs.Spelled.{spelled};
 
 use crate::names::{ATTRIBUTE_NAMES, OPCODE_NAMES, TAG_NAMES};
 use crate::number::{parse_u8, parse_u16};
-use crate::reason::Reason;
 use crate::table::find_name;
+use dw_ends::Reason;
 
 /// The tag that a field says.
 pub(crate) fn parse_tag(field: &[u8]) -> Result<u16, Reason>

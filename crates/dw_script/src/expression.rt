@@ -12,7 +12,7 @@ use crate::branches::OpenExpressions;
 use crate::expression_step::{ExpressionStep, next_step};
 use crate::field::expect_open;
 use crate::pieces::Pieces;
-use crate::reason::Reason;
+use dw_ends::Reason;
 use std::marker::Model;
 
 /// The fields of an expression (DWARF 5, 2.5), which were looked at, so that a line is read without

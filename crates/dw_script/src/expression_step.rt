@@ -9,7 +9,7 @@ use crate::field::{expect_open, next_hex_bytes, next_step_word};
 use crate::operation::{ScriptOperation, next_operation, next_pair};
 use crate::operation_word::StepWord;
 use crate::pieces::Pieces;
-use crate::reason::Reason;
+use dw_ends::Reason;
 
 /// A step of an expression (DWARF 5, 2.5): what stands in it, in order, with the expressions within
 /// it in their places.

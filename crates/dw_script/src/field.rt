@@ -22,9 +22,9 @@ use crate::number::{
 use crate::operation_word::StepWord;
 use crate::pieces::Pieces;
 use crate::range_word::RangeWord;
-use crate::reason::Reason;
 use crate::word::Word;
 use dw_base::{Address, DebugInfoRef, DwAt, DwOp, DwTag, Format, RunTimeEndian};
+use dw_ends::Reason;
 
 /// How many expressions may be open at once, one within the other.
 pub(crate) const MOST_OPEN: usize = 64;

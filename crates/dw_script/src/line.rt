@@ -1,8 +1,8 @@
 //! A line of a script, read whole.
 
-ghost use Rattle.std.specs.Prelude.{◌≡◌};
+ghost use Rattle.std.specs.Prelude.{◌≡◌, Ok, Err, MatchResult, option_map};
 ghost use Rattle.dw_script.specs.Pieces.{pieces_left};
-ghost use Rattle.dw_script.specs.Lines.{add_line, add_reserved_line, all_printable, command_of, delete_child_line, delete_line, line_string_line, order_line, parsed_line, passed_over, reserve_line, set_line, sibling_line, string_line, unit_line};
+ghost use Rattle.dw_script.specs.Lines.{add_line, add_reserved_line, all_printable, command_of, delete_child_line, delete_line, line_fields, line_of, line_string_line, order_line, parsed_line, passed_over, reserve_line, set_line, sibling_line, string_line, unit_line};
 
 use crate::change::Change;
 use crate::command::Command;
@@ -14,16 +14,28 @@ use crate::line_program::{
     parse_directory, parse_end, parse_file, parse_line_program, parse_row, parse_sequence,
 };
 use crate::pieces::Pieces;
-use crate::reason::Reason;
 use crate::unit_list::{parse_location_list, parse_range_list};
 use crate::value::next_value;
 use crate::word::Word;
 use dw_base::Encoding;
+use dw_ends::Reason;
 
 /// What a line asks for, or `None` where it is passed over.
 #[tactic(auto, unfolding(crate::specs::Lines::parsed_line))]
 pub fn parse_line(line: &[u8]) -> Result<Option<Command<'_>>, Reason>
     ensures { result ≡ parsed_line line.now }
+{
+    match fields_of(line)? {
+        Some(mut fields) => Ok(Some(parse_fields(&mut fields)?)),
+        None => Ok(None),
+    }
+}
+
+/// The fields of a line, or `None` where it is passed over.
+pub(crate) fn fields_of(line: &[u8]) -> Result<Option<Pieces<'_>>, Reason>
+    ensures { MatchResult result
+        (λ fields. line_fields line.now ≡ Ok (option_map pieces_left fields))
+        (λ reason. line_fields line.now ≡ Err reason) }
 {
     if is_passed_over(line) {
         return Ok(None);
@@ -31,8 +43,7 @@ pub fn parse_line(line: &[u8]) -> Result<Option<Command<'_>>, Reason>
     if !is_printable(line) {
         return Err(Reason::BadByte);
     }
-    let command = parse_fields(&mut Pieces::new(line, b' '))?;
-    Ok(Some(command))
+    Ok(Some(Pieces::new(line, b' ')))
 }
 
 // Whether a line is empty or a remark.
@@ -55,7 +66,14 @@ fn is_printable(line: &[u8]) -> bool
 fn parse_fields<'a>(fields: &mut Pieces<'a>) -> Result<Command<'a>, Reason>
     ensures { result ≡ command_of (pieces_left fields.old) }
 {
-    match next_word(fields)? {
+    parse_after(next_word(fields)?, fields)
+}
+
+/// What the fields after a script's word ask for.
+pub(crate) fn parse_after<'a>(word: Word, fields: &mut Pieces<'a>) -> Result<Command<'a>, Reason>
+    ensures { result ≡ line_of word (pieces_left fields.old) }
+{
+    match word {
         Word::Order => parse_order(fields),
         Word::Unit => parse_unit(fields),
         Word::Add => parse_add(fields),

@@ -11,7 +11,7 @@ use crate::field::{
 };
 use crate::line_change::{LineChange, LineText};
 use crate::pieces::Pieces;
-use crate::reason::Reason;
+use dw_ends::Reason;
 
 /// The fields after `line`.
 pub(crate) fn parse_line_program<'a>(fields: &mut Pieces<'a>) -> Result<Command<'a>, Reason>

@@ -10,8 +10,8 @@ use crate::field::next_location_word;
 use crate::location_word::LocationWord;
 use crate::pieces::Pieces;
 use crate::range::{ScriptRange, next_range_of_word};
-use crate::reason::Reason;
 use dw_base::Address;
+use dw_ends::Reason;
 
 /// An item of a location list: where an object is while the program counter is between two
 /// addresses, the second of which doesn't belong to them, or the base that offset pairs count from

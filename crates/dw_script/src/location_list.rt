@@ -8,7 +8,7 @@ ghost use Rattle.dw_script.specs.Pieces.{pieces_left};
 
 use crate::location::{ScriptLocation, next_location};
 use crate::pieces::Pieces;
-use crate::reason::Reason;
+use dw_ends::Reason;
 use std::marker::Model;
 
 /// The fields of a location list (DWARF 5, 2.6.2), which were looked at, so that a line is read

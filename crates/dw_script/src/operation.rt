@@ -12,8 +12,8 @@ use crate::field::{
 use crate::hex_bytes::HexBytes;
 use crate::operation_word::{OperationWord, PairWord};
 use crate::pieces::Pieces;
-use crate::reason::Reason;
 use dw_base::{Address, DebugInfoRef, DwOp, Register};
+use dw_ends::Reason;
 
 /// An operation of an expression (DWARF 5, 2.5 and 2.6). Entries are named by their index in the
 /// unit, and branches lead to the operation of an index, counted from 0 in the expression that

@@ -8,8 +8,8 @@ ghost use Rattle.dw_script.specs.Ranges.{range_field, range_of_word};
 use crate::field::{next_address, next_range_word, next_u64};
 use crate::pieces::Pieces;
 use crate::range_word::RangeWord;
-use crate::reason::Reason;
 use dw_base::Address;
+use dw_ends::Reason;
 
 /// An item of a range list: addresses that belong to it, from the first one up to the one behind
 /// the last, or the base that offset pairs count from (DWARF 5, 2.17.3).

@@ -8,7 +8,7 @@ ghost use Rattle.dw_script.specs.Ranges.{range_field, ranges_left};
 
 use crate::pieces::Pieces;
 use crate::range::{ScriptRange, next_range};
-use crate::reason::Reason;
+use dw_ends::Reason;
 use std::marker::Model;
 
 /// The fields of a range list (DWARF 5, 2.17.3), which were looked at, so that a line is read

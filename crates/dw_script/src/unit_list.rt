@@ -9,7 +9,7 @@ use crate::field::next_u64;
 use crate::location_list::LocationFields;
 use crate::pieces::Pieces;
 use crate::range_list::RangeFields;
-use crate::reason::Reason;
+use dw_ends::Reason;
 
 /// The fields after `range`.
 pub(crate) fn parse_range_list<'a>(fields: &mut Pieces<'a>) -> Result<Command<'a>, Reason>

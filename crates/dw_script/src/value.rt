@@ -13,12 +13,12 @@ use crate::field::{
 use crate::hex_bytes::HexBytes;
 use crate::kind::{ConstantKind, Kind};
 use crate::pieces::Pieces;
-use crate::reason::Reason;
 use dw_base::{
     Address, DebugInfoOffset, DebugInfoRef, DebugMacinfoOffset, DebugMacroOffset, DebugStrOffset,
     DebugTypeSignature, DwAccess, DwAddr, DwAte, DwCc, DwDs, DwEnd, DwId, DwInl, DwLang, DwOrd,
     DwVirtuality, DwVis,
 };
+use dw_ends::Reason;
 
 /// A value that a line gives an attribute; sections of the standard are DWARF 5's. A word of the
 /// format has 4 bytes, and in the 64-bit format 8. Each number from `Encoding` on is spelled in

@@ -1,6 +1,8 @@
 use crate::showing::{Frame, first_wrong, show};
 use crate::{expressions, lines, values};
-use dw_script::{Change, Command, HexBytes, LineChange, LineText, Reason, Value, parse_line};
+use dw_script::{
+    Change, Command, HexBytes, LineChange, LineText, Reason, Value, parse_line, parse_link_line,
+};
 use std::alloc::{AllocError, Global};
 use std::test::Fail;
 
@@ -177,6 +179,24 @@ fn cuts_lines(rt: HostRuntime) {
     }
     assert!(rt; matches!(parse_line(b""), Ok(None)));
     assert!(rt; matches!(parse_line(b"#\x80\t unit"), Ok(None)));
+}
+
+/// The next set, a symbol, a line of a script, and one that asks for nothing.
+#[test]
+fn reads_lines_of_the_command_link(rt: HostRuntime) -> Result<(), Fail> {
+    let rows = [
+        ("next", "Ok(Some(Next))"),
+        ("symbol 1 0x10", "Ok(Some(Symbol { number: 1, value: 16 }))"),
+        ("order big", "Ok(Some(Script(Order(Big))))"),
+        ("# next", "Ok(None)"),
+        ("nexts", "Err(UnknownWord)"),
+        ("symbol 1", "Err(WrongFields)"),
+    ];
+    for (line, want) in rows {
+        let text = format!(in rt.alloc(); "{:?}", parse_link_line(line.as_bytes()))?;
+        assert_eq!(rt; text.as_str(), want, "at {line}");
+    }
+    Ok(())
 }
 
 #[test]

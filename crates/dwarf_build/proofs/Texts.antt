@@ -1,7 +1,7 @@
 -- Printed texts, grouped as they are defined.
 use Rattle.std.proofs.Common.{◌≡◌, sym, ℕ, List, length, ◌++◌, append_assoc}
 use Rattle.std.specs.Prelude.{codes, decimal, sum}
-use Rattle.dw_script.specs.Reasons.{reason_text}
+use Rattle.dw_ends.specs.Reasons.{reason_text}
 use Rattle.dwarf_build.specs.Texts.{refusal_text, counts_text}
 use Rattle.dw_build.specs.declared.script.Refusal.{Refusal}
 

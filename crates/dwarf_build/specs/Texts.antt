@@ -8,7 +8,7 @@ use Rattle.dw_dwarf.specs.Written.{SectionTexts}
 use Rattle.dw_dwarf.specs.DwarfValue.{DwarfValue}
 use Rattle.dw_ends.specs.Listing.{listing, read_as}
 use Rattle.dw_ends.specs.Sections.{ListingValue}
-use Rattle.dw_script.specs.Reasons.{reason_text}
+use Rattle.dw_ends.specs.Reasons.{reason_text}
 use Rattle.dw_build.specs.declared.script.Refusal.{Refusal}
 
 -- the commands

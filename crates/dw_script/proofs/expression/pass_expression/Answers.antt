@@ -1,5 +1,5 @@
 use Rattle.std.proofs.Common.{◌≡◌, ◌∙◌, Err, ap, sym, subst, refl, rules, arith, length}
-use Rattle.dw_script.specs.declared.reason.Reason.{Reason}
+use Rattle.dw_ends.specs.declared.reason.Reason.{Reason}
 use Rattle.dw_script.specs.Branches.{count_all}
 use Rattle.dw_script.specs.Expressions.{IsWalked, judged, walk_left}
 use Rattle.dw_script.specs.Pieces.{pieces_left}
