@@ -1,5 +1,7 @@
 pub mod Lines
 pub mod ScriptUnits
+pub mod SetUnits
 mod Worked
 mod WorkedExpressions
 mod WorkedLists
+mod WorkedSets

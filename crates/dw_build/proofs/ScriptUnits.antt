@@ -31,7 +31,7 @@ use Rattle.dw_build.specs.ScriptValue.{ScriptValue, empty_script}
 use Rattle.dw_build.specs.declared.script.Refusal.{Refusal}
 
 -- what holds of the value of a script, if it has one
-abbrev IfBuilds : {E : Type 0} → Result ScriptValue E → Type 0
+abbrev pub IfBuilds : {E : Type 0} → Result ScriptValue E → Type 0
 IfBuilds (Ok s) = AreOpen s.dwarf.units
 IfBuilds (Err e) = Unit {0}
 
@@ -148,7 +148,7 @@ range_list_leaves ranges u v e h = allowed IsOpen _ v e h
 location_list_leaves : (locations : List ScriptLocation) → LeavesOpen (after_location_list locations)
 location_list_leaves locations u v e h = allowed IsOpen _ v e h
 
-command_open : (s : ScriptValue) (c : Command) → AreOpen s.dwarf.units → IfBuilds (after_command s c)
+pub command_open : (s : ScriptValue) (c : Command) → AreOpen s.dwarf.units → IfBuilds (after_command s c)
 command_open s (Order o) h = order_open s.has_begun s (record s { endian = o; has_begun = true }) h
 command_open s (AddUnit e) h = unit_open s e h
 command_open s (AddString bytes) h = strings_open (after_string s) (λ text. h) bytes (has_zero bytes)

@@ -6,3 +6,5 @@ pub mod OpenOperations
 pub mod RangeLists
 pub mod LocationLists
 pub mod Script
+pub mod SetsValue
+pub mod Sets

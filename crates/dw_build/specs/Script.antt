@@ -152,10 +152,13 @@ after_asked s (Some c) = after_command s c
 abbrev pub after_line : ScriptValue → List ℕ → Outcome ScriptValue
 after_line s line = parsed_line line >>= after_asked s
 
--- after lines, of which the first has number n; the first that is refused decides
+-- after lines, of which the first has number n, by what each of them does; the first that is refused decides
+abbrev pub after_each : {S : Type 0} → (S → List ℕ → Outcome S) → ℕ → S → List (List ℕ) → Result S Refusal
+after_each step n s [] = Ok s
+after_each step n s (line ∷ lines) = elim (step s line) [ Ok t ↦ after_each step (n + 1) t lines | Err reason ↦ Err (record { line = n; reason = reason }) ]
+
 abbrev pub after_lines : ℕ → ScriptValue → List (List ℕ) → Result ScriptValue Refusal
-after_lines n s [] = Ok s
-after_lines n s (line ∷ lines) = elim (after_line s line) [ Ok t ↦ after_lines (n + 1) t lines | Err reason ↦ Err (record { line = n; reason = reason }) ]
+after_lines n s lines = after_each after_line n s lines
 
 -- what the bytes of a script build, or the first line that is refused
 unfoldable pub script : List ℕ → Result ScriptValue Refusal
@@ -173,12 +176,12 @@ abbrev pub RefusedFor : {T : Type 0} → Outcome T → CommandError → Type 0
 RefusedFor outcome (command.Refused reason) = outcome ≡ Err reason
 RefusedFor outcome command.NoMemory = Unit {0}
 
--- the same of a line
-abbrev pub LineRefused : ScriptValue → List ℕ → ℕ → ScriptError → Type 0
-LineRefused s line n (whole.Refused r) = (after_line s line ≡ Err r.reason) × (r.line ≡ n)
-LineRefused s line n whole.NoMemory = Unit {0}
+-- the same of a line with this number
+abbrev pub RefusedAt : {T : Type 0} → ℕ → Outcome T → ScriptError → Type 0
+RefusedAt n outcome (whole.Refused r) = (outcome ≡ Err r.reason) × (r.line ≡ n)
+RefusedAt n outcome whole.NoMemory = Unit {0}
 
--- the same of a script
-abbrev pub ScriptRefused : List ℕ → ScriptError → Type 0
-ScriptRefused bytes (whole.Refused r) = script bytes ≡ Err r
-ScriptRefused bytes whole.NoMemory = Unit {0}
+-- the same of all lines
+abbrev pub RefusedWhole : {T : Type 0} → Result T Refusal → ScriptError → Type 0
+RefusedWhole built (whole.Refused r) = built ≡ Err r
+RefusedWhole built whole.NoMemory = Unit {0}

@@ -1,5 +1,5 @@
 //! Builds the DWARF that a script says, line by line. A script's lines are those of `dw_script`;
-//! each is a call on the units that stand.
+//! each is a call on the units that stand. Those of the command `link` build several sets.
 #![tactic(auto)]
 
 mod entries;
@@ -8,5 +8,7 @@ mod line_programs;
 mod location_lists;
 mod range_lists;
 mod script;
+mod sets;
 
 pub use crate::script::{Refusal, SCRIPT_LIMIT, Script, ScriptError, read_script};
+pub use crate::sets::{Sets, read_sets};

@@ -71,10 +71,10 @@ pub enum CommandError {
 
 impl Script {
     ghost use Rattle.dw_build.specs.ScriptValue.{empty_script};
-    ghost use Rattle.dw_build.specs.Script.{after_command, after_line, AreOpen, LineRefused};
+    ghost use Rattle.dw_build.specs.Script.{after_command, after_line, AreOpen, RefusedAt};
 
     // Before the first line.
-    fn new(alloc: Global) -> Script
+    pub(crate) fn new(alloc: Global) -> Script
         ensures { script_in result ≡ empty_script }
     {
         Script {
@@ -90,7 +90,8 @@ impl Script {
         requires { AreOpen self.old.dwarf.units }
         ensures ok { OnOk result
             (after_line (script_in self.old) line.now ≡ Ok (script_in self.new)) }
-        ensures err { IfErr result (LineRefused (script_in self.old) line.now number) }
+        ensures err { IfErr result
+            (RefusedAt number (after_line (script_in self.old) line.now)) }
     {
         match parse_line(line) {
             Ok(None) => Ok(()),
@@ -103,7 +104,8 @@ impl Script {
         }
     }
 
-    fn apply(&mut self, alloc: Global, command: Command<'_>) -> Result<(), CommandError>
+    // Does what a command says; where it is refused the script isn't used again.
+    pub(crate) fn apply(&mut self, alloc: Global, command: Command<'_>) -> Result<(), CommandError>
         requires { AreOpen self.old.dwarf.units }
         ensures ok { OnOk result
             (after_command (script_in self.old) command.entry ≡ Ok (script_in self.new)) }
@@ -280,20 +282,20 @@ pub(crate) fn text_of(alloc: Global, bytes: &HexBytes<'_>) -> Result<Vec<u8>, Co
     Ok(text)
 }
 
-fn refused(line: usize, reason: Reason) -> ScriptError
+pub(crate) fn refused(line: usize, reason: Reason) -> ScriptError
     ensures { result ≡ ScriptError.Refused (record { line = line; reason = reason }) }
 {
     ScriptError::Refused(Refusal { line, reason })
 }
 
-ghost use Rattle.dw_build.specs.Script.{script, ScriptRefused};
+ghost use Rattle.dw_build.specs.Script.{script, RefusedWhole};
 
 /// Builds what the lines of a script say, one after another, up to the first that is refused:
 /// `Refused` tells it, counted from 1, with its reason. A script has at most `SCRIPT_LIMIT` bytes.
 pub fn read_script(alloc: Global, bytes: &[u8]) -> Result<Script, ScriptError>
     requires { length bytes.now ≤ SCRIPT_LIMIT }
     ensures ok { IfOk result (λ s. script bytes.now ≡ Ok (script_in s)) }
-    ensures err { IfErr result (ScriptRefused bytes.now) }
+    ensures err { IfErr result (RefusedWhole (script bytes.now)) }
 {
     let mut script = Script::new(alloc);
     let mut number = 0;
