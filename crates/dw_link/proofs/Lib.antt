@@ -8,4 +8,6 @@ pub mod SetSteps
 pub mod LinkSteps
 pub mod JoinLaws
 pub mod Linked
+pub mod Faultless
+pub mod JoinedSections
 mod Worked

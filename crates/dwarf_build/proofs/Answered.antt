@@ -15,7 +15,7 @@ use Rattle.dwarf_build.specs.Texts.{named}
 use Rattle.dwarf_build.specs.Answers.{ListsScript}
 
 -- what writers tell is listed
-told_named : {W : Type 0} (meaning : W → Meaning) (s : Sections W) (t : SectionTexts) → TellTexts meaning s t → named_bytes meaning s ≡ named t
+pub told_named : {W : Type 0} (meaning : W → Meaning) (s : Sections W) (t : SectionTexts) → TellTexts meaning s t → named_bytes meaning s ≡ named t
 told_named meaning s t told = λ k.
     (section_name DebugAbbrev, unwrap_or (told.debug_abbrev k) []) ∷ (section_name DebugStr, unwrap_or (told.debug_str k) [])
     ∷ (section_name DebugLineStr, unwrap_or (told.debug_line_str k) []) ∷ (section_name DebugLine, unwrap_or (told.debug_line k) [])

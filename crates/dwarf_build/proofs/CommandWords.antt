@@ -1,23 +1,16 @@
 -- The words of the command line.
-use Rattle.std.proofs.Common.{◌≡◌, ◌∙◌, sym, ap, refl, ℕ, ◌+◌, ◌<◌, ◌≤◌, Bool, true, false, List, [], ◌∷◌, length, map, get_or, String, arith}
-use Rattle.std.specs.Prelude.{IsTrue, ◌↔◌, Option, Some, None, codes, nat_lt, string_bytes, bytes_eq, if◌then◌else◌}
+use Rattle.std.proofs.Common.{◌≡◌, sym, ap, refl, ℕ, ◌+◌, ◌<◌, ◌≤◌, Bool, true, false, List, [], ◌∷◌, length, map, get_or, String, arith}
+use Rattle.std.specs.Prelude.{Option, Some, None, codes, nat_lt, string_bytes, bytes_eq, if◌then◌else◌}
 use Rattle.std.specs.Option.{option_and_then}
 use Rattle.std.proofs.lemmas.Bool.{ltb-true}
-use Rattle.std.proofs.lemmas.Slice.Eq.{bytes_eq-Decides}
 use Rattle.dw_script.specs.Numbers.{below, number_of, number_below}
 use Rattle.dwarf_build.specs.Answers.{made_of, most_variables}
 
--- one word is equal to a text exactly where the words are that text alone
-pub one_word : {Z : Type 0} (words : List (String Z)) (word : String Z) (text found : List ℕ) (b : Bool) → 1 ≤ length words → length words < 2 →
-    word ≡ get_or words 0 word → found ≡ string_bytes word → b ≡ bytes_eq found text → IsTrue b ↔ (map string_bytes words ≡ text ∷ [])
-one_word [] word text found b some few at bytes eq = absurd (omega arith)
-one_word (w ∷ v ∷ ws) word text found b some few at bytes eq = absurd (omega arith)
-one_word (w ∷ []) word text found b some few at bytes eq =
-    let tells = bytes_eq-Decides found text in
-    let same : found ≡ string_bytes w = bytes ∙ ap string_bytes at in (
-      λ h. ap (λ x. x ∷ []) (sym same ∙ tells.0 (sym eq ∙ h)),
-      λ h. eq ∙ tells.1 (same ∙ (cc h)),
-    )
+-- words that are one
+pub one_word : {Z : Type 0} (words : List (String Z)) (word : String Z) → 1 ≤ length words → length words < 2 → word ≡ get_or words 0 word → map string_bytes words ≡ string_bytes word ∷ []
+one_word [] word some few at = absurd (omega arith)
+one_word (w ∷ v ∷ ws) word some few at = absurd (omega arith)
+one_word (w ∷ []) word some few at = ap (λ x. string_bytes x ∷ []) (sym at)
 
 below_few : (n limit k : ℕ) → below (limit + 1) n ≡ Some k → k ≤ limit
 below_few n limit k e = by_test (nat_lt n (limit + 1)) refl e

@@ -1,22 +1,30 @@
--- Where a script's Dwarf is valid and nothing fails, they are listed; what is generated is written.
-use Rattle.std.proofs.Common.{◌≡◌, ◌∙◌, sym, ap, subst, ℕ, List, refl, arith, inl, inr}
-use Rattle.std.specs.Prelude.{◌⊎◌, true, Option, Some, None, Result, Ok, Err}
+-- Where what an input builds is valid and nothing fails, it is listed; what is generated is written.
+use Rattle.std.proofs.Common.{◌≡◌, ◌∙◌, sym, ap, subst, ℕ, List, [], ◌∷◌, refl, arith, inl, inr}
+use Rattle.std.specs.Prelude.{◌⊎◌, true, false, Option, Some, None, Result, Ok, Err, IsTrue}
+use Rattle.std.specs.Option.{is_some}
 use Rattle.dw_dwarf.specs.Valid.{IsValid}
 use Rattle.dw_base.specs.Faults.{HasRisen}
 use Rattle.dw_ends.specs.Ends.{Intake}
 use Rattle.dw_build.specs.Script.{script}
-use Rattle.dwarf_build.specs.Answers.{IsBuild, IsShort, HasFault, Says, Prints, code_of, made_of}
 use Rattle.dw_build.specs.ScriptValue.{ScriptValue}
+use Rattle.dw_build.specs.Sets.{sets}
+use Rattle.dw_build.specs.SetsValue.{SetsValue}
 use Rattle.dw_build.specs.declared.script.Refusal.{Refusal}
+use Rattle.dwarf_build.specs.Answers.{DoRead, IsShort, Says, SaysAsked, SaysBuilt, SaysOf, SaysOfBytes, SaysOfInput, SaysOfSets, SaysRead, Prints, code_of, made_of}
+use Rattle.dwarf_build.specs.Commands.{reading_of}
+use Rattle.dwarf_build.specs.Linked.{AreValidSets, Fit}
+use Rattle.dwarf_build.specs.declared.command.Reading.{Reading}
+use Rattle.dwarf_build.specs.declared.command.Reading.TheVariants.{Build, Link}
 use Rattle.dwarf_build.specs.declared.status.Status.{Status}
 use Rattle.dwarf_build.specs.declared.status.Status.TheVariants.{Listed, Usage, ScriptRefused, WriteRefused, SourceFailed, SinkFailed, NoMemory, TooLong}
 use Rattle.dwarf_build.proofs.Faulty.{valid_faultless}
+use Rattle.dwarf_build.proofs.SetFaults.{valid_at, fit_linked}
 
-same_script : (a b : ScriptValue) (r : Result ScriptValue Refusal) → r ≡ Ok a → r ≡ Ok b → a ≡ b
-same_script a b r p q = let e : ◌≡◌ {A = Result ScriptValue Refusal} (Ok a) (Ok b) = sym p ∙ q in cc
+same_value : {T E : Type 0} (a b : T) (r : Result T E) → r ≡ Ok a → r ≡ Ok b → a ≡ b
+same_value {T} {E} a b r p q = let e : ◌≡◌ {A = Result T E} (Ok a) (Ok b) = sym p ∙ q in cc
 
-not_refused : (a : ScriptValue) (x : Refusal) (r : Result ScriptValue Refusal) → r ≡ Ok a → r ≡ Err x → ⊥
-not_refused a x r p q = let e : ◌≡◌ {A = Result ScriptValue Refusal} (Ok a) (Err x) = sym p ∙ q in cc
+not_refused : {T E : Type 0} (a : T) (x : E) (r : Result T E) → r ≡ Ok a → r ≡ Err x → ⊥
+not_refused {T} {E} a x r p q = let e : ◌≡◌ {A = Result T E} (Ok a) (Err x) = sym p ∙ q in cc
 
 -- what was asked for was printed, or memory lacked
 abbrev pub IsDone : ℕ → Type 0
@@ -31,44 +39,93 @@ printed_done status result text old new listed (inr h) calm = stopped h.1
     stopped (inl k) = absurd (calm k.1)
     stopped (inr k) = inr (ap code_of k)
 
-module _ (words : List (List ℕ)) (left : Option (List ℕ)) (bytes : List ℕ) (s : ScriptValue) (build : IsBuild words) (told : left ≡ Some bytes) (short : IsShort bytes) (accepted : script bytes ≡ Ok s) (valid : IsValid true s.dwarf) where
-  listed_only : (status : Status) (text : List ℕ) → Says words left status text → status ≡ Listed
-  listed_only Listed text h = refl
-  listed_only Usage text h = absurd (h.0 build)
-  listed_only ScriptRefused text h =
-      let same = h.1.told bytes told in
-      absurd (not_refused s h.1.says.1.refusal (script bytes) accepted (ap script (sym same) ∙ h.1.says.1.refused))
-  listed_only WriteRefused text h =
-      let same = h.1.told bytes told in
-      let value = h.1.says.1.value in
-      let refusal = h.1.says.1.says in
-      let is : value ≡ s = same_script value s (script bytes) (ap script (sym same) ∙ h.1.says.1.accepted) accepted in
-      let fails : ScriptValue → Type 0 = λ v. HasFault v.dwarf refusal.error in
-      absurd (valid_faultless s.dwarf refusal.error valid (subst fails is refusal.cause))
-  listed_only SourceFailed text h = absurd h
-  listed_only SinkFailed text h = absurd h
-  listed_only NoMemory text h = absurd h
-  listed_only TooLong text h = absurd (omega (arith, h.2 bytes told, short))
+-- An input of a command that reads, of which only a listing is said where it is accepted.
+module _ {T : Type 0} (build : List ℕ → Result T Refusal) (says : T → Status → List ℕ → Type 0) (value : T) (listed : (status : Status) (text : List ℕ) → says value status text → status ≡ Listed) where
+  built_only : (bytes : List ℕ) (status : Status) (text : List ℕ) → build bytes ≡ Ok value → SaysBuilt (build bytes) says status text → status ≡ Listed
+  built_only bytes Listed text is h = refl
+  built_only bytes ScriptRefused text is h = absurd (not_refused value h.refusal (build bytes) is h.refused)
+  built_only bytes WriteRefused text is h = listed WriteRefused text (subst (λ v. says v WriteRefused text) (same_value h.value value (build bytes) h.accepted is) h.says)
+  built_only bytes Usage text is h = absurd h
+  built_only bytes SourceFailed text is h = absurd h
+  built_only bytes SinkFailed text is h = absurd h
+  built_only bytes NoMemory text is h = absurd h
+  built_only bytes TooLong text is h = absurd h
 
-  -- what the status of the printed answer comes to
-  pub printed_complete : (status result : Status) (text : List ℕ) (old new : Intake) → Says words left status text → Prints status text old new result → (HasRisen old.faults new.faults → ⊥) → IsDone (code_of result)
-  printed_complete status result text old new says prints calm = printed_done status result text old new (listed_only status text says) prints calm
+-- the same of all that is said of a command's input
+module _ (reading : Reading) (left : Option (List ℕ)) (bytes : List ℕ) (told : left ≡ Some bytes) (short : IsShort bytes) (only : (status : Status) (text : List ℕ) → SaysOfBytes reading bytes status text → status ≡ Listed) where
+  read_only : (status : Status) (text : List ℕ) → SaysRead reading left status text → status ≡ Listed
+  read_only status text h = only status text (subst (λ xs. SaysOfBytes reading xs status text) (h.told bytes told) h.says)
 
--- the words can't ask for both commands
-pub not_both : (words : List (List ℕ)) (n : ℕ) → IsBuild words → made_of words ≡ Some n → ⊥
-not_both words n build asked = let clash : ◌≡◌ {A = Option ℕ} None (Some n) = sym (ap made_of build) ∙ asked in cc
+  input_only : (status : Status) (text : List ℕ) → SaysOfInput reading left status text → status ≡ Listed
+  input_only Listed text h = refl
+  input_only ScriptRefused text h = read_only ScriptRefused text h
+  input_only WriteRefused text h = read_only WriteRefused text h
+  input_only TooLong text h = absurd (omega (arith, h.1 bytes told, short))
+  input_only Usage text h = absurd h
+  input_only SourceFailed text h = absurd h
+  input_only SinkFailed text h = absurd h
+  input_only NoMemory text h = absurd h
+
+-- what the status of the printed answer of a command comes to
+pub printed_complete : (words : List (List ℕ)) (reading : Reading) (left : Option (List ℕ)) (bytes : List ℕ) → reading_of words ≡ Some reading → left ≡ Some bytes → IsShort bytes →
+    ((status : Status) (text : List ℕ) → SaysOfBytes reading bytes status text → status ≡ Listed) → (status result : Status) (text : List ℕ) (old new : Intake) → Says words left status text → Prints status text old new result →
+    (HasRisen old.faults new.faults → ⊥) → IsDone (code_of result)
+printed_complete words reading left bytes asked told short only status result text old new says prints calm =
+    let here : SaysOfInput reading left status text = subst (λ r. SaysAsked r (made_of words) left status text) asked says in
+    printed_done status result text old new (input_only reading left bytes told short only status text here) prints calm
+
+-- a script that is valid is listed
+script_listed : (s : ScriptValue) → IsValid true s.dwarf → (status : Status) (text : List ℕ) → SaysOf s status text → status ≡ Listed
+script_listed s valid Listed text h = refl
+script_listed s valid WriteRefused text h = absurd (valid_faultless true s.dwarf h.error valid h.cause)
+script_listed s valid Usage text h = absurd h
+script_listed s valid ScriptRefused text h = absurd h
+script_listed s valid SourceFailed text h = absurd h
+script_listed s valid SinkFailed text h = absurd h
+script_listed s valid NoMemory text h = absurd h
+script_listed s valid TooLong text h = absurd h
+
+pub build_only : (bytes : List ℕ) (s : ScriptValue) → script bytes ≡ Ok s → IsValid true s.dwarf → (status : Status) (text : List ℕ) → SaysOfBytes Build bytes status text → status ≡ Listed
+build_only bytes s accepted valid status text h = built_only script SaysOf s (script_listed s valid) bytes status text accepted h
+
+-- so are sets that are valid and fit
+sets_listed : (s : SetsValue) → AreValidSets s.dwarfs → Fit s → (status : Status) (text : List ℕ) → SaysOfSets s status text → status ≡ Listed
+sets_listed s valid fit Listed text h = refl
+sets_listed s valid fit WriteRefused text (inl h) =
+    absurd (valid_faultless false h.first.dwarf h.error (valid_at s.dwarfs h.first.number h.first.dwarf valid h.first.at) h.first.cause)
+sets_listed s valid fit WriteRefused text (inr h) = absurd (fit_linked s h.sets h.error h.left fit h.first)
+sets_listed s valid fit Usage text h = absurd h
+sets_listed s valid fit ScriptRefused text h = absurd h
+sets_listed s valid fit SourceFailed text h = absurd h
+sets_listed s valid fit SinkFailed text h = absurd h
+sets_listed s valid fit NoMemory text h = absurd h
+sets_listed s valid fit TooLong text h = absurd h
+
+pub link_only : (bytes : List ℕ) (s : SetsValue) → sets bytes ≡ Ok s → AreValidSets s.dwarfs → Fit s → (status : Status) (text : List ℕ) → SaysOfBytes Link bytes status text → status ≡ Listed
+link_only bytes s accepted valid fit status text h = built_only sets SaysOfSets s (sets_listed s valid fit) bytes status text accepted h
+
+-- the words can't ask for reading and for a number
+named_alone : (words : List (List ℕ)) (n : ℕ) → made_of words ≡ Some n → reading_of words ≡ None
+named_alone [] n asked = refl
+named_alone (word ∷ []) n asked = cc
+named_alone (word ∷ more ∷ words) n asked = refl
+
+pub not_both : (words : List (List ℕ)) (n : ℕ) → DoRead words → made_of words ≡ Some n → ⊥
+not_both words n reads asked = let clash : IsTrue false = subst (λ (r : Option Reading). IsTrue (is_some r)) (named_alone words n asked) reads in cc
 
 module _ (words : List (List ℕ)) (left : Option (List ℕ)) (n : ℕ) (asked : made_of words ≡ Some n) where
-  made_only : (status : Status) (text : List ℕ) → Says words left status text → status ≡ Listed
+  made_only : (status : Status) (text : List ℕ) → SaysAsked None (Some n) left status text → status ≡ Listed
   made_only Listed text h = refl
-  made_only Usage text h = let clash : ◌≡◌ {A = Option ℕ} None (Some n) = sym h.1 ∙ asked in cc
-  made_only ScriptRefused text h = absurd (not_both words n h.0 asked)
-  made_only WriteRefused text h = absurd (not_both words n h.0 asked)
+  made_only Usage text h = absurd h
+  made_only ScriptRefused text h = absurd h
+  made_only WriteRefused text h = absurd h
   made_only SourceFailed text h = absurd h
   made_only SinkFailed text h = absurd h
   made_only NoMemory text h = absurd h
-  made_only TooLong text h = absurd (not_both words n h.0 asked)
+  made_only TooLong text h = absurd h
 
   -- what the status of a printed summary comes to
   pub printed_made : (status result : Status) (text : List ℕ) (old new : Intake) → Says words left status text → Prints status text old new result → (HasRisen old.faults new.faults → ⊥) → IsDone (code_of result)
-  printed_made status result text old new says prints calm = printed_done status result text old new (made_only status text says) prints calm
+  printed_made status result text old new says prints calm =
+      let here = subst (λ m. SaysAsked None m left status text) asked (subst (λ r. SaysAsked r (made_of words) left status text) (named_alone words n asked) says) in
+      printed_done status result text old new (made_only status text here) prints calm

@@ -1,5 +1,5 @@
 -- New plain sections take every Dwarf that is valid.
-use Rattle.std.specs.Prelude.{◌≡◌, true, List}
+use Rattle.std.specs.Prelude.{◌≡◌, true, false, Bool, List}
 use Rattle.std.proofs.Common.{ℕ, sym, subst, refl}
 use Rattle.dw_base.specs.declared.error.Error.{Error}
 use Rattle.dw_base.specs.declared.error.Error.TheVariants.{NoMemory}
@@ -11,7 +11,8 @@ use Rattle.dw_dwarf.specs.DwarfValue.{DwarfValue}
 use Rattle.dw_dwarf.specs.Valid.{AreUnwritten, IsValid, DwarfFails, DwarfRefused, empty_ends}
 use Rattle.dw_dwarf.specs.Written.{AreNewPlain, AreNew}
 use Rattle.dw_dwarf.proofs.Complete.{AreNew-from_plain, dwarf_fails, valid_unfailing}
-use Rattle.dwarf_build.specs.Answers.{HasFault, SaysOf}
+use Rattle.dwarf_build.specs.Answers.{SaysOf}
+use Rattle.dwarf_build.specs.Faults.{HasFault}
 use Rattle.dwarf_build.specs.Texts.{refused_text}
 use Rattle.dw_build.specs.ScriptValue.{ScriptValue}
 use Rattle.dwarf_build.specs.declared.status.Status.{Status}
@@ -19,21 +20,28 @@ use Rattle.dwarf_build.specs.declared.status.Status.TheVariants.{WriteRefused}
 
 -- The clause of the writing call is named for the meaning and the sections that it mentions.
 pub dwarf_faulty : {W : Type 0} {meaning : W → Meaning} {old : Sections W} {Clause : Type 0} → (AreNew meaning old → Clause) → (new : Sections W) → AreNewPlain meaning old → (d : DwarfValue) (e : Error) → AreUnwritten d → (e ≡ NoMemory → ⊥) →
-    (NoFixups old → AreUnwritten d → DwarfRefused meaning old new d e) → (SomeHasRisen meaning old new → ⊥) → HasFault d e
+    (NoFixups old → AreUnwritten d → DwarfRefused meaning old new d e) → (SomeHasRisen meaning old new → ⊥) → HasFault true d e
 dwarf_faulty {W} {meaning} {old} clause new empty d e unwritten some refused calm =
     let fails = dwarf_fails meaning old new (AreNew-from_plain meaning old empty) calm d e some (refused empty.fixups unwritten) in
     subst (λ b. DwarfFails b at_begin (empty_ends b) d e) empty.writers.debug_info.plain fails
 
+-- the same over writers that record relocations, where sections are new of any kind
+pub set_faulty : {W : Type 0} (meaning : W → Meaning) (old new : Sections W) → AreNew meaning old → (meaning old.debug_info.0).is_plain ≡ false → (d : DwarfValue) (e : Error) → AreUnwritten d → (e ≡ NoMemory → ⊥) →
+    (NoFixups old → AreUnwritten d → DwarfRefused meaning old new d e) → (SomeHasRisen meaning old new → ⊥) → HasFault false d e
+set_faulty meaning old new empty recorder d e unwritten some refused calm =
+    let fails = dwarf_fails meaning old new empty calm d e some (refused empty.fixups unwritten) in
+    subst (λ b. DwarfFails b at_begin (empty_ends b) d e) recorder fails
+
 -- what is said of a script that is refused
-pub says_refused : (s : ScriptValue) (status : Status) (text : List ℕ) (e : Error) → status ≡ WriteRefused → text ≡ refused_text e → HasFault s.dwarf e → SaysOf s status text
+pub says_refused : (s : ScriptValue) (status : Status) (text : List ℕ) (e : Error) → status ≡ WriteRefused → text ≡ refused_text e → HasFault true s.dwarf e → SaysOf s status text
 says_refused s status text e is says cause =
     subst (λ x. SaysOf s x text) (sym is) (record { error = e; cause = cause; says = says })
 
 -- a valid Dwarf has no fault
-pub valid_faultless : (d : DwarfValue) (e : Error) → IsValid true d → HasFault d e → ⊥
-valid_faultless d e valid r = valid_unfailing true d valid e r
+pub valid_faultless : (plain : Bool) (d : DwarfValue) (e : Error) → IsValid plain d → HasFault plain d e → ⊥
+valid_faultless plain d e valid r = valid_unfailing plain d valid e r
 
 -- so that only memory lacks
-pub only_memory : (d : DwarfValue) → IsValid true d → (e : Error) → ((e ≡ NoMemory → ⊥) → HasFault d e) → e ≡ NoMemory
+pub only_memory : (d : DwarfValue) → IsValid true d → (e : Error) → ((e ≡ NoMemory → ⊥) → HasFault true d e) → e ≡ NoMemory
 only_memory d valid NoMemory fails = refl
-only_memory d valid e fails = absurd (valid_faultless d e valid (fails (λ same. cc)))
+only_memory d valid e fails = absurd (valid_faultless true d e valid (fails (λ same. cc)))

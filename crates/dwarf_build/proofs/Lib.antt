@@ -3,6 +3,13 @@ pub mod CommandWords
 pub mod Texts
 pub mod Answered
 pub mod Faulty
+pub mod SetLaws
+pub mod SetParts
+pub mod NewSets
+pub mod SetFaults
+pub mod SetsWritten
+pub mod SetsJoined
+pub mod SetsSaid
 pub mod Completeness
 pub mod Runs
 pub mod Made

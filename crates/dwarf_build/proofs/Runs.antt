@@ -1,12 +1,26 @@
 -- What a run has done, from the answer that it printed or the reason why there was none.
 use Rattle.std.proofs.Common.{◌≡◌, sym, subst, ℕ, List, inl, inr}
-use Rattle.std.specs.Prelude.{◌⊎◌}
+use Rattle.std.specs.Prelude.{◌⊎◌, Option, Some, None}
 use Rattle.dw_base.specs.Faults.{HasRisen}
 use Rattle.dw_ends.specs.Ends.{Input, Intake, with_after}
-use Rattle.dwarf_build.specs.Answers.{Says, Reads, Prints, Answers, StopsFor, RunAnswers, code_of}
+use Rattle.dwarf_build.specs.Answers.{Says, SaysAsked, Reads, Prints, Answers, StopsFor, RunAnswers, code_of, made_of}
+use Rattle.dwarf_build.specs.Commands.{reading_of}
+use Rattle.dwarf_build.specs.declared.command.Reading.{Reading}
 use Rattle.dwarf_build.specs.declared.answer.Stop.TheVariants as stop
 use Rattle.dwarf_build.specs.declared.status.Status.{Status}
 use Rattle.dwarf_build.specs.declared.status.Status.TheVariants.{Listed, Usage, ScriptRefused, WriteRefused, SourceFailed, SinkFailed, NoMemory, TooLong}
+
+-- statuses that have no text of their own
+never_said : (r : Option Reading) (made : Option ℕ) (left : Option (List ℕ)) (text : List ℕ) → SaysAsked r made left SourceFailed text ⊎ (SaysAsked r made left SinkFailed text ⊎ SaysAsked r made left NoMemory text) → ⊥
+never_said (Some reading) made left text (inl h) = h
+never_said (Some reading) made left text (inr (inl h)) = h
+never_said (Some reading) made left text (inr (inr h)) = h
+never_said None (Some n) left text (inl h) = h
+never_said None (Some n) left text (inr (inl h)) = h
+never_said None (Some n) left text (inr (inr h)) = h
+never_said None None left text (inl h) = h
+never_said None None left text (inr (inl h)) = h
+never_said None None left text (inr (inr h)) = h
 
 module _ (words : List (List ℕ)) (source_old source_new : Input) (sink_old : Intake) where
   -- the whole text was taken
@@ -17,9 +31,9 @@ module _ (words : List (List ℕ)) (source_old source_new : Input) (sink_old : I
   whole_answers k ScriptRefused text says reads takes = (record { text = text; says = says; takes = takes }, reads)
   whole_answers k WriteRefused text says reads takes = (record { text = text; says = says; takes = takes }, reads)
   whole_answers k TooLong text says reads takes = (record { text = text; says = says; takes = takes }, reads)
-  whole_answers k SourceFailed text says reads takes = absurd says
-  whole_answers k SinkFailed text says reads takes = absurd says
-  whole_answers k NoMemory text says reads takes = absurd says
+  whole_answers k SourceFailed text says reads takes = absurd (never_said (reading_of words) (made_of words) source_old.left text (inl says))
+  whole_answers k SinkFailed text says reads takes = absurd (never_said (reading_of words) (made_of words) source_old.left text (inr (inl says)))
+  whole_answers k NoMemory text says reads takes = absurd (never_said (reading_of words) (made_of words) source_old.left text (inr (inr says)))
 
   -- an answer was printed, whole or in part
   print_answers : (sink_new : Intake) (status result : Status) (text : List ℕ) → Says words source_old.left status text → Reads words source_old source_new status →

@@ -1,10 +1,9 @@
 -- What the program answers, by its status.
-use Rattle.std.specs.Prelude.{◌≡◌, ◌⊎◌, ℕ, ◌+◌, ◌<◌, ◌≤◌, true, false, List, [], ◌∷◌, length, Option, Some, None, Ok, Err, codes, bytes_eq, if◌then◌else◌}
+use Rattle.std.specs.Prelude.{◌≡◌, ◌⊎◌, ℕ, ◌+◌, ◌<◌, ◌≤◌, true, false, List, [], ◌∷◌, length, Option, Some, None, Result, Ok, Err, IsTrue, codes, bytes_eq, if◌then◌else◌}
+use Rattle.std.specs.Option.{is_some}
 use Rattle.dw_base.specs.Order.{is_big_of}
 use Rattle.dw_base.specs.declared.error.Error.{Error}
-use Rattle.dw_unit.specs.Built.{at_begin}
-use Rattle.dw_dwarf.specs.DwarfValue.{DwarfValue}
-use Rattle.dw_dwarf.specs.Valid.{IsValid, DwarfFails, empty_ends}
+use Rattle.dw_dwarf.specs.Valid.{IsValid}
 use Rattle.dw_dwarf.specs.Written.{SectionTexts, AreTextsOf, one_order}
 use Rattle.dw_base.specs.Faults.{HasRisen}
 use Rattle.dw_ends.specs.Ends.{Input, Intake, used_up, with_after, TakesPrefix}
@@ -12,6 +11,13 @@ use Rattle.dw_ends.specs.Sections.{sections_of}
 use Rattle.dw_script.specs.Numbers.{number_below}
 use Rattle.dwarf_build.specs.Generated.{generated}
 use Rattle.dw_build.specs.Script.{script}
+use Rattle.dw_build.specs.Sets.{sets}
+use Rattle.dw_build.specs.SetsValue.{SetsValue}
+use Rattle.dwarf_build.specs.Commands.{reading_of}
+use Rattle.dwarf_build.specs.Faults.{HasFault}
+use Rattle.dwarf_build.specs.Linked.{AreValidSets, Fit, ListsSets, IsSetRefusal, IsLinkRefusal}
+use Rattle.dwarf_build.specs.declared.command.Reading.{Reading}
+use Rattle.dwarf_build.specs.declared.command.Reading.TheVariants.{Build, Link}
 use Rattle.dwarf_build.specs.Texts.{usage_text, too_long_text, refusal_text, refused_text, sections_text, summary_text, texts_read}
 use Rattle.dwarf_build.specs.declared.answer.Stop.{Stop}
 use Rattle.dwarf_build.specs.declared.answer.Stop.TheVariants as stop
@@ -19,10 +25,6 @@ use Rattle.dwarf_build.specs.declared.status.Status.{Status}
 use Rattle.dwarf_build.specs.declared.status.Status.TheVariants.{Listed, Usage, ScriptRefused, WriteRefused, SourceFailed, SinkFailed, NoMemory, TooLong}
 use Rattle.dw_build.specs.ScriptValue.{ScriptValue}
 use Rattle.dw_build.specs.declared.script.Refusal.{Refusal}
-
--- the words are the command that reads a script
-abbrev pub IsBuild : List (List ℕ) → Type 0
-IsBuild words = words ≡ codes "build" ∷ []
 
 -- the most variables that `make` generates
 abbrev pub most_variables : ℕ
@@ -37,7 +39,7 @@ made_of (word ∷ field ∷ more ∷ words) = None
 
 -- words that don't ask for reading leave the source alone
 abbrev pub LeavesUnread : {S : Type 0} → List (List ℕ) → S → S → Type 0
-LeavesUnread words old new = (IsBuild words → ⊥) → new ≡ old
+LeavesUnread words old new = reading_of words ≡ None → new ≡ old
 
 -- of what a source told
 abbrev pub IfTold : Option (List ℕ) → (List ℕ → Type 0) → Type 0
@@ -61,15 +63,10 @@ pub record ListsScript (s : ScriptValue) (text : List ℕ) : Type 0 where
   pub listed : text ≡ sections_text (is_big_of s.endian) texts
   pub read_back : sections_of text ≡ Ok (texts_read (is_big_of s.endian) texts)
 
--- A plain writer can't take some unit, where its table and its own parts of other sections stand behind those of the units before it, or some
--- reference across units leads to no entry, or to one whose place has no room.
-abbrev pub HasFault : DwarfValue → Error → Type 0
-HasFault d error = DwarfFails true at_begin (empty_ends true) d error
-
 -- some unit of the script, or a reference across them, can't be written, and the text says why
 pub record IsWriteRefusal (s : ScriptValue) (text : List ℕ) : Type 0 where
   pub error : Error
-  pub cause : HasFault s.dwarf error
+  pub cause : HasFault true s.dwarf error
   pub says : text ≡ refused_text error
 
 -- what is said of an accepted script
@@ -78,30 +75,50 @@ SaysOf s Listed text = ListsScript s text
 SaysOf s WriteRefused text = IsWriteRefusal s text
 SaysOf s _ text = ⊥
 
--- the script of these bytes is accepted, and this is said of it
-pub record SaysAccepted (bytes : List ℕ) (status : Status) (text : List ℕ) : Type 0 where
-  pub value : ScriptValue
-  pub accepted : script bytes ≡ Ok value
-  pub says : SaysOf value status text
+-- what is said of sets that are accepted
+abbrev pub SaysOfSets : SetsValue → Status → List ℕ → Type 0
+SaysOfSets s Listed text = ListsSets s text
+SaysOfSets s WriteRefused text = IsSetRefusal s text ⊎ IsLinkRefusal s text
+SaysOfSets s _ text = ⊥
 
--- a line of the script is refused, and the text says which and why
-pub record SaysRefused (bytes text : List ℕ) : Type 0 where
+-- an input is accepted, and this is said of what it builds
+pub record IsAccepted {T : Type 0} (built : Result T Refusal) (holds : T → Type 0) : Type 0 where
+  pub value : T
+  pub accepted : built ≡ Ok value
+  pub says : holds value
+
+-- a line of it is refused, and the text says which and why
+pub record IsRefused {T : Type 0} (built : Result T Refusal) (text : List ℕ) : Type 0 where
   pub refusal : Refusal
-  pub refused : script bytes ≡ Err refusal
+  pub refused : built ≡ Err refusal
   pub says : text ≡ refusal_text refusal
 
--- what is said of a script's bytes
-abbrev pub SaysBuild : List ℕ → Status → List ℕ → Type 0
-SaysBuild bytes Listed text = IsShort bytes × SaysAccepted bytes Listed text
-SaysBuild bytes WriteRefused text = IsShort bytes × SaysAccepted bytes WriteRefused text
-SaysBuild bytes ScriptRefused text = IsShort bytes × SaysRefused bytes text
-SaysBuild bytes _ text = ⊥
+-- what is said of an input, where this is said of what it builds
+abbrev pub SaysBuilt : {T : Type 0} → Result T Refusal → (T → Status → List ℕ → Type 0) → Status → List ℕ → Type 0
+SaysBuilt built says Listed text = IsAccepted built (λ v. says v Listed text)
+SaysBuilt built says WriteRefused text = IsAccepted built (λ v. says v WriteRefused text)
+SaysBuilt built says ScriptRefused text = IsRefused built text
+SaysBuilt built says _ text = ⊥
+
+-- what is said of an input by each command that reads
+abbrev pub SaysOfBytes : Reading → List ℕ → Status → List ℕ → Type 0
+SaysOfBytes Build bytes status text = SaysBuilt (script bytes) SaysOf status text
+SaysOfBytes Link bytes status text = SaysBuilt (sets bytes) SaysOfSets status text
 
 -- these bytes were read, which are those that the source told, and this is said of them
-pub record SaysRead (left : Option (List ℕ)) (status : Status) (text : List ℕ) : Type 0 where
+pub record SaysRead (reading : Reading) (left : Option (List ℕ)) (status : Status) (text : List ℕ) : Type 0 where
   pub bytes : List ℕ
   pub told : IfTold left (λ xs. bytes ≡ xs)
-  pub says : SaysBuild bytes status text
+  pub short : IsShort bytes
+  pub says : SaysOfBytes reading bytes status text
+
+-- the text of a status for a command that reads and this input
+abbrev pub SaysOfInput : Reading → Option (List ℕ) → Status → List ℕ → Type 0
+SaysOfInput reading left Listed text = SaysRead reading left Listed text
+SaysOfInput reading left ScriptRefused text = SaysRead reading left ScriptRefused text
+SaysOfInput reading left WriteRefused text = SaysRead reading left WriteRefused text
+SaysOfInput reading left TooLong text = (text ≡ too_long_text) × IfTold left (λ bytes. longest_script < length bytes)
+SaysOfInput reading left _ text = ⊥
 
 -- the summary of sections that are read as exactly what is generated for a number, with nothing in other sections
 pub record SaysMade (number : ℕ) (text : List ℕ) : Type 0 where
@@ -109,29 +126,32 @@ pub record SaysMade (number : ℕ) (text : List ℕ) : Type 0 where
   pub are : AreTextsOf (one_order false) (generated number) texts
   pub says : text ≡ summary_text (generated number) texts
 
--- the words ask for a number, and this is said of what is generated for it
-pub record MakesWords (words : List (List ℕ)) (text : List ℕ) : Type 0 where
-  pub number : ℕ
-  pub asked : made_of words ≡ Some number
-  pub says : SaysMade number text
+-- the text of a status where a command that reads was asked for, or a number of variables, or neither
+abbrev pub SaysAsked : Option Reading → Option ℕ → Option (List ℕ) → Status → List ℕ → Type 0
+SaysAsked (Some reading) made left status text = SaysOfInput reading left status text
+SaysAsked None (Some number) left Listed text = SaysMade number text
+SaysAsked None (Some number) left _ text = ⊥
+SaysAsked None None left Usage text = text ≡ usage_text
+SaysAsked None None left _ text = ⊥
 
 -- the text of a status for these words and this input; the others have none of their own
 abbrev pub Says : List (List ℕ) → Option (List ℕ) → Status → List ℕ → Type 0
-Says words left Usage text = (IsBuild words → ⊥) × (made_of words ≡ None) × (text ≡ usage_text)
-Says words left Listed text = (IsBuild words × SaysRead left Listed text) ⊎ MakesWords words text
-Says words left SourceFailed text = ⊥
-Says words left SinkFailed text = ⊥
-Says words left NoMemory text = ⊥
-Says words left TooLong text = IsBuild words × (text ≡ too_long_text) × IfTold left (λ bytes. longest_script < length bytes)
-Says words left status text = IsBuild words × SaysRead left status text
+Says words left status text = SaysAsked (reading_of words) (made_of words) left status text
 
--- whether the source was read to its end where this is answered, or not at all; `make` doesn't read
+-- whether a command read the source to its end where this is answered
+abbrev pub ReadsInput : Input → Input → Status → Type 0
+ReadsInput old new Listed = new.left ≡ used_up old.left
+ReadsInput old new ScriptRefused = new.left ≡ used_up old.left
+ReadsInput old new WriteRefused = new.left ≡ used_up old.left
+ReadsInput old new _ = Unit {0}
+
+-- the same of all words; others than those of a command that reads leave the source alone
+abbrev pub ReadsAsked : Option Reading → Input → Input → Status → Type 0
+ReadsAsked None old new status = new ≡ old
+ReadsAsked (Some reading) old new status = ReadsInput old new status
+
 abbrev pub Reads : List (List ℕ) → Input → Input → Status → Type 0
-Reads words old new Listed = (IsBuild words → new.left ≡ used_up old.left) × ((IsBuild words → ⊥) → new ≡ old)
-Reads words old new ScriptRefused = new.left ≡ used_up old.left
-Reads words old new WriteRefused = new.left ≡ used_up old.left
-Reads words old new Usage = new ≡ old
-Reads words old new _ = Unit {0}
+Reads words old new status = ReadsAsked (reading_of words) old new status
 
 -- the sink has taken a front of a text that some status has here, which may be none of it
 pub record TakesFront (words : List (List ℕ)) (left : Option (List ℕ)) (old new : Option (List ℕ)) : Type 0 where
@@ -146,14 +166,23 @@ pub record TakesText (words : List (List ℕ)) (left : Option (List ℕ)) (statu
   pub says : Says words left status text
   pub takes : new ≡ with_after old text
 
+-- why a command that reads has no answer: a read failed, or memory lacked
+abbrev pub StopsReading : Input → Input → Stop → Type 0
+StopsReading old new stop.SourceFailed = HasRisen old.faults new.faults
+StopsReading old new stop.NoMemory = Unit {0}
+
+-- the words are a command that reads
+abbrev pub DoRead : List (List ℕ) → Type 0
+DoRead words = IsTrue (is_some (reading_of words))
+
 -- why there is no answer: a read failed, which comes only where the words are a command that reads
 abbrev pub StopsFor : List (List ℕ) → Input → Input → Stop → Type 0
-StopsFor words old new stop.SourceFailed = IsBuild words × HasRisen old.faults new.faults
+StopsFor words old new stop.SourceFailed = DoRead words × HasRisen old.faults new.faults
 StopsFor words old new stop.NoMemory = Unit {0}
 
 -- what the program has done where it answers a status
 abbrev pub Answers : List (List ℕ) → Input → Input → Intake → Intake → Status → Type 0
-Answers words source_old source_new sink_old sink_new SourceFailed = IsBuild words × HasRisen source_old.faults source_new.faults × (sink_new ≡ sink_old)
+Answers words source_old source_new sink_old sink_new SourceFailed = DoRead words × HasRisen source_old.faults source_new.faults × (sink_new ≡ sink_old)
 Answers words source_old source_new sink_old sink_new SinkFailed = HasRisen sink_old.faults sink_new.faults × TakesFront words source_old.left sink_old.taken sink_new.taken
 Answers words source_old source_new sink_old sink_new NoMemory = (sink_new ≡ sink_old) ⊎ TakesFront words source_old.left sink_old.taken sink_new.taken
 Answers words source_old source_new sink_old sink_new status = TakesText words source_old.left status sink_old.taken sink_new.taken × Reads words source_old source_new status
@@ -179,13 +208,22 @@ pub record RunAnswers (words : List (List ℕ)) (source_old source_new : Input) 
   pub coded : code ≡ code_of status
   pub answers : Answers words source_old source_new sink_old sink_new status
 
--- a script whose units are valid was listed, or memory lacked, unless the source or the sink failed
+-- nothing failed but for want of memory: what was asked for was printed, or memory lacked, unless the source or the sink failed
+abbrev pub IsDoneUnless : Input → Input → Intake → Intake → ℕ → Type 0
+IsDoneUnless source_old source_new sink_old sink_new code =
+    (HasRisen source_old.faults source_new.faults → ⊥) → (HasRisen sink_old.faults sink_new.faults → ⊥) → (code ≡ 0) ⊎ (code ≡ 6)
+
+-- a script whose units are valid was listed, or memory lacked
 abbrev pub ListsValid : List (List ℕ) → Input → Input → Intake → Intake → ℕ → Type 0
 ListsValid words source_old source_new sink_old sink_new code =
-    IsBuild words → (bytes : List ℕ) → source_old.left ≡ Some bytes → IsShort bytes →
-    (s : ScriptValue) → script bytes ≡ Ok s → IsValid true s.dwarf →
-    (HasRisen source_old.faults source_new.faults → ⊥) → (HasRisen sink_old.faults sink_new.faults → ⊥) →
-    (code ≡ 0) ⊎ (code ≡ 6)
+    reading_of words ≡ Some Build → (bytes : List ℕ) → source_old.left ≡ Some bytes → IsShort bytes →
+    (s : ScriptValue) → script bytes ≡ Ok s → IsValid true s.dwarf → IsDoneUnless source_old source_new sink_old sink_new code
+
+-- So were sets that are each valid where symbols may be written, and whose texts are all there in their places.
+abbrev pub LinksValid : List (List ℕ) → Input → Input → Intake → Intake → ℕ → Type 0
+LinksValid words source_old source_new sink_old sink_new code =
+    reading_of words ≡ Some Link → (bytes : List ℕ) → source_old.left ≡ Some bytes → IsShort bytes →
+    (s : SetsValue) → sets bytes ≡ Ok s → AreValidSets s.dwarfs → Fit s → IsDoneUnless source_old source_new sink_old sink_new code
 
 -- what is generated is valid; it was written, or memory lacked, unless the sink failed
 abbrev pub MakesNumbers : List (List ℕ) → Intake → Intake → ℕ → Type 0

@@ -9,6 +9,8 @@ use Rattle.dw_dwarf.specs.DwarfValue.{DwarfValue}
 use Rattle.dw_ends.specs.Listing.{listing, read_as}
 use Rattle.dw_ends.specs.Sections.{ListingValue}
 use Rattle.dw_ends.specs.Reasons.{reason_text}
+use Rattle.dw_link.specs.ErrorName.{link_error_name}
+use Rattle.dw_link.specs.declared.error.LinkError.{LinkError}
 use Rattle.dw_build.specs.declared.script.Refusal.{Refusal}
 
 -- the commands
@@ -26,6 +28,10 @@ refusal_text r = codes "line " ++ decimal r.line ++ codes ": " ++ reason_text r.
 -- writing is refused
 abbrev pub refused_text : Error → List ℕ
 refused_text e = codes "refused: " ++ error_name e ++ codes "\n"
+
+-- linking is refused
+abbrev pub link_refused_text : LinkError → List ℕ
+link_refused_text e = codes "refused: " ++ link_error_name e ++ codes "\n"
 
 -- each under its name, in the order in which they are listed
 abbrev pub named : SectionTexts → List (List ℕ × List ℕ)

@@ -1,13 +1,15 @@
 //! What the program answers: a status and the text that goes with it.
 
-ghost use Rattle.std.specs.Prelude.{◌≡◌, ◌≢◌, ◌+◌, ◌≤◌, ◌↔◌, ◌∷◌, [], List, length, map, codes, Some, IsTrue, IfOk, IfErr, IfSome, string_bytes};
+ghost use Rattle.std.specs.Prelude.{◌≡◌, ◌≢◌, ◌+◌, ◌≤◌, length, map, IfOk, IfErr, IfSome, string_bytes};
 ghost use Rattle.dw_base.specs.declared.error.Error.TheVariants.{NoMemory};
 ghost use Rattle.dw_script.specs.Numbers.{number_below};
-ghost use Rattle.dwarf_build.specs.Answers.{IsBuild, LeavesUnread, Says, SaysOf, SaysBuild, SaysMade, Reads, StopsFor, made_of, most_variables};
+ghost use Rattle.dwarf_build.specs.Answers.{LeavesUnread, Says, SaysOf, SaysOfBytes, SaysOfInput, SaysMade, Reads, ReadsInput, StopsFor, StopsReading, made_of, most_variables};
 ghost use Rattle.dw_build.specs.Script.{AreOpen};
 ghost use Rattle.dw_build.specs.ScriptValue.{script_in};
 ghost use Rattle.dwarf_build.specs.Texts.{refusal_text, refused_text};
 
+use crate::command::Reading;
+use crate::link::link_script;
 use crate::make::generate;
 use crate::status::Status;
 use crate::summary::{Counts, summarize};
@@ -49,16 +51,6 @@ impl From<AllocError> for Stop {
     }
 }
 
-// Tells that the words are the command `build`.
-fn is_build(words: &Vec<String>) -> bool
-    ensures { IsTrue result ↔ IsBuild (map string_bytes words.now.items) }
-{
-    match words.as_slice() {
-        [word] => word.as_str() == "build",
-        _ => false,
-    }
-}
-
 // How many variables the words ask for, where they are the command `make` and a number.
 fn count_to_make(words: &Vec<String>) -> Option<u64>
     ensures asked { result ≡ made_of (map string_bytes words.now.items) }
@@ -81,8 +73,8 @@ fn variable_count(field: &[u8]) -> Option<u64>
     }
 }
 
-// An answer with this text.
-fn answer_with(alloc: Global, status: Status, text: &[u8]) -> Result<Answer, AllocError>
+/// An answer with this text.
+pub(crate) fn answer_with(alloc: Global, status: Status, text: &[u8]) -> Result<Answer, AllocError>
     ensures { IfOk result (λ a. (a.status ≡ status) × (a.text.items ≡ text.now)) }
 {
     Ok(Answer {
@@ -91,8 +83,8 @@ fn answer_with(alloc: Global, status: Status, text: &[u8]) -> Result<Answer, All
     })
 }
 
-// The line of the script that is refused, and why.
-fn answer_refusal(alloc: Global, refusal: Refusal) -> Result<Answer, AllocError>
+/// The line of the script that is refused, and why.
+pub(crate) fn answer_refusal(alloc: Global, refusal: Refusal) -> Result<Answer, AllocError>
     ensures { IfOk result (λ a.
         (a.status ≡ Status.ScriptRefused) × (a.text.items ≡ refusal_text refusal)) }
 {
@@ -102,8 +94,8 @@ fn answer_refusal(alloc: Global, refusal: Refusal) -> Result<Answer, AllocError>
     answer_with(alloc, Status::ScriptRefused, text.as_bytes())
 }
 
-// Why writing was refused. Want of memory is no refusal of what was built.
-fn answer_write_refusal(alloc: Global, error: Error) -> Result<Answer, AllocError>
+/// Why writing was refused. Want of memory is no refusal of what was built.
+pub(crate) fn answer_write_refusal(alloc: Global, error: Error) -> Result<Answer, AllocError>
     ensures says { IfOk result (λ a.
         (a.status ≡ Status.WriteRefused) × (a.text.items ≡ refused_text error)) }
     ensures other { IfOk result (λ _. error ≢ NoMemory) }
@@ -136,12 +128,23 @@ fn write_script(alloc: Global, mut script: Script) -> Result<Answer, AllocError>
 // Builds the script and writes what it has built.
 fn build(alloc: Global, bytes: &[u8]) -> Result<Answer, AllocError>
     requires { length bytes.now ≤ SCRIPT_LIMIT }
-    ensures { IfOk result (λ a. SaysBuild bytes.now a.status a.text.items) }
+    ensures { IfOk result (λ a. SaysOfBytes Reading.Build bytes.now a.status a.text.items) }
 {
     match read_script(alloc, bytes) {
         Ok(script) => write_script(alloc, script),
         Err(ScriptError::Refused(found)) => answer_refusal(alloc, found),
         Err(ScriptError::NoMemory) => Err(AllocError),
+    }
+}
+
+// What a command answers to bytes that were read.
+fn answer_bytes(alloc: Global, reading: Reading, bytes: &[u8]) -> Result<Answer, AllocError>
+    requires { length bytes.now ≤ SCRIPT_LIMIT }
+    ensures { IfOk result (λ a. SaysOfBytes reading bytes.now a.status a.text.items) }
+{
+    match reading {
+        Reading::Build => build(alloc, bytes),
+        Reading::Link => link_script(alloc, bytes),
     }
 }
 
@@ -161,18 +164,16 @@ fn answer_make(alloc: Global, count: u64) -> Result<Answer, Error>
     Ok(answer_with(alloc, Status::Listed, text.as_bytes())?)
 }
 
-// What the command `build` answers to its input.
-fn answer_build<S: Source>(alloc: Global, source: &mut S) -> Result<Answer, Stop>
+// What a command answers to its input.
+fn answer_input<S: Source>(alloc: Global, reading: Reading, source: &mut S) -> Result<Answer, Stop>
     ensures ok { IfOk result (λ a.
-        Says (codes "build" ∷ []) (S.input source.old).left a.status a.text.items) }
-    ensures reads { IfOk result (λ a. Reads (codes "build" ∷ [])
-        (S.input source.old) (S.input source.new) a.status) }
-    ensures err { IfErr result (StopsFor (codes "build" ∷ [])
-        (S.input source.old) (S.input source.new)) }
+        SaysOfInput reading (S.input source.old).left a.status a.text.items) }
+    ensures reads { IfOk result (λ a. ReadsInput (S.input source.old) (S.input source.new) a.status) }
+    ensures err { IfErr result (StopsReading (S.input source.old) (S.input source.new)) }
     ensures faults { (S.input source.old).faults ≤ (S.input source.new).faults }
 {
     match read_all(alloc, source) {
-        Ok(bytes) => Ok(build(alloc, bytes.as_slice())?),
+        Ok(bytes) => Ok(answer_bytes(alloc, reading, bytes.as_slice())?),
         Err(EndError::TooLong) => Ok(answer_with(alloc, Status::TooLong, b"too long\n")?),
         Err(EndError::Failed) => Err(Stop::SourceFailed),
         Err(EndError::NoMemory) => Err(Stop::NoMemory),
@@ -194,8 +195,8 @@ pub fn answer_to<S: Source>(
     ensures unread { LeavesUnread (map string_bytes words.now.items) source.old source.new }
     ensures faults { (S.input source.old).faults ≤ (S.input source.new).faults }
 {
-    if is_build(words) {
-        return answer_build(alloc, source);
+    if let Some(reading) = Reading::of(words) {
+        return answer_input(alloc, reading, source);
     }
     match count_to_make(words) {
         Some(count) => answer_make(alloc, count).map_err(|_| Stop::NoMemory),

@@ -1,11 +1,11 @@
-//! Runs the tables of cases: `build` over each script, its status and all that it prints. The
+//! Runs the tables of cases: a command over each script, its status and all that it prints. The
 //! module `cases` tells how a table is written.
 
 use crate::cases::{
-    expressions, headers, limits, lines, locations, ranges, references, refusals,
+    expressions, headers, limits, lines, links, locations, ranges, references, refusals,
     refused_locations, strings, trees, values,
 };
-use crate::tests::build;
+use crate::tests::run_over;
 use std::alloc::{AllocError, Global};
 use std::fmt::Write;
 use std::process::Abort;
@@ -107,7 +107,9 @@ fn section_lines(lines: &str) -> usize {
 fn fault_of(lines: &str) -> Option<&'static str> {
     let mut known = section_lines(lines);
     let has_sections = known != 0;
-    for word in ["", "#", "units", "script", "status", "order", "text"] {
+    for word in [
+        "", "#", "command", "units", "script", "status", "order", "text",
+    ] {
         known = known.saturating_add(count_of(lines, word));
     }
     if known != lines.lines().count() {
@@ -200,6 +202,15 @@ fn listing_of(alloc: Global, lines: &str, head: Head) -> Result<String, Fail> {
     Ok(text)
 }
 
+/// The command that is run.
+fn command_of(alloc: Global, lines: &str) -> Result<String, AllocError> {
+    let told = joined(alloc, lines, "command", "")?;
+    if told.is_empty() {
+        return String::from_str(alloc, "build");
+    }
+    Ok(told)
+}
+
 /// All that a run prints.
 fn text_of(alloc: Global, lines: &str, head: Head) -> Result<String, Fail> {
     if count_of(lines, "text") == 0 {
@@ -256,7 +267,8 @@ fn run_once(
     let script = script_of(alloc, lines, head)?;
     let want = text_of(alloc, lines, head)?;
     let status = joined(alloc, lines, "status", "")?;
-    let (ended, text) = build(alloc, script.as_slice())?;
+    let command = command_of(alloc, lines)?;
+    let (ended, text) = run_over(alloc, command.as_str(), script.as_slice())?;
     let ended = format!(in alloc; "{ended}")?;
     assert_eq!(rt;
         (ended.as_str(), text.as_str()),
@@ -378,6 +390,11 @@ fn builds_lines(rt: HostRuntime) -> Result<(), Fail> {
 #[test]
 fn builds_expressions(rt: HostRuntime) -> Result<(), Fail> {
     run_table(&rt, rt.alloc(), expressions::CASES)
+}
+
+#[test]
+fn links_sets(rt: HostRuntime) -> Result<(), Fail> {
+    run_table(&rt, rt.alloc(), links::CASES)
 }
 
 #[test]

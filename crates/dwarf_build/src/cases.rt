@@ -1,7 +1,8 @@
-//! Tables of cases of the command `build`, each a script and what a run over it prints. A table is
-//! text. Its lines are empty, remarks behind `# `, or begin with one of these words and a space:
+//! Tables of cases of the commands `build` and `link`, each a script and what a run over it prints.
+//! A table is text. Its lines are empty, remarks behind `# `, or begin with one of these words and a space:
 //!
 //! - `case NAME` begins a case.
+//! - `command link` says that this command is run, and else `build`.
 //! - `script LINES` is what follows in the script. ` / ` stands between lines, as well as the end
 //!   of the line, so that an empty one at the end closes the script's last line. `\x` and two hex
 //!   digits are a byte.
@@ -25,6 +26,7 @@ pub(crate) mod expressions;
 pub(crate) mod headers;
 pub(crate) mod limits;
 pub(crate) mod lines;
+pub(crate) mod links;
 pub(crate) mod locations;
 pub(crate) mod ranges;
 pub(crate) mod references;

@@ -1,4 +1,5 @@
-//! Builds DWARF from a script, and lists it, or generates it, and tells how much it is.
+//! Builds DWARF from a script, one file or several that are linked, and lists it, or generates it,
+//! and tells how much it is.
 #![tactic(auto)]
 
 mod answer;
@@ -6,8 +7,10 @@ mod answer;
 mod case_tests;
 #[cfg(test)]
 mod cases;
+mod command;
 #[cfg(test)]
 mod generated_tests;
+mod link;
 mod make;
 #[cfg(test)]
 mod make_tests;

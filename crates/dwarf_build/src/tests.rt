@@ -32,7 +32,16 @@ pub(crate) fn owned(alloc: Global, words: &[&str]) -> Result<Vec<String>, AllocE
 
 /// The status and the text of `build` over a script.
 pub(crate) fn build(alloc: Global, script: &[u8]) -> Result<(u8, String), AllocError> {
-    let words = owned(alloc, &["build"])?;
+    run_over(alloc, "build", script)
+}
+
+/// The status and the text of a command over a script.
+pub(crate) fn run_over(
+    alloc: Global,
+    command: &str,
+    script: &[u8],
+) -> Result<(u8, String), AllocError> {
+    let words = owned(alloc, &[command])?;
     let mut sink = VecSink::new(alloc);
     let status = run(alloc, &words, &mut SliceSource::new(script), &mut sink);
     Ok((status, String::from_utf8_lossy(alloc, sink.slice())?))
@@ -53,13 +62,14 @@ pub(crate) fn told_of<'a>(listing: &'a str, section: &str) -> Option<&'a str> {
 /// The source fails at its first read, so it isn't read.
 #[test]
 fn tells_the_usage_without_reading(rt: HostRuntime) -> Result<(), Fail> {
-    let rows: [&[&str]; 9] = [
+    let rows: [&[&str]; 10] = [
         &[],
         &[""],
         &["build", "build"],
         &["", "build"],
         &["Build"],
-        &["link"],
+        &["Link"],
+        &["link", "link"],
         &["convert"],
         &["make"],
         &["make", "5", "5"],
