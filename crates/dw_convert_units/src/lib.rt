@@ -1,0 +1,4 @@
+//! The entries of units that were read, as what is written.
+#![tactic(auto)]
+
+mod attributes;
