@@ -1,3 +1,4 @@
 pub mod Plans
 pub mod Entries
 pub mod Placed
+pub mod Steps
