@@ -2,4 +2,7 @@
 #![tactic(auto)]
 
 mod attributes;
+mod entries;
 mod entry;
+
+pub use entries::convert_entries;
