@@ -6,3 +6,5 @@ mod Passing
 mod Walking
 mod Worked
 pub mod Ready
+mod Rooted
+mod UnitSteps

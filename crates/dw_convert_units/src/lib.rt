@@ -1,8 +1,13 @@
-//! The entries of units that were read, as what is written.
+//! Units that were read, as what is written.
 #![tactic(auto)]
 
 mod attributes;
 mod entries;
 mod entry;
+mod program;
+mod refs;
+mod unit;
+mod units;
 
 pub use entries::convert_entries;
+pub use units::convert_units;
