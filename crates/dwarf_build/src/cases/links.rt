@@ -191,6 +191,48 @@ status 0
 .debug_info 13000000 0500 01 08 00000000 01 09 03 ff1f000000000000
 .debug_info 0f000000 0500 01 08 08000000 01 05 9a 23000000
 
+# Below version 4 a place has the form of a number (DWARF 3, 7.5.4). Sets of a list each.
+case range lists of version 3 in three sets, big-endian in the 64-bit format
+command link
+script order big / unit 3 8 64 / range 0 ends 1 2 / set 0 0 DW_AT_ranges range_ref 0 / next
+script unit 3 8 64 / range 0 ends 1 2 / set 0 0 DW_AT_ranges range_ref 0 / next
+script unit 3 8 64 / range 0 ends 1 2 / set 0 0 DW_AT_ranges range_ref 0
+status 0
+order big
+.debug_abbrev 01 11 00 55 07 00 00 00 01 11 00 55 07 00 00 00 01 11 00 55 07 00 00 00
+.debug_ranges 0000000000000001 0000000000000002 0000000000000000 0000000000000000
+.debug_ranges 0000000000000001 0000000000000002 0000000000000000 0000000000000000
+.debug_ranges 0000000000000001 0000000000000002 0000000000000000 0000000000000000
+.debug_info ffffffff 0000000000000014 0003 0000000000000000 08 01 0000000000000000
+.debug_info ffffffff 0000000000000014 0003 0000000000000008 08 01 0000000000000020
+.debug_info ffffffff 0000000000000014 0003 0000000000000010 08 01 0000000000000040
+
+# 23 bytes a set: a pair, the length of the expression, DW_OP_addr, which is 03, and the end.
+case location lists of version 2 in three sets
+command link
+script unit 2 4 32 / loc 0 ends 1 2 [ addr sym:0:0 ] / set 0 0 DW_AT_location loc_ref 0 / next
+script unit 2 4 32 / loc 0 ends 1 2 [ addr sym:0:0 ] / set 0 0 DW_AT_location loc_ref 0 / next
+script unit 2 4 32 / loc 0 ends 1 2 [ addr sym:0:0 ] / set 0 0 DW_AT_location loc_ref 0
+script symbol 0 0x1000
+status 0
+.debug_abbrev 01 11 00 02 06 00 00 00 01 11 00 02 06 00 00 00 01 11 00 02 06 00 00 00
+.debug_loc 01000000 02000000 0500 03 00100000 00000000 00000000
+.debug_loc 01000000 02000000 0500 03 00100000 00000000 00000000
+.debug_loc 01000000 02000000 0500 03 00100000 00000000 00000000
+.debug_info 0c000000 0200 00000000 04 01 00000000 0c000000 0200 08000000 04 01 17000000
+.debug_info 0c000000 0200 10000000 04 01 2e000000
+
+case strings of version 4, big-endian in the 64-bit format
+command link
+script order big / str 61 / unit 4 4 64 / set 0 0 DW_AT_name str_ref 0 / next
+script str 62 / unit 4 4 64 / set 0 0 DW_AT_name str_ref 0
+status 0
+order big
+.debug_abbrev 01 11 00 03 0e 00 00 00 01 11 00 03 0e 00 00 00
+.debug_str 61 00 62 00
+.debug_info ffffffff 0000000000000014 0004 0000000000000000 04 01 0000000000000000
+.debug_info ffffffff 0000000000000014 0004 0000000000000008 04 01 0000000000000002
+
 # Symbols are those of all sets, wherever their lines stand.
 
 case symbols of all sets
@@ -254,6 +296,57 @@ status 0
 case an address below 0
 command link
 script symbol 0 5 / unit 4 4 32 / set 0 0 DW_AT_low_pc address sym:0:-6
+status 3
+text refused: ValueTooLarge
+
+# In version 2 a place has one byte where addresses have one. Four sets of 61 bytes stand before the
+# unit whose root is named: it is at 255.
+case the largest place of one byte
+command link
+script unit 4 1 64 / set 0 0 DW_AT_byte_size data8 0
+script set 0 0 DW_AT_name string 61616161616161616161616161616161616161616161616161616161
+script next
+script unit 4 1 64 / set 0 0 DW_AT_byte_size data8 0
+script set 0 0 DW_AT_name string 61616161616161616161616161616161616161616161616161616161
+script next
+script unit 4 1 64 / set 0 0 DW_AT_byte_size data8 0
+script set 0 0 DW_AT_name string 61616161616161616161616161616161616161616161616161616161
+script next
+script unit 4 1 64 / set 0 0 DW_AT_byte_size data8 0
+script set 0 0 DW_AT_name string 61616161616161616161616161616161616161616161616161616161
+script next
+script unit 2 1 32 / set 0 0 DW_AT_type info_ref 0:0
+status 0
+.debug_abbrev 01 11 00 0b 07 03 08 00 00 00
+.debug_abbrev 01 11 00 0b 07 03 08 00 00 00
+.debug_abbrev 01 11 00 0b 07 03 08 00 00 00
+.debug_abbrev 01 11 00 0b 07 03 08 00 00 00
+.debug_abbrev 01 11 00 49 10 00 00 00
+.debug_info ffffffff 3100000000000000 0400 0000000000000000 01 01
+.debug_info 0000000000000000 61616161616161616161616161616161616161616161616161616161 00
+.debug_info ffffffff 3100000000000000 0400 0a00000000000000 01 01
+.debug_info 0000000000000000 61616161616161616161616161616161616161616161616161616161 00
+.debug_info ffffffff 3100000000000000 0400 1400000000000000 01 01
+.debug_info 0000000000000000 61616161616161616161616161616161616161616161616161616161 00
+.debug_info ffffffff 3100000000000000 0400 1e00000000000000 01 01
+.debug_info 0000000000000000 61616161616161616161616161616161616161616161616161616161 00
+.debug_info 09000000 0200 28000000 01 01 ff
+
+case a place past one byte
+command link
+script unit 4 1 64 / set 0 0 DW_AT_byte_size data8 0
+script set 0 0 DW_AT_name string 6161616161616161616161616161616161616161616161616161616161
+script next
+script unit 4 1 64 / set 0 0 DW_AT_byte_size data8 0
+script set 0 0 DW_AT_name string 61616161616161616161616161616161616161616161616161616161
+script next
+script unit 4 1 64 / set 0 0 DW_AT_byte_size data8 0
+script set 0 0 DW_AT_name string 61616161616161616161616161616161616161616161616161616161
+script next
+script unit 4 1 64 / set 0 0 DW_AT_byte_size data8 0
+script set 0 0 DW_AT_name string 61616161616161616161616161616161616161616161616161616161
+script next
+script unit 2 1 32 / set 0 0 DW_AT_type info_ref 0:0
 status 3
 text refused: ValueTooLarge
 
@@ -415,5 +508,5 @@ script symbol 0 5
 status 2
 text line 1: unknown word
 
-end 48
+end 53
 ";
