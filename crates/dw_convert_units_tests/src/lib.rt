@@ -1,4 +1,4 @@
-//! The tests of `dw_convert_units`. They stand over the finished crate: beside its code they would
+//! The tests of conversions in `dw_dwarf`. They stand over the finished crate: beside its code they would
 //! have it proved a second time.
 #![tactic(auto)]
 

@@ -6,7 +6,7 @@ ghost use Rattle.dw_entries.specs.Entries.{new_root};
 use dw_base::constants::*;
 use dw_base::{DwAt, DwTag, Encoding, Format, LittleEndian, UnitEntryId};
 use dw_convert::NoConvertDebugInfoRef;
-use dw_convert_units::convert_entries;
+use dw_dwarf::convert_entries;
 use dw_entries::{Attribute, AttributeValue, DebuggingInformationEntry};
 use dw_entry_ids::number_units;
 use dw_line::LineProgram;

@@ -8,3 +8,13 @@ pub mod Complete
 pub mod OneUnit
 pub mod RestSections
 pub mod Left
+mod Setting
+mod Becoming
+mod Growing
+mod Planning
+mod Passing
+mod Walking
+mod Worked
+pub mod Ready
+mod Rooted
+mod UnitSteps

@@ -4,3 +4,13 @@ pub mod Lists
 pub mod Written
 pub mod LineNames
 pub mod Left
+pub mod Plans
+pub mod Placed
+pub mod ConvertedEntries
+pub mod ConvertSteps
+pub mod ConvertedPrograms
+pub mod ConvertedUnit
+pub mod EntryRefs
+pub mod NewUnits
+pub mod ConvertedUnits
+pub mod ConvertedDwarf

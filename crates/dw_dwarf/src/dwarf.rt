@@ -15,15 +15,17 @@ ghost use Rattle.dw_convert_lines.specs.EntryNames.{Tables};
 ghost use Rattle.dw_convert_lines.specs.HeaderImages.{IsWritable};
 ghost use Rattle.dw_convert_lines.specs.ReadPrograms.{ProgramOutcome};
 ghost use Rattle.dw_convert_lines.specs.Views.{texts_of, tables};
+ghost use Rattle.dw_dwarf.specs.ConvertedDwarf.{IsConverted, CannotConvert};
 ghost use Rattle.dw_dwarf.specs.DwarfValue.{dwarf_in};
 ghost use Rattle.dw_dwarf.specs.Left.{IsLeft};
 ghost use Rattle.dw_dwarf.specs.LineNames.{IsThere, bytes_of};
 ghost use Rattle.dw_dwarf.specs.Valid.{AreUnwritten, IsValid, IsValidAt, DwarfRefused, extra_fails, found_in};
 ghost use Rattle.dw_dwarf.specs.Written.{AreNewPlain, AreNew, HoldsDwarf, ResolvesTo, AddsLines, AddsStrings, KeepsOthers};
 
+use crate::convert::convert_units;
 use crate::line_string::line_string_bytes;
 use crate::rest::write_rest;
-use dw_base::{Encoding, LineEncoding, Result};
+use dw_base::{Address, Encoding, LineEncoding, Result};
 use dw_convert_lines::{ConvertLineProgram, read_line_program};
 use dw_read::Reader;
 use dw_read_lines::IncompleteLineProgram;
@@ -190,6 +192,46 @@ impl Dwarf {
         ensures { bytes_of self.now.line_strings self.now.strings string.now ≡ Some result.now }
     {
         line_string_bytes(string, &self.line_strings, &self.strings)
+    }
+
+    /// Converts a file that was read: all units of `.debug_info`, to its end, in their order, each
+    /// with its encoding, its line program (DWARF 5, 6.2), its entries (2.3) under the images of
+    /// their own parents, and the lists and the strings that these name. The root of each becomes a
+    /// `DW_TAG_compile_unit`. Attributes that tell where tables begin, as `DW_AT_addr_base`, and
+    /// `DW_AT_sibling` are dropped; an entry other than the root that had a sibling attribute is to
+    /// have one again. `convert_address` says what an address of the read file becomes.
+    ///
+    /// Refused as `Read` where something that is read can't be, as `InvalidAddress` where
+    /// `convert_address` answers `None`, as `InvalidUnitRef` or `InvalidDebugInfoRef` where no entry
+    /// begins at a place that is named, for each other cause for which a line program or a value
+    /// becomes nothing, and as `NoMemory`.
+    ///
+    /// ```
+    /// let constant = |address: u64| Some(Address::Constant(address));
+    /// let mut dwarf = Dwarf::from(alloc, &read, &constant)?;
+    /// dwarf.write(&mut sections)?;
+    /// ```
+    pub fn from<R: Reader, F: Fn(u64) -> Option<Address>>(
+        alloc: Global,
+        from_dwarf: &ReadDwarf<R>,
+        convert_address: &F,
+    ) -> ConvertResult<Dwarf>
+        requires { F.IsAlwaysCallable convert_address.now }
+        ensures ok { IfOk result (λ d. IsConverted R.reading (F.post convert_address.now)
+            from_dwarf.now (dwarf_in d)) }
+        ensures err { IfErr result (λ e. (e ≡ refused.NoMemory) ⊎ CannotConvert R.reading
+            (F.post convert_address.now) from_dwarf.now e) }
+    {
+        let mut dwarf = Dwarf::new(alloc);
+        convert_units(
+            alloc,
+            from_dwarf,
+            &mut dwarf.units,
+            &mut dwarf.strings,
+            &mut dwarf.line_strings,
+            convert_address,
+        )?;
+        Ok(dwarf)
     }
 
     /// Begins to convert a line program that was read, by its parameters, directories and files, so

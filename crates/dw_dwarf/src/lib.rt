@@ -2,11 +2,13 @@
 //! are all offered here, so that it names this crate alone.
 #![tactic(auto)]
 
+mod convert;
 mod dwarf;
 mod dwarf_unit;
 mod line_string;
 mod rest;
 
+pub use convert::{convert_entries, convert_units};
 pub use dw_base::{
     Address, BigEndian, DebugInfoRef, DirectoryId, DwAt, DwAte, DwForm, DwLang, DwTag, Encoding,
     Endianity, Error, FileId, Format, LineEncoding, LineStringId, LittleEndian, LocationListId,

@@ -5,7 +5,7 @@ use Rattle.dw_entry_ids.specs.Units.{AreNumbered, IsNumbered}
 use Rattle.dw_entry_ids.specs.declared.units.NumberedUnit.{NumberedUnit}
 use Rattle.dw_read.specs.Reading.{Reading}
 use Rattle.dw_read_units.specs.declared.dwarf.Dwarf.{Dwarf}
-use Rattle.dw_convert_units.proofs.Ready.{can_convert}
+use Rattle.dw_dwarf.proofs.Ready.{can_convert}
 use Rattle.dw_convert_units_tests.proofs.tests.converted.Goals as goal
 
 first_numbered : {R E : Type 0} (reading : R → Reading) (d : Dwarf R E) (xs : List (NumberedUnit R E)) (us : List ReadUnit) (x : NumberedUnit R E) → AreNumbered reading d xs us → Some x ≡ slice_get xs 0 → (u : ReadUnit) × IsNumbered reading d x u

@@ -1,7 +1,0 @@
-use Rattle.dw_convert_units.proofs.entry.convert_values.Goals as goal
-
-pub returns-clause-ok : goal.returns-clause-ok
-returns-clause-ok g c = rw (← c.unit.view_is, ← c.deref.ensures.value) c.convert_attributes.ensures.ok
-
-pub returns-clause-err : goal.returns-clause-err
-returns-clause-err g c = rw (← c.unit.view_is, ← c.deref.ensures.value) c.convert_attributes.ensures.err

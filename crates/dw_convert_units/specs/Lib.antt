@@ -1,9 +1,0 @@
-pub mod Converted
-pub mod ConvertedUnits
-pub mod Entries
-pub mod Placed
-pub mod Plans
-pub mod Programs
-pub mod Refs
-pub mod Steps
-pub mod Units
