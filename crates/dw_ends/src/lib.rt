@@ -14,7 +14,7 @@ mod sink;
 mod source;
 mod transfer;
 
-pub use digits::number;
+pub use digits::{digit_in_base, number};
 pub use hex_bytes::HexBytes;
 pub use line_error::LineError;
 pub use listing::listing_text;

@@ -1,8 +1,5 @@
-pub mod Limits
 pub mod Signed
-pub mod Places
 pub mod Cuts
-pub mod Digits
 pub mod Walks
 pub mod Steps
 pub mod Kept

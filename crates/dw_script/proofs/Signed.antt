@@ -5,8 +5,9 @@ use Rattle.std.specs.Prelude.{SomeIff}
 use Rattle.std.proofs.lemmas.Bool.{cases_lt}
 use Rattle.std.proofs.lemmas.Grind.{common_steps}
 use Rattle.std.proofs.lemmas.Int.{ints, fits_signed_from_abs}
-use Rattle.dw_script.proofs.Limits.{below_some, past-below}
-use Rattle.dw_script.specs.Numbers.{below, within_i64}
+use Rattle.dw_ends.proofs.Limits.{below_some, past-below}
+use Rattle.dw_ends.specs.Numbers.{below}
+use Rattle.dw_script.specs.Numbers.{within_i64}
 
 -- numbers from 0 on
 within-small : (n : ℕ) → n < 2 ^ 63 → within_i64 (pos n) ≡ Some (pos n)

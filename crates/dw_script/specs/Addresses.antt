@@ -6,7 +6,8 @@ use Rattle.dw_base.specs.declared.address.Address.{Address}
 use Rattle.dw_base.specs.declared.address.Address.TheVariants as address
 use Rattle.dw_base.specs.declared.address.DebugInfoRef.{DebugInfoRef as InfoRef}
 use Rattle.dw_base.specs.declared.address.DebugInfoRef.TheVariants as reference
-use Rattle.dw_script.specs.Numbers.{number_below, signed_number}
+use Rattle.dw_ends.specs.Numbers.{number_below}
+use Rattle.dw_script.specs.Numbers.{signed_number}
 use Rattle.dw_script.specs.Pieces.{colon, pieces}
 
 -- the address of a symbol plus an addend, each a part of its own

@@ -4,7 +4,7 @@ use Rattle.std.specs.Map.{lookup}
 use Rattle.dw_ends.specs.declared.reason.Reason.TheVariants.{UnknownWord, BadNumber}
 use Rattle.dw_script.specs.Fields.{Outcome}
 use Rattle.dw_script.specs.Names.{tag_names, attribute_names, opcode_names}
-use Rattle.dw_script.specs.Numbers.{number_below}
+use Rattle.dw_ends.specs.Numbers.{number_below}
 
 -- the first byte is one of `0` to `9`
 abbrev pub begins_with_digit : List ℕ → Bool

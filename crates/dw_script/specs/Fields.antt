@@ -10,8 +10,9 @@ use Rattle.dw_ends.specs.declared.reason.Reason.{Reason}
 use Rattle.dw_ends.specs.declared.reason.Reason.TheVariants.{UnknownWord, BadNumber, BadHex, WrongFields}
 use Rattle.dw_script.specs.declared.word.Word.{Word}
 use Rattle.dw_script.specs.Addresses.{address_of, address_or_none, reference_of}
-use Rattle.dw_script.specs.Bytes.{hex_bytes}
-use Rattle.dw_script.specs.Numbers.{index_or_none, number_below, signed_number, target_or_none}
+use Rattle.dw_ends.specs.Bytes.{hex_bytes}
+use Rattle.dw_ends.specs.Numbers.{number_below}
+use Rattle.dw_script.specs.Numbers.{index_or_none, signed_number, target_or_none}
 use Rattle.dw_script.specs.Words.{word_of}
 
 -- the fields of a line from some place on

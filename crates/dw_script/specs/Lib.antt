@@ -1,7 +1,6 @@
 pub mod Pieces
 pub mod Numbers
 pub mod Addresses
-pub mod Bytes
 pub mod Words
 pub mod Kinds
 pub mod Names

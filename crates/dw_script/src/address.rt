@@ -4,9 +4,10 @@ ghost use Rattle.std.specs.Prelude.{◌≡◌};
 ghost use Rattle.dw_script.specs.Addresses.{address_of, address_or_none, symbol_address, reference_of, entry_reference};
 ghost use Rattle.dw_script.specs.Pieces.{pieces_left};
 
-use crate::number::{parse_i64, parse_u64, parse_usize};
+use crate::number::{parse_i64, parse_usize};
 use crate::pieces::Pieces;
 use dw_base::{Address, DebugInfoRef, UnitEntryId, UnitId};
+use dw_ends::number;
 
 /// The address that a field spells.
 pub(crate) fn parse_address(field: &[u8]) -> Option<Address>
@@ -14,7 +15,7 @@ pub(crate) fn parse_address(field: &[u8]) -> Option<Address>
 {
     match field {
         [b's', b'y', b'm', b':', parts @ ..] => parse_symbol(Pieces::new(parts, b':')),
-        _ => Some(Address::Constant(parse_u64(field)?)),
+        _ => Some(Address::Constant(number(field)?)),
     }
 }
 

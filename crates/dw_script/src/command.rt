@@ -1,11 +1,11 @@
 //! What a line of a script asks for.
 
 use crate::change::Change;
-use crate::hex_bytes::HexBytes;
 use crate::line_change::LineChange;
 use crate::location_list::LocationFields;
 use crate::range_list::RangeFields;
 use dw_base::{Encoding, RunTimeEndian};
+use dw_ends::HexBytes;
 
 /// One line's request.
 #[derive(Debug, Drop)]

@@ -12,19 +12,18 @@ ghost use Rattle.dw_script.specs.Values.{attribute_field, kind_field, tag_field}
 
 use crate::address::{parse_address, parse_address_or_none, parse_reference};
 use crate::code::{parse_attribute, parse_opcode, parse_tag};
-use crate::hex_bytes::HexBytes;
 use crate::kind::Kind;
 use crate::location_word::LocationWord;
 use crate::number::{
-    parse_i64, parse_index_or_none, parse_target, parse_u8, parse_u16, parse_u32, parse_u64,
-    parse_u128, parse_usize,
+    parse_i64, parse_index_or_none, parse_target, parse_u8, parse_u16, parse_u32, parse_u128,
+    parse_usize,
 };
 use crate::operation_word::StepWord;
 use crate::pieces::Pieces;
 use crate::range_word::RangeWord;
 use crate::word::Word;
 use dw_base::{Address, DebugInfoRef, DwAt, DwOp, DwTag, Format, RunTimeEndian};
-use dw_ends::Reason;
+use dw_ends::{HexBytes, Reason, number};
 
 /// How many expressions may be open at once, one within the other.
 pub(crate) const MOST_OPEN: usize = 64;
@@ -59,7 +58,7 @@ pub(crate) fn next_u64(fields: &mut Pieces<'_>) -> Result<u64, Reason>
     ensures { with_rest result (pieces_left fields.new) ≡
         number_field (2 ^ 64) (pieces_left fields.old) }
 {
-    parse_u64(next_field(fields)?).ok_or(Reason::BadNumber)
+    number(next_field(fields)?).ok_or(Reason::BadNumber)
 }
 
 /// A place: a number below 2^64.

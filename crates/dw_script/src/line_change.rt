@@ -1,7 +1,7 @@
 //! What a line of a script asks of one unit's line program.
 
-use crate::hex_bytes::HexBytes;
 use dw_base::Address;
+use dw_ends::HexBytes;
 
 /// A change of a unit's line program (DWARF 5, 6.2). Offsets are counted in bytes from the address
 /// of their sequence.

@@ -9,11 +9,10 @@ use crate::field::{
     next_address, next_hex_bytes, next_i64, next_index_or_none, next_opcode, next_reference,
     next_target, next_u8, next_u16, next_u32, next_u64, next_usize,
 };
-use crate::hex_bytes::HexBytes;
 use crate::operation_word::{OperationWord, PairWord};
 use crate::pieces::Pieces;
 use dw_base::{Address, DebugInfoRef, DwOp, Register};
-use dw_ends::Reason;
+use dw_ends::{HexBytes, Reason};
 
 /// An operation of an expression (DWARF 5, 2.5 and 2.6). Entries are named by their index in the
 /// unit, and branches lead to the operation of an index, counted from 0 in the expression that

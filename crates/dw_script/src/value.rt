@@ -10,7 +10,6 @@ use crate::field::{
     next_address, next_flag, next_hex_bytes, next_i64, next_index_or_none, next_kind,
     next_reference, next_u8, next_u16, next_u32, next_u64, next_u128, next_usize,
 };
-use crate::hex_bytes::HexBytes;
 use crate::kind::{ConstantKind, Kind};
 use crate::pieces::Pieces;
 use dw_base::{
@@ -18,7 +17,7 @@ use dw_base::{
     DebugTypeSignature, DwAccess, DwAddr, DwAte, DwCc, DwDs, DwEnd, DwId, DwInl, DwLang, DwOrd,
     DwVirtuality, DwVis,
 };
-use dw_ends::Reason;
+use dw_ends::{HexBytes, Reason};
 
 /// A value that a line gives an attribute; sections of the standard are DWARF 5's. A word of the
 /// format has 4 bytes, and in the 64-bit format 8. Each number from `Encoding` on is spelled in

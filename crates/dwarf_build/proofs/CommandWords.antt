@@ -3,7 +3,7 @@ use Rattle.std.proofs.Common.{◌≡◌, sym, ap, refl, ℕ, ◌+◌, ◌<◌, �
 use Rattle.std.specs.Prelude.{Option, Some, None, codes, nat_lt, string_bytes, bytes_eq, if◌then◌else◌}
 use Rattle.std.specs.Option.{option_and_then}
 use Rattle.std.proofs.lemmas.Bool.{ltb-true}
-use Rattle.dw_script.specs.Numbers.{below, number_of, number_below}
+use Rattle.dw_ends.specs.Numbers.{below, number_of, number_below}
 use Rattle.dwarf_build.specs.Answers.{made_of, most_variables}
 
 -- words that are one

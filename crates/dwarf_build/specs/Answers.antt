@@ -8,7 +8,7 @@ use Rattle.dw_dwarf.specs.Written.{SectionTexts, AreTextsOf, one_order}
 use Rattle.dw_base.specs.Faults.{HasRisen}
 use Rattle.dw_ends.specs.Ends.{Input, Intake, used_up, with_after, TakesPrefix}
 use Rattle.dw_ends.specs.Sections.{sections_of}
-use Rattle.dw_script.specs.Numbers.{number_below}
+use Rattle.dw_ends.specs.Numbers.{number_below}
 use Rattle.dwarf_build.specs.Generated.{generated}
 use Rattle.dw_build.specs.Script.{script}
 use Rattle.dw_build.specs.Sets.{sets}

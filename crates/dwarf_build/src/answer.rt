@@ -2,7 +2,7 @@
 
 ghost use Rattle.std.specs.Prelude.{◌≡◌, ◌≢◌, ◌+◌, ◌≤◌, length, map, IfOk, IfErr, IfSome, string_bytes};
 ghost use Rattle.dw_base.specs.declared.error.Error.TheVariants.{NoMemory};
-ghost use Rattle.dw_script.specs.Numbers.{number_below};
+ghost use Rattle.dw_ends.specs.Numbers.{number_below};
 ghost use Rattle.dwarf_build.specs.Answers.{LeavesUnread, Says, SaysOf, SaysOfBytes, SaysOfInput, SaysMade, Reads, ReadsInput, StopsFor, StopsReading, made_of, most_variables};
 ghost use Rattle.dw_build.specs.Script.{AreOpen};
 ghost use Rattle.dw_build.specs.ScriptValue.{script_in};

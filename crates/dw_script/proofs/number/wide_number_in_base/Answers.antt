@@ -1,8 +1,8 @@
 -- Each digit moves what is left one place on, and a value that overflows stays past the limit.
 use Rattle.std.proofs.Common.{◌≡◌, ◌∙◌, ◌^◌, ◌≤◌, ◌+◌, ◌*◌, drop, Some, rules, arith, sym}
-use Rattle.dw_script.specs.Numbers.{number_in}
-use Rattle.dw_script.proofs.Limits.{below-within}
-use Rattle.dw_script.proofs.Places.{read_on-drop_all, number_in_step, below-read_on}
+use Rattle.dw_ends.specs.Numbers.{number_in}
+use Rattle.dw_ends.proofs.Limits.{below-within}
+use Rattle.dw_ends.proofs.Places.{read_on-drop_all, number_in_step, below-read_on}
 use Rattle.dw_script.proofs.number.wide_number_in_base.Goals as goal
 
 pub returns-in_err-checked_mul : goal.returns-in_err-checked_mul

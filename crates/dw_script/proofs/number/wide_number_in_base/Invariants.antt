@@ -1,7 +1,7 @@
 -- The digits that are left, read on from the value so far, spell what all of them do.
 use Rattle.std.proofs.Common.{◌≡◌, ◌<◌, ◌^◌, drop}
-use Rattle.dw_script.proofs.Places.{read_on}
-use Rattle.dw_script.specs.Numbers.{number_in}
+use Rattle.dw_ends.proofs.Places.{read_on}
+use Rattle.dw_ends.specs.Numbers.{number_in}
 use Rattle.dw_script.proofs.number.wide_number_in_base.Given as goal
 
 abbrev pub invariant-loop-byte : goal.invariant-loop-byte
