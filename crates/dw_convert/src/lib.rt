@@ -1,5 +1,5 @@
-//! Converts what was read into what is written: expressions, range lists and location lists, and the
-//! values of attributes.
+//! Converts what was read into what is written: expressions, range lists and location lists, and
+//! the values of attributes.
 #![tactic(auto)]
 
 mod address;

@@ -46,7 +46,8 @@ const CASES: &[Case] = &[
     // A structure with a member in a namespace, both of which are closed before the variable; then
     // a namespace that is empty, and another variable.
     (
-        b"\x01\x2aa\x00\x02\x1fn\x00\x03s\x00\x08t\x00\x04m\x00\x00\x00\x05\x07\x02\x2be\x00\x00\x05\x09\x00",
+        b"\x01\x2aa\x00\x02\x1fn\x00\x03s\x00\x08t\x00\x04m\x00\x00\x00\
+\x05\x07\x02\x2be\x00\x00\x05\x09\x00",
         &[
             (
                 None,

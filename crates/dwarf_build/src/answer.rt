@@ -168,7 +168,8 @@ fn answer_make(alloc: Global, count: u64) -> Result<Answer, Error>
 fn answer_input<S: Source>(alloc: Global, reading: Reading, source: &mut S) -> Result<Answer, Stop>
     ensures ok { IfOk result (λ a.
         SaysOfInput reading (S.input source.old).left a.status a.text.items) }
-    ensures reads { IfOk result (λ a. ReadsInput (S.input source.old) (S.input source.new) a.status) }
+    ensures reads { IfOk result (λ a.
+        ReadsInput (S.input source.old) (S.input source.new) a.status) }
     ensures err { IfErr result (StopsReading (S.input source.old) (S.input source.new)) }
     ensures faults { (S.input source.old).faults ≤ (S.input source.new).faults }
 {

@@ -1,5 +1,6 @@
 //! Tables of cases of the commands `build` and `link`, each a script and what a run over it prints.
-//! A table is text. Its lines are empty, remarks behind `# `, or begin with one of these words and a space:
+//! A table is text. Its lines are empty, remarks behind `# `, or begin with one of these words and
+//! a space:
 //!
 //! - `case NAME` begins a case.
 //! - `command link` says that this command is run, and else `build`.

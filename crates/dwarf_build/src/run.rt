@@ -25,9 +25,9 @@ fn print<K: Sink>(answer: &Answer, sink: &mut K) -> Status
 
 /// Does what the words ask for with the source's bytes, prints to the sink, and answers the exit
 /// status: 0 a listing or a summary, 1 words that are no command, 2 a script that is refused, 3
-/// DWARF that can't be written or linked, 4 a source that failed, 5 a sink that failed, 6 want of memory, 7
-/// more input than 16,777,216 bytes. The input is read whole first; then it is parsed, written and
-/// printed.
+/// DWARF that can't be written or linked, 4 a source that failed, 5 a sink that failed, 6 want of
+/// memory, 7 more input than 16,777,216 bytes. The input is read whole first; then it is parsed,
+/// written and printed.
 pub fn run<S: Source, K: Sink>(
     alloc: Global,
     words: &Vec<String>,

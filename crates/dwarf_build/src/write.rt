@@ -50,7 +50,8 @@ pub(crate) fn write_sets(
         AreLeft ⟦<RelocVec<RunTimeEndian> as Writer>⟧.meaning (is_big_of endian) sets.items
         (map dwarf_in dwarfs.items)) }
     ensures parts { IfOk result (λ sets.
-        AreSets (is_big_of endian) (sets_of ⟦<RelocVec<RunTimeEndian> as Writer>⟧.meaning sets.items)
+        AreSets (is_big_of endian)
+        (sets_of ⟦<RelocVec<RunTimeEndian> as Writer>⟧.meaning sets.items)
         (map dwarf_in dwarfs.items)) }
     ensures err { IfErr result (λ e. e ≢ NoMemory → IsFirstSetFault (map dwarf_in dwarfs.items) e) }
 {
