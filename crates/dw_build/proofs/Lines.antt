@@ -1,7 +1,7 @@
 -- A script's lines, one more at a time.
 use Rattle.std.proofs.Common.{◌≡◌, ◌∙◌, sym, ap, ℕ, ◌+◌, List, ◌∷◌}
 use Rattle.std.specs.Prelude.{Result, Ok, Err, IfOk}
-use Rattle.dw_script.specs.Pieces.{newline, pieces}
+use Rattle.dw_ends.specs.Pieces.{newline, pieces}
 use Rattle.dw_build.specs.Script.{RefusedAt, RefusedWhole, after_each, after_line, after_lines}
 use Rattle.dw_build.specs.ScriptValue.{ScriptValue}
 use Rattle.dw_build.specs.Sets.{after_link_line, ended, sets}

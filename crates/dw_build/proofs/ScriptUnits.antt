@@ -6,8 +6,8 @@ use Rattle.std.proofs.lemmas.List.Elements.{All-set, All-append}
 use Rattle.std.proofs.lemmas.Option.{slice_get_within, get_or_from_slice_get}
 use Rattle.dw_base.specs.declared.common.Encoding.{Encoding}
 use Rattle.dw_script.specs.Lines.{parsed_line}
-use Rattle.dw_script.specs.Pieces.{newline, pieces}
-use Rattle.dw_script.specs.Fields.{Outcome, ◌>>=◌}
+use Rattle.dw_ends.specs.Pieces.{newline, pieces}
+use Rattle.dw_ends.specs.Fields.{Outcome, ◌>>=◌}
 use Rattle.dw_script.specs.declared.command.Command.{Command}
 use Rattle.dw_script.specs.declared.command.Command.TheVariants.{Order, Unit as AddUnit, String as AddString, LineString as AddLineString, Change as ChangeUnit, Line as ChangeLines, RangeList as AddRanges, LocationList as AddLocations}
 use Rattle.dw_script.specs.declared.change.Change.{Change}

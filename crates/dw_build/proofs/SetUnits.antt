@@ -4,9 +4,9 @@ use Rattle.std.specs.Prelude.{Result, Ok, Err, IfOk, Option, Some, None, ◌==�
 use Rattle.std.proofs.lemmas.List.Elements.{All-append}
 use Rattle.dw_dwarf.specs.DwarfValue.{DwarfValue}
 use Rattle.dw_ends.specs.declared.reason.Reason.TheVariants.{BadSymbol}
-use Rattle.dw_script.specs.Fields.{Outcome, ◌>>=◌}
+use Rattle.dw_ends.specs.Fields.{Outcome, ◌>>=◌}
 use Rattle.dw_script.specs.LinkLines.{parsed_link_line}
-use Rattle.dw_script.specs.Pieces.{newline, pieces}
+use Rattle.dw_ends.specs.Pieces.{newline, pieces}
 use Rattle.dw_script.specs.declared.link_command.LinkCommand.{LinkCommand}
 use Rattle.dw_script.specs.declared.link_command.LinkCommand.TheVariants.{Next, Symbol, Script}
 use Rattle.dw_build.specs.Script.{AreOpen, after_command, after_each}

@@ -6,7 +6,7 @@ use Rattle.dw_line.specs.LinePrograms.{LineProgramValue, usual_line_encoding, en
 use Rattle.dw_line.specs.LineRows.{first_line_row}
 use Rattle.dw_line.specs.ProgramTexts.{with_directory, with_file, with_end}
 use Rattle.dw_line.specs.declared.line_string.LineString.{LineString}
-use Rattle.dw_script.specs.Fields.{Outcome, ◌>>=◌}
+use Rattle.dw_ends.specs.Fields.{Outcome, ◌>>=◌}
 use Rattle.dw_script.specs.declared.line_change.LineChange.{LineChange}
 use Rattle.dw_script.specs.declared.line_change.LineChange.TheVariants as change
 use Rattle.dw_script.specs.declared.line_change.LineText.{LineText}

@@ -4,7 +4,7 @@ use Rattle.dw_lists.specs.EqualLocations.{locations_eq}
 use Rattle.dw_lists.specs.Lists.{with_list}
 use Rattle.dw_lists.specs.declared.location.Location.{Location}
 use Rattle.dw_lists.specs.declared.location.Location.TheVariants as stored
-use Rattle.dw_script.specs.Fields.{Outcome}
+use Rattle.dw_ends.specs.Fields.{Outcome}
 use Rattle.dw_script.specs.declared.location.ScriptLocation.{ScriptLocation}
 use Rattle.dw_script.specs.declared.location.ScriptLocation.TheVariants as location
 use Rattle.dw_unit.specs.UnitValue.{UnitValue}

@@ -3,7 +3,7 @@ use Rattle.std.specs.Prelude.{ℕ, Bool, false, nat_le, List, [], Ok, Err, if◌
 use Rattle.dw_entries.specs.Content.{has_zero}
 use Rattle.dw_line.specs.declared.line_string.LineString.{LineString}
 use Rattle.dw_line.specs.declared.line_string.LineString.TheVariants as stored
-use Rattle.dw_script.specs.Fields.{Outcome, ◌>>=◌}
+use Rattle.dw_ends.specs.Fields.{Outcome, ◌>>=◌}
 use Rattle.dw_script.specs.declared.line_change.LineText.{LineText}
 use Rattle.dw_script.specs.declared.line_change.LineText.TheVariants as text
 use Rattle.dw_ends.specs.declared.reason.Reason.TheVariants.{ZeroByte, EmptyName}

@@ -4,7 +4,7 @@ use Rattle.dw_lists.specs.Equal.{list_eq}
 use Rattle.dw_lists.specs.Lists.{with_list}
 use Rattle.dw_lists.specs.declared.range.Range.{Range}
 use Rattle.dw_lists.specs.declared.range.Range.TheVariants as stored
-use Rattle.dw_script.specs.Fields.{Outcome}
+use Rattle.dw_ends.specs.Fields.{Outcome}
 use Rattle.dw_script.specs.declared.range.ScriptRange.{ScriptRange}
 use Rattle.dw_script.specs.declared.range.ScriptRange.TheVariants as range
 use Rattle.dw_unit.specs.UnitValue.{UnitValue}

@@ -1,9 +1,9 @@
 -- What a script builds: each line does what it says to what the lines before it built.
 use Rattle.std.specs.Prelude.{◌≡◌, ℕ, ◌+◌, List, [], ◌∷◌, ◌++◌, length, Option, Some, None, Result, Ok, Err, ok_or, true, false, not, nat_lt, ◌==◌, if◌then◌else◌, slice_get, slice_set, All}
 use Rattle.std.specs.Option.{option_map}
-use Rattle.dw_script.specs.Fields.{Outcome, ◌>>=◌}
+use Rattle.dw_ends.specs.Fields.{Outcome, ◌>>=◌}
 use Rattle.dw_script.specs.Lines.{parsed_line}
-use Rattle.dw_script.specs.Pieces.{newline, pieces}
+use Rattle.dw_ends.specs.Pieces.{newline, pieces}
 use Rattle.dw_script.specs.declared.command.Command.{Command}
 use Rattle.dw_script.specs.declared.command.Command.TheVariants.{Order, Unit as AddUnit, String as AddString, LineString as AddLineString, Change as ChangeUnit, Line as ChangeLines, RangeList as AddRanges, LocationList as AddLocations}
 use Rattle.dw_script.specs.declared.change.Change.{Change}

@@ -1,9 +1,9 @@
 -- What a script of the command `link` builds: sets, one behind another, and symbols.
 use Rattle.std.specs.Prelude.{ℕ, ◌==◌, true, List, [], ◌∷◌, ◌++◌, length, Option, Some, None, Result, Ok, Err, if◌then◌else◌}
 use Rattle.dw_ends.specs.declared.reason.Reason.TheVariants.{BadSymbol}
-use Rattle.dw_script.specs.Fields.{Outcome, ◌>>=◌}
+use Rattle.dw_ends.specs.Fields.{Outcome, ◌>>=◌}
 use Rattle.dw_script.specs.LinkLines.{parsed_link_line}
-use Rattle.dw_script.specs.Pieces.{newline, pieces}
+use Rattle.dw_ends.specs.Pieces.{newline, pieces}
 use Rattle.dw_script.specs.declared.link_command.LinkCommand.{LinkCommand}
 use Rattle.dw_script.specs.declared.link_command.LinkCommand.TheVariants.{Next, Symbol, Script}
 use Rattle.dw_build.specs.Script.{after_command, after_each}

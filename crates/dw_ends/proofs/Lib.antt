@@ -3,7 +3,7 @@ pub mod Moves
 pub mod Limits
 pub mod Places
 pub mod HexDigits
-mod Cuts
+pub mod Cuts
 mod Visible
 mod Decimals
 mod HexWords

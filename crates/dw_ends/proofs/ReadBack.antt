@@ -11,9 +11,10 @@ use Rattle.dw_writer.specs.Contents.{Meaning}
 use Rattle.dw_writer.specs.Sections.{EachWriter}
 use Rattle.dw_writer.specs.declared.sections.Sections.{Sections}
 use Rattle.dw_ends.specs.declared.line.Line.TheVariants.{Section}
-use Rattle.dw_ends.specs.Fields.{Outcome, fields_of}
-use Rattle.dw_ends.specs.Lines.{line_of, parsed_line, passed_over, place_of}
+use Rattle.dw_ends.specs.Fields.{Outcome, passed_over}
+use Rattle.dw_ends.specs.Lines.{line_of, parsed_line, place_of}
 use Rattle.dw_ends.specs.Listing.{AreBytes, Lists, hex_word, listing_of, order_line, order_named, read_of, section_line, told}
+use Rattle.dw_ends.specs.Pieces.{pieces, space}
 use Rattle.dw_ends.specs.Sections.{ListingValue, after_line, after_lines, empty_listing, sections_of, with_order, with_section}
 use Rattle.dw_ends.proofs.Decimals.{decimal_read, decimal_visible}
 use Rattle.dw_ends.proofs.HexWords.{hex_read, hex_visible}
@@ -57,7 +58,7 @@ abbrev after_name : List ℕ → List (List ℕ)
 after_name [] = decimal 0 ∷ []
 after_name (b ∷ bytes) = decimal (length (b ∷ bytes)) ∷ encode_lower (b ∷ bytes) ∷ []
 
-number_fields : (bytes : List ℕ) → AreBytes bytes → fields_of (decimal (length bytes) ++ hex_word bytes) ≡ after_name bytes
+number_fields : (bytes : List ℕ) → AreBytes bytes → pieces space (decimal (length bytes) ++ hex_word bytes) ≡ after_name bytes
 number_fields [] are =
     rw (append-nil (decimal 0)) (slice_split_none (λ b. b == 32) (decimal 0) (no_space (decimal 0) (decimal_visible 0 are.0)))
 number_fields (b ∷ bytes) are =
@@ -67,8 +68,8 @@ number_fields (b ∷ bytes) are =
     let last = slice_split_none (λ b. b == 32) digits (no_space digits (hex_visible (b ∷ bytes) are.1)) in
     cut ∙ ap (λ fields. number ∷ fields) last
 
-line_fields : (name bytes : List ℕ) → All IsVisible name → AreBytes bytes → fields_of (line_text name bytes) ≡ name ∷ after_name bytes
-line_fields name bytes visible are =
+cut_fields : (name bytes : List ℕ) → All IsVisible name → AreBytes bytes → pieces space (line_text name bytes) ≡ name ∷ after_name bytes
+cut_fields name bytes visible are =
     slice_split_at (λ b. b == 32) name 32 (decimal (length bytes) ++ hex_word bytes) (no_space name visible) refl
     ∙ ap (λ fields. name ∷ fields) (number_fields bytes are)
 
@@ -84,7 +85,7 @@ line_said name bytes place is are =
     let visible = tested name is.visible in
     let begins = begins_line name (32 ∷ (decimal (length bytes) ++ hex_word bytes)) is.begins in
     let passes = all_pass (line_text name bytes) (line_printable name bytes visible are) in
-    rw (begins, passes, line_fields name bytes visible are, fields_said name bytes place is are) refl
+    rw (begins, passes, cut_fields name bytes visible are, fields_said name bytes place is are) refl
 
 same_length : (n : ℕ) → (n == n) ≡ true
 same_length n = grind (arith, nat_tests)

@@ -4,7 +4,7 @@ use Rattle.std.specs.List.{All, list_all}
 use Rattle.std.proofs.lemmas.Bool.Decides.{nat_tests}
 use Rattle.std.proofs.lemmas.Grind.{common_steps}
 use Rattle.std.proofs.lemmas.List.Sums.{AllPass-from_list_all, list_all-from_AllPass}
-use Rattle.dw_ends.specs.Lines.{all_printable}
+use Rattle.dw_ends.specs.Fields.{all_printable}
 
 -- printable, and no space
 abbrev pub IsVisible : ℕ → Type 0

@@ -1,31 +1,17 @@
 -- The fields of a line, each read from the front of those that are left.
-use Rattle.std.specs.Prelude.{ℕ, ◌^◌, List, [], ◌∷◌, Option, Some, None, Result, Ok, Err, ok_or, ◌==◌, if◌then◌else◌, bytes_eq, codes}
-use Rattle.std.specs.Borrow.{Bor}
-use Rattle.std.specs.List.{slice_split}
+use Rattle.std.specs.Prelude.{ℕ, Bool, true, ◌&&◌, List, [], ◌∷◌, Option, Some, None, Result, Ok, Err, ok_or, nat_le, ◌==◌, if◌then◌else◌, bytes_eq, codes}
+use Rattle.std.specs.List.{list_all}
 use Rattle.dw_base.specs.declared.endianity.RunTimeEndian.{RunTimeEndian}
 use Rattle.dw_base.specs.declared.endianity.RunTimeEndian.TheVariants.{Little, Big}
-use Rattle.dw_ends.specs.declared.fields.Fields.{Fields as FieldsLeft}
 use Rattle.dw_ends.specs.declared.reason.Reason.{Reason}
-use Rattle.dw_ends.specs.declared.reason.Reason.TheVariants.{UnknownWord, BadNumber, BadHex, WrongFields}
+use Rattle.dw_ends.specs.declared.reason.Reason.TheVariants.{BadByte, UnknownWord, BadNumber, BadHex, WrongFields}
 use Rattle.dw_ends.specs.Bytes.{hex_bytes}
 use Rattle.dw_ends.specs.Numbers.{number_below}
+use Rattle.dw_ends.specs.Pieces.{pieces, space}
 
 -- the fields of a line from some place on
 abbrev pub Fields : Type 0
 Fields = List (List ℕ)
-
--- the fields of some bytes, cut at each space, which is 32; without a space the one field is the whole
-abbrev pub fields_of : List ℕ → Fields
-fields_of bytes = slice_split (λ b. b == 32) bytes
-
--- the fields of the bytes after a space, where there was one
-abbrev pub fields_after : Option (Bor (List ℕ)) → Fields
-fields_after None = []
-fields_after (Some rest) = fields_of rest.now
-
--- the fields that are still to come
-unfoldable pub fields_left : FieldsLeft → Fields
-fields_left f = fields_after f.rest
 
 -- a value, or the reason that there is none
 abbrev pub Outcome : Type 0 → Type 0
@@ -42,6 +28,26 @@ abbrev pub with_rest : {T : Type 0} → Outcome T → Fields → Outcome (T × F
 with_rest (Ok x) rest = Ok (x, rest)
 with_rest (Err reason) rest = Err reason
 
+-- an empty line, and one that begins with `#`, which is 35, says nothing
+abbrev pub passed_over : List ℕ → Bool
+passed_over [] = true
+passed_over (first ∷ _) = first == 35
+
+-- each byte is printable ASCII
+abbrev pub all_printable : List ℕ → Bool
+all_printable line = list_all (λ b. nat_le 32 b && nat_le b 126) line
+
+-- the fields of a line, if it isn't passed over; its bytes are looked at before them
+abbrev pub line_fields : List ℕ → Outcome (Option Fields)
+line_fields line =
+    if passed_over line then Ok None
+    else (if all_printable line then Ok (Some (pieces space line)) else Err BadByte)
+
+-- what the fields of a line say, if it has any
+abbrev pub said_by : {T : Type 0} → (Fields → Outcome T) → Option Fields → Outcome (Option T)
+said_by saying None = Ok None
+said_by saying (Some fields) = saying fields >>= λ said. Ok (Some said)
+
 -- the first field, and the fields after it
 abbrev pub next_field : Fields → Outcome (List ℕ × Fields)
 next_field [] = Err WrongFields
@@ -52,11 +58,11 @@ abbrev pub end_of_fields : Fields → Outcome (Unit {0})
 end_of_fields [] = Ok tt
 end_of_fields (_ ∷ _) = Err WrongFields
 
--- a number below 2^64, and the fields after it
-abbrev pub number_field : Fields → Outcome (ℕ × Fields)
-number_field fields = do
+-- a number below the limit, and the fields after it
+abbrev pub number_field : ℕ → Fields → Outcome (ℕ × Fields)
+number_field limit fields = do
   (field, fields) ← next_field fields
-  n ← ok_or (number_below (2 ^ 64) field) BadNumber
+  n ← ok_or (number_below limit field) BadNumber
   Ok (n, fields)
 
 -- a byte order, and the fields after it

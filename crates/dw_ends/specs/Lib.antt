@@ -3,6 +3,7 @@ pub mod Insides
 pub mod Numbers
 pub mod Bytes
 pub mod Reasons
+pub mod Pieces
 pub mod Fields
 pub mod Lines
 pub mod Sections

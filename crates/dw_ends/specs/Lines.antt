@@ -1,22 +1,12 @@
 -- What a line of a listing says, or why it is refused.
-use Rattle.std.specs.Prelude.{ℕ, ◌<◌, Bool, true, ◌&&◌, List, [], ◌∷◌, Option, Some, None, Ok, Err, ok_or, nat_le, ◌==◌, if◌then◌else◌, bytes_eq, codes, position}
-use Rattle.std.specs.List.{list_all}
+use Rattle.std.specs.Prelude.{ℕ, ◌^◌, ◌<◌, List, [], ◌∷◌, Option, Ok, Err, ok_or, ◌==◌, if◌then◌else◌, bytes_eq, codes, position}
 use Rattle.dw_base.specs.SectionName.{section_name}
 use Rattle.dw_base.specs.declared.section_id.SectionId.{SectionId}
 use Rattle.dw_base.specs.declared.section_id.SectionId.TheVariants.{DebugAbbrev, DebugStr, DebugLineStr, DebugLine, DebugRanges, DebugRngLists, DebugLoc, DebugLocLists, DebugInfo, DebugFrame, EhFrame, DebugAddr, DebugStrOffsets}
 use Rattle.dw_ends.specs.declared.line.Line.{Line}
 use Rattle.dw_ends.specs.declared.line.Line.TheVariants.{Order, Section}
-use Rattle.dw_ends.specs.declared.reason.Reason.TheVariants.{BadByte, UnknownWord}
-use Rattle.dw_ends.specs.Fields.{Fields, Outcome, ◌>>=◌, fields_of, next_field, number_field, byte_order_field, hex_field, end_of_fields}
-
--- an empty line, and one that begins with `#`, which is 35, says nothing
-abbrev pub passed_over : List ℕ → Bool
-passed_over [] = true
-passed_over (first ∷ _) = first == 35
-
--- each byte is printable ASCII
-abbrev pub all_printable : List ℕ → Bool
-all_printable line = list_all (λ b. nat_le 32 b && nat_le b 126) line
+use Rattle.dw_ends.specs.declared.reason.Reason.TheVariants.{UnknownWord}
+use Rattle.dw_ends.specs.Fields.{Fields, Outcome, ◌>>=◌, line_fields, said_by, next_field, number_field, byte_order_field, hex_field, end_of_fields}
 
 -- the sections that a listing may have, each at its place: those that are written, and two that are only read
 abbrev pub listed_sections : List SectionId
@@ -43,7 +33,7 @@ order_of fields = do
 -- the fields after a section's name: its length and its bytes
 abbrev pub section_of : ℕ → Fields → Outcome Line
 section_of place fields = do
-  (length, fields) ← number_field fields
+  (length, fields) ← number_field (2 ^ 64) fields
   (bytes, fields) ← bytes_field length fields
   _ ← end_of_fields fields
   Ok (Section place length bytes)
@@ -60,11 +50,9 @@ line_of fields = do
   (word, fields) ← next_field fields
   if bytes_eq word (codes "order") then order_of fields else named_section word fields
 
--- what a line says; its bytes are looked at before its fields
+-- what a line says
 unfoldable pub parsed_line : List ℕ → Outcome (Option Line)
-parsed_line line =
-    if passed_over line then Ok None
-    else (if all_printable line then (line_of (fields_of line) >>= λ said. Ok (Some said)) else Err BadByte)
+parsed_line line = line_fields line >>= said_by line_of
 
 -- a section is one of those that a listing may have
 abbrev pub HasPlace : Line → Type 0

@@ -1,11 +1,13 @@
 //! A line of a listing, read whole.
 
 ghost use Rattle.std.specs.Prelude.{◌≡◌, ◌<◌, IfOk, IfSome};
-ghost use Rattle.dw_ends.specs.Fields.{fields_left, with_rest};
-ghost use Rattle.dw_ends.specs.Lines.{HasPlace, all_printable, bytes_field, line_of, named_section, order_of, parsed_line, passed_over, place_of};
+ghost use Rattle.dw_ends.specs.Fields.{with_rest};
+ghost use Rattle.dw_ends.specs.Lines.{HasPlace, bytes_field, line_of, named_section, order_of, parsed_line, place_of};
+ghost use Rattle.dw_ends.specs.Pieces.{pieces_left};
 
-use crate::fields::{Fields, expect_end, next_byte_order, next_field, next_number};
+use crate::fields::{expect_end, line_fields, next_byte_order, next_field, next_u64};
 use crate::hex_bytes::HexBytes;
+use crate::pieces::Pieces;
 use crate::reason::Reason;
 use dw_base::{RunTimeEndian, SectionId};
 
@@ -51,35 +53,14 @@ pub(crate) fn parse_line(line: &[u8]) -> Result<Option<Line<'_>>, Reason>
     ensures said { result ≡ parsed_line line.now }
     ensures place { IfOk result (λ said. IfSome said HasPlace) }
 {
-    if is_passed_over(line) {
-        return Ok(None);
-    }
-    if !is_printable(line) {
-        return Err(Reason::BadByte);
-    }
-    let said = parse_fields(&mut Fields::new(line))?;
-    Ok(Some(said))
-}
-
-// Whether a line is empty or a remark.
-fn is_passed_over(line: &[u8]) -> bool
-    ensures { result ≡ passed_over line.now }
-{
-    match line {
-        [] => true,
-        [first, ..] => *first == b'#',
+    match line_fields(line)? {
+        Some(mut fields) => Ok(Some(parse_fields(&mut fields)?)),
+        None => Ok(None),
     }
 }
 
-// Whether all bytes are of printable ASCII.
-fn is_printable(line: &[u8]) -> bool
-    ensures { result ≡ all_printable line.now }
-{
-    line.iter().all(|b| 0x20 <= *b && *b <= 0x7e)
-}
-
-fn parse_fields<'a>(fields: &mut Fields<'a>) -> Result<Line<'a>, Reason>
-    ensures said { result ≡ line_of (fields_left fields.old) }
+fn parse_fields<'a>(fields: &mut Pieces<'a>) -> Result<Line<'a>, Reason>
+    ensures said { result ≡ line_of (pieces_left fields.old) }
     ensures place { IfOk result HasPlace }
 {
     let word = next_field(fields)?;
@@ -89,8 +70,8 @@ fn parse_fields<'a>(fields: &mut Fields<'a>) -> Result<Line<'a>, Reason>
     parse_section(word, fields)
 }
 
-fn parse_order<'a>(fields: &mut Fields<'a>) -> Result<Line<'a>, Reason>
-    ensures said { result ≡ order_of (fields_left fields.old) }
+fn parse_order<'a>(fields: &mut Pieces<'a>) -> Result<Line<'a>, Reason>
+    ensures said { result ≡ order_of (pieces_left fields.old) }
     ensures place { IfOk result HasPlace }
 {
     let endian = next_byte_order(fields)?;
@@ -98,12 +79,12 @@ fn parse_order<'a>(fields: &mut Fields<'a>) -> Result<Line<'a>, Reason>
     Ok(Line::Order(endian))
 }
 
-fn parse_section<'a>(name: &[u8], fields: &mut Fields<'a>) -> Result<Line<'a>, Reason>
-    ensures said { result ≡ named_section name.now (fields_left fields.old) }
+fn parse_section<'a>(name: &[u8], fields: &mut Pieces<'a>) -> Result<Line<'a>, Reason>
+    ensures said { result ≡ named_section name.now (pieces_left fields.old) }
     ensures place { IfOk result HasPlace }
 {
     let place = find_place(name).ok_or(Reason::UnknownWord)?;
-    let length = next_number(fields)?;
+    let length = next_u64(fields)?;
     let bytes = next_bytes(fields, length)?;
     expect_end(fields)?;
     Ok(Line::Section {
@@ -124,9 +105,9 @@ fn find_place(name: &[u8]) -> Option<usize>
 }
 
 // The bytes of a section of this length. Where it is 0, they may be missing.
-fn next_bytes<'a>(fields: &mut Fields<'a>, length: u64) -> Result<HexBytes<'a>, Reason>
-    ensures { with_rest result (fields_left fields.new) ≡
-        bytes_field length (fields_left fields.old) }
+fn next_bytes<'a>(fields: &mut Pieces<'a>, length: u64) -> Result<HexBytes<'a>, Reason>
+    ensures { with_rest result (pieces_left fields.new) ≡
+        bytes_field length (pieces_left fields.old) }
 {
     match fields.next() {
         Some(field) => HexBytes::read(field).ok_or(Reason::BadHex),

@@ -3,7 +3,7 @@ use Rattle.std.proofs.Common.{◌≡◌, ◌∙◌, ℕ, zero, suc, Bool, true, 
 use Rattle.dw_script.specs.declared.expression_step.ExpressionStep.{ExpressionStep}
 use Rattle.dw_ends.specs.declared.reason.Reason.TheVariants.{WrongFields, BadTarget}
 use Rattle.dw_script.specs.Expressions.{judged}
-use Rattle.dw_script.specs.Fields.{Fields, Outcome}
+use Rattle.dw_ends.specs.Fields.{Fields, Outcome}
 use Rattle.dw_script.specs.Steps.{Walk, step_field, walk_on, walk, depth_after, is_open, expression_walk}
 use Rattle.dw_script.specs.Targets.{close_all, have_targets, is_expression}
 

@@ -1,7 +1,7 @@
 -- Each item takes a field or more, so that a list has no more items than fields.
 use Rattle.std.proofs.Common.{◌≡◌, ◌∙◌, ℕ, zero, suc, ◌<◌, ◌≤◌, [], ◌∷◌, length, Ok, Err, ap, refl, arith}
 use Rattle.dw_ends.specs.declared.reason.Reason.{Reason}
-use Rattle.dw_script.specs.Fields.{Fields, Outcome}
+use Rattle.dw_ends.specs.Fields.{Fields, Outcome}
 use Rattle.dw_script.specs.Items.{Items, item_before, items_on, items_up_to, items_of}
 
 -- what is read takes a field or more

@@ -7,7 +7,7 @@ use Rattle.dw_script.specs.declared.expression_step.ExpressionStep.TheVariants a
 use Rattle.dw_ends.specs.declared.reason.Reason.TheVariants.{BadTarget}
 use Rattle.dw_script.specs.Branches.{no_branches, with_operation, closes, after_operation, after_kept, count_all}
 use Rattle.dw_script.specs.Expressions.{judged}
-use Rattle.dw_script.specs.Fields.{Fields, Outcome}
+use Rattle.dw_ends.specs.Fields.{Fields, Outcome}
 use Rattle.dw_script.specs.Operations.{target_of}
 use Rattle.dw_script.specs.Steps.{Walk, step_before, depth_after}
 use Rattle.dw_script.specs.Targets.{Targets, lead_within, after_step, if_there, passes}

@@ -8,7 +8,7 @@ use Rattle.dw_script.specs.declared.range.ScriptRange.{ScriptRange}
 use Rattle.dw_script.specs.declared.range.ScriptRange.TheVariants as range
 use Rattle.dw_ends.specs.declared.reason.Reason.TheVariants.{UnknownWord, WrongFields, BadTarget}
 use Rattle.dw_script.specs.Expressions.{expression_field, expression_rest, judged}
-use Rattle.dw_script.specs.Fields.{Fields, Outcome, ◌>>=◌}
+use Rattle.dw_ends.specs.Fields.{Fields, Outcome, ◌>>=◌}
 use Rattle.dw_script.specs.LocationWords.{location_word_of}
 use Rattle.dw_script.specs.Locations.{located, location_field, location_of_range, location_of_word}
 use Rattle.dw_script.specs.Ranges.{range_of_word}

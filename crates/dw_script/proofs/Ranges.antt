@@ -4,7 +4,7 @@ use Rattle.dw_script.specs.declared.range.ScriptRange.{ScriptRange}
 use Rattle.dw_script.specs.declared.range_word.RangeWord.{RangeWord}
 use Rattle.dw_script.specs.declared.range_word.RangeWord.TheVariants as word
 use Rattle.dw_ends.specs.declared.reason.Reason.TheVariants.{UnknownWord, WrongFields}
-use Rattle.dw_script.specs.Fields.{Fields, Outcome, ◌>>=◌}
+use Rattle.dw_ends.specs.Fields.{Fields, Outcome, ◌>>=◌}
 use Rattle.dw_script.specs.RangeWords.{range_word_of}
 use Rattle.dw_script.specs.Ranges.{range_field, range_of_word}
 use Rattle.dw_script.proofs.Items.{TakesSome}

@@ -9,7 +9,8 @@ use Rattle.dw_script.specs.declared.operation_word.StepWord.{StepWord}
 use Rattle.dw_script.specs.declared.operation_word.StepWord.TheVariants as step_word
 use Rattle.dw_ends.specs.declared.reason.Reason.{Reason}
 use Rattle.dw_ends.specs.declared.reason.Reason.TheVariants.{UnknownWord, WrongFields, TooDeep}
-use Rattle.dw_script.specs.Fields.{Fields, Outcome, ◌>>=◌, made, next_field}
+use Rattle.dw_ends.specs.Fields.{Fields, Outcome, ◌>>=◌, next_field}
+use Rattle.dw_script.specs.Fields.{made}
 use Rattle.dw_script.specs.OperationWords.{step_word_of}
 use Rattle.dw_script.specs.Operations.{made_of_two, operation_of_word, pair_of_word}
 use Rattle.dw_script.specs.Steps.{open_field, raw_field, step_field, step_of_word, step_before, walk_on, walk, depth_after, is_open}

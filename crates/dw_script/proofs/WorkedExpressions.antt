@@ -8,11 +8,11 @@ use Rattle.dw_ends.specs.declared.reason.Reason.TheVariants.{UnknownWord, WrongF
 use Rattle.dw_script.specs.declared.value.Value.TheVariants as value
 use Rattle.dw_script.specs.Codes.{attribute_of, opcode_of}
 use Rattle.dw_script.specs.Expressions.{expression_field}
-use Rattle.dw_script.specs.Fields.{Fields}
+use Rattle.dw_ends.specs.Fields.{Fields}
 use Rattle.dw_script.specs.Kinds.{kind_of}
 use Rattle.dw_script.specs.Lines.{parsed_line}
 use Rattle.dw_script.specs.OperationWords.{step_word_of}
-use Rattle.dw_script.specs.Pieces.{pieces, space}
+use Rattle.dw_ends.specs.Pieces.{pieces, space}
 use Rattle.dw_script.specs.Steps.{walk}
 use Rattle.hex.specs.Hex.{decode_pairs}
 

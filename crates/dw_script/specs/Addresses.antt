@@ -8,7 +8,11 @@ use Rattle.dw_base.specs.declared.address.DebugInfoRef.{DebugInfoRef as InfoRef}
 use Rattle.dw_base.specs.declared.address.DebugInfoRef.TheVariants as reference
 use Rattle.dw_ends.specs.Numbers.{number_below}
 use Rattle.dw_script.specs.Numbers.{signed_number}
-use Rattle.dw_script.specs.Pieces.{colon, pieces}
+use Rattle.dw_ends.specs.Pieces.{pieces}
+
+-- what stands between the parts of an address
+abbrev pub colon : ℕ
+colon = 58
 
 -- the address of a symbol plus an addend, each a part of its own
 abbrev pub symbol_address : List (List ℕ) → Option Address

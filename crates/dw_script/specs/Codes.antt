@@ -2,7 +2,7 @@
 use Rattle.std.specs.Prelude.{ℕ, ◌^◌, List, [], ◌∷◌, Bool, false, ◌&&◌, nat_le, ok_or, bytes_eq, if◌then◌else◌}
 use Rattle.std.specs.Map.{lookup}
 use Rattle.dw_ends.specs.declared.reason.Reason.TheVariants.{UnknownWord, BadNumber}
-use Rattle.dw_script.specs.Fields.{Outcome}
+use Rattle.dw_ends.specs.Fields.{Outcome}
 use Rattle.dw_script.specs.Names.{tag_names, attribute_names, opcode_names}
 use Rattle.dw_ends.specs.Numbers.{number_below}
 

@@ -3,8 +3,8 @@ use Rattle.std.specs.Prelude.{◌≡◌, ℕ, ◌<◌, ◌≤◌, max, List, [],
 use Rattle.dw_script.specs.declared.expression.ExpressionSteps.{ExpressionSteps}
 use Rattle.dw_script.specs.declared.expression_step.ExpressionStep.{ExpressionStep}
 use Rattle.dw_ends.specs.declared.reason.Reason.TheVariants.{BadTarget}
-use Rattle.dw_script.specs.Fields.{Fields, Outcome, ◌>>=◌}
-use Rattle.dw_script.specs.Pieces.{pieces_left}
+use Rattle.dw_ends.specs.Fields.{Fields, Outcome, ◌>>=◌}
+use Rattle.dw_ends.specs.Pieces.{pieces_left}
 use Rattle.dw_script.specs.Steps.{Walk, walk, step_before, depth_after, expression_walk, open_field}
 use Rattle.dw_script.specs.Targets.{have_targets}
 

@@ -1,7 +1,7 @@
 -- Items of a list, each read from the front of the fields that are left, up to the end of the line.
 use Rattle.std.specs.Prelude.{ℕ, zero, suc, List, [], ◌∷◌, length, Ok, Err}
 use Rattle.dw_ends.specs.declared.reason.Reason.TheVariants.{WrongFields}
-use Rattle.dw_script.specs.Fields.{Fields, Outcome, ◌>>=◌}
+use Rattle.dw_ends.specs.Fields.{Fields, Outcome, ◌>>=◌}
 
 -- what is read of a list: the items as far as they can be read, and then that the line ends, or the reason for which they aren't read on
 abbrev pub Items : Type 0 → Type 0

@@ -1,4 +1,3 @@
-pub mod Pieces
 pub mod Numbers
 pub mod Addresses
 pub mod Words
@@ -22,5 +21,6 @@ pub mod LocationWords
 pub mod Locations
 pub mod Lists
 pub mod Lines
+pub mod Scripts
 pub mod LinkWords
 pub mod LinkLines

@@ -1,26 +1,15 @@
 -- What a line of a script asks for, or why it is refused.
-use Rattle.std.specs.Prelude.{ℕ, ◌^◌, Bool, true, ◌&&◌, List, [], ◌∷◌, Option, Some, None, Ok, Err, nat_le, ◌==◌, if◌then◌else◌}
-use Rattle.std.specs.List.{list_all}
+use Rattle.std.specs.Prelude.{ℕ, ◌^◌, List, Option, Ok}
 use Rattle.dw_script.specs.declared.change.Change.TheVariants as change
 use Rattle.dw_script.specs.declared.command.Command.{Command}
 use Rattle.dw_script.specs.declared.command.Command.TheVariants as command
-use Rattle.dw_ends.specs.declared.reason.Reason.TheVariants.{BadByte}
 use Rattle.dw_script.specs.declared.word.Word.{Word}
 use Rattle.dw_script.specs.declared.word.Word.TheVariants as word
-use Rattle.dw_script.specs.Pieces.{pieces, space}
-use Rattle.dw_script.specs.Fields.{Fields, Outcome, ◌>>=◌, word_field, end_of_fields, number_field, format_field, flag_field, byte_order_field, hex_field}
+use Rattle.dw_ends.specs.Fields.{line_fields, said_by, Fields, Outcome, ◌>>=◌, end_of_fields, number_field, byte_order_field, hex_field}
+use Rattle.dw_script.specs.Fields.{word_field, format_field, flag_field}
 use Rattle.dw_script.specs.LinePrograms.{line_program_line, directory_line, file_line, sequence_line, row_line, end_line}
 use Rattle.dw_script.specs.Lists.{range_list_line, location_list_line}
 use Rattle.dw_script.specs.Values.{tag_field, attribute_field, value_field}
-
--- an empty line, and one that begins with `#`, which is 35, asks for nothing
-abbrev pub passed_over : List ℕ → Bool
-passed_over [] = true
-passed_over (first ∷ _) = first == 35
-
--- each byte is printable ASCII
-abbrev pub all_printable : List ℕ → Bool
-all_printable line = list_all (λ b. nat_le 32 b && nat_le b 126) line
 
 -- the fields after `order`: the byte order
 abbrev pub order_line : Fields → Outcome Command
@@ -143,17 +132,6 @@ command_of fields = do
   (word, fields) ← word_field fields
   line_of word fields
 
--- the fields of a line, if it isn't passed over; its bytes are looked at before them
-abbrev pub line_fields : List ℕ → Outcome (Option Fields)
-line_fields line =
-    if passed_over line then Ok None
-    else (if all_printable line then Ok (Some (pieces space line)) else Err BadByte)
-
--- what the fields of a line ask for, if it has any
-abbrev pub asked_by : {T : Type 0} → (Fields → Outcome T) → Option Fields → Outcome (Option T)
-asked_by command None = Ok None
-asked_by command (Some fields) = command fields >>= λ asked. Ok (Some asked)
-
 -- what a line asks for
 unfoldable pub parsed_line : List ℕ → Outcome (Option Command)
-parsed_line line = line_fields line >>= asked_by command_of
+parsed_line line = line_fields line >>= said_by command_of

@@ -5,9 +5,9 @@ use Rattle.dw_script.specs.declared.link_command.LinkCommand.{LinkCommand}
 use Rattle.dw_script.specs.declared.link_command.LinkCommand.TheVariants as link
 use Rattle.dw_script.specs.declared.link_word.LinkWord.{LinkWord}
 use Rattle.dw_script.specs.declared.link_word.LinkWord.TheVariants as word
-use Rattle.dw_script.specs.Fields.{Fields, Outcome, ◌>>=◌, next_field, end_of_fields, number_field}
+use Rattle.dw_ends.specs.Fields.{Fields, Outcome, ◌>>=◌, next_field, end_of_fields, number_field, said_by, line_fields}
 use Rattle.dw_script.specs.LinkWords.{link_word_of}
-use Rattle.dw_script.specs.Lines.{asked_by, line_fields, line_of}
+use Rattle.dw_script.specs.Lines.{line_of}
 
 -- nothing stands after `next`
 abbrev pub next_line : Fields → Outcome LinkCommand
@@ -44,4 +44,4 @@ link_command_of fields = do
 
 -- what a line asks for: a line of a script, the next set, or a symbol
 unfoldable pub parsed_link_line : List ℕ → Outcome (Option LinkCommand)
-parsed_link_line line = line_fields line >>= asked_by link_command_of
+parsed_link_line line = line_fields line >>= said_by link_command_of

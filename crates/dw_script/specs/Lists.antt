@@ -2,7 +2,7 @@
 use Rattle.std.specs.Prelude.{◌^◌, Ok}
 use Rattle.dw_script.specs.declared.command.Command.{Command}
 use Rattle.dw_script.specs.declared.command.Command.TheVariants as command
-use Rattle.dw_script.specs.Fields.{Fields, Outcome, ◌>>=◌, number_field}
+use Rattle.dw_ends.specs.Fields.{Fields, Outcome, ◌>>=◌, number_field}
 use Rattle.dw_script.specs.Items.{list_of}
 use Rattle.dw_script.specs.Locations.{location_field}
 use Rattle.dw_script.specs.Ranges.{range_field}

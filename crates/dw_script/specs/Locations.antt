@@ -9,10 +9,11 @@ use Rattle.dw_script.specs.declared.range.ScriptRange.{ScriptRange}
 use Rattle.dw_script.specs.declared.range.ScriptRange.TheVariants as range
 use Rattle.dw_ends.specs.declared.reason.Reason.TheVariants.{UnknownWord}
 use Rattle.dw_script.specs.Expressions.{expression_field}
-use Rattle.dw_script.specs.Fields.{Fields, Outcome, ◌>>=◌, made, next_field}
+use Rattle.dw_ends.specs.Fields.{Fields, Outcome, ◌>>=◌, next_field}
+use Rattle.dw_script.specs.Fields.{made}
 use Rattle.dw_script.specs.Items.{items_of}
 use Rattle.dw_script.specs.LocationWords.{location_word_of}
-use Rattle.dw_script.specs.Pieces.{pieces_left}
+use Rattle.dw_ends.specs.Pieces.{pieces_left}
 use Rattle.dw_script.specs.Ranges.{range_of_word}
 
 -- the word of an item, and the fields after it

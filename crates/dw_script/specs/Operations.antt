@@ -8,7 +8,8 @@ use Rattle.dw_script.specs.declared.operation_word.OperationWord.TheVariants as 
 use Rattle.dw_script.specs.declared.operation_word.PairWord.{PairWord}
 use Rattle.dw_script.specs.declared.operation_word.PairWord.TheVariants as pair
 use Rattle.dw_script.specs.Codes.{opcode_of}
-use Rattle.dw_script.specs.Fields.{Fields, Outcome, ◌>>=◌, made, next_field, number_field, signed_field, address_field, reference_field, index_or_none_field, target_field, hex_field}
+use Rattle.dw_ends.specs.Fields.{Fields, Outcome, ◌>>=◌, next_field, number_field, hex_field}
+use Rattle.dw_script.specs.Fields.{made, signed_field, address_field, reference_field, index_or_none_field, target_field}
 
 -- the code of an operation without operands, and the fields after it
 abbrev pub opcode_field : Fields → Outcome (DwOp × Fields)

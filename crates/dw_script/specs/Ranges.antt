@@ -6,10 +6,11 @@ use Rattle.dw_script.specs.declared.range_list.RangeItems.{RangeItems}
 use Rattle.dw_script.specs.declared.range_word.RangeWord.{RangeWord}
 use Rattle.dw_script.specs.declared.range_word.RangeWord.TheVariants as word
 use Rattle.dw_ends.specs.declared.reason.Reason.TheVariants.{UnknownWord}
-use Rattle.dw_script.specs.Fields.{Fields, Outcome, ◌>>=◌, made, next_field, number_field, address_field}
+use Rattle.dw_ends.specs.Fields.{Fields, Outcome, ◌>>=◌, next_field, number_field}
+use Rattle.dw_script.specs.Fields.{made, address_field}
 use Rattle.dw_script.specs.Items.{items_of}
 use Rattle.dw_script.specs.Operations.{made_of_two}
-use Rattle.dw_script.specs.Pieces.{pieces_left}
+use Rattle.dw_ends.specs.Pieces.{pieces_left}
 use Rattle.dw_script.specs.RangeWords.{range_word_of}
 
 -- the word of an item, and the fields after it

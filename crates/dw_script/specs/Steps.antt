@@ -7,7 +7,8 @@ use Rattle.dw_script.specs.declared.operation.ScriptOperation.TheVariants as ope
 use Rattle.dw_script.specs.declared.operation_word.StepWord.{StepWord}
 use Rattle.dw_script.specs.declared.operation_word.StepWord.TheVariants as word
 use Rattle.dw_ends.specs.declared.reason.Reason.TheVariants.{UnknownWord, WrongFields, TooDeep}
-use Rattle.dw_script.specs.Fields.{Fields, Outcome, ◌>>=◌, made, next_field, hex_field}
+use Rattle.dw_ends.specs.Fields.{Fields, Outcome, ◌>>=◌, next_field, hex_field}
+use Rattle.dw_script.specs.Fields.{made}
 use Rattle.dw_script.specs.OperationWords.{step_word_of}
 use Rattle.dw_script.specs.Operations.{operation_of_word, pair_of_word}
 

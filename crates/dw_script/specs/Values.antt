@@ -11,7 +11,8 @@ use Rattle.dw_script.specs.declared.value.Value.{Value}
 use Rattle.dw_script.specs.declared.value.Value.TheVariants as value
 use Rattle.dw_script.specs.Codes.{tag_of, attribute_of}
 use Rattle.dw_script.specs.Expressions.{expression_field}
-use Rattle.dw_script.specs.Fields.{Fields, Outcome, ◌>>=◌, next_field, number_field, signed_field, flag_field, address_field, reference_field, index_or_none_field, hex_field, made}
+use Rattle.dw_ends.specs.Fields.{Fields, Outcome, ◌>>=◌, next_field, number_field, hex_field}
+use Rattle.dw_script.specs.Fields.{signed_field, flag_field, address_field, reference_field, index_or_none_field, made}
 use Rattle.dw_script.specs.Kinds.{kind_of}
 
 -- a tag, and the fields after it

@@ -2,12 +2,11 @@
 
 ghost use Rattle.std.specs.Prelude.{◌≡◌};
 ghost use Rattle.dw_script.specs.Addresses.{address_of, address_or_none, symbol_address, reference_of, entry_reference};
-ghost use Rattle.dw_script.specs.Pieces.{pieces_left};
+ghost use Rattle.dw_ends.specs.Pieces.{pieces_left};
 
 use crate::number::{parse_i64, parse_usize};
-use crate::pieces::Pieces;
 use dw_base::{Address, DebugInfoRef, UnitEntryId, UnitId};
-use dw_ends::number;
+use dw_ends::{Pieces, number};
 
 /// The address that a field spells.
 pub(crate) fn parse_address(field: &[u8]) -> Option<Address>

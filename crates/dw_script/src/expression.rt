@@ -3,16 +3,15 @@
 ghost use Rattle.std.specs.Prelude.{◌≡◌, ◌<◌, ◌≤◌, [], Ok, Err, IfOk, IfSome, IsTrue, MatchResult, length};
 ghost use Rattle.std.specs.Iterator.{YieldsFirst, item_count};
 ghost use Rattle.dw_script.specs.Expressions.{IsDeep, IsWalked, expression_field, judged, steps_left, walk_left};
-ghost use Rattle.dw_script.specs.Fields.{with_rest};
-ghost use Rattle.dw_script.specs.Pieces.{pieces_left};
+ghost use Rattle.dw_ends.specs.Fields.{with_rest};
+ghost use Rattle.dw_ends.specs.Pieces.{pieces_left};
 ghost use Rattle.dw_script.specs.Steps.{expression_walk};
 ghost use Rattle.dw_script.specs.Targets.{is_expression};
 
 use crate::branches::OpenExpressions;
 use crate::expression_step::{ExpressionStep, next_step};
 use crate::field::expect_open;
-use crate::pieces::Pieces;
-use dw_ends::Reason;
+use dw_ends::{Pieces, Reason};
 use std::marker::Model;
 
 /// The fields of an expression (DWARF 5, 2.5), which were looked at, so that a line is read without
@@ -32,7 +31,7 @@ pub struct ExpressionFields<'a> {
 impl<'a> Model for ExpressionFields<'a> {
     ghost use Rattle.std.specs.Prelude.{◌≡◌, List, true};
     ghost use Rattle.dw_script.specs.Targets.{is_expression};
-    ghost use Rattle.dw_script.specs.Pieces.{pieces_left};
+    ghost use Rattle.dw_ends.specs.Pieces.{pieces_left};
     ghost use Rattle.dw_script.specs.Steps.{expression_walk};
     ghost use Rattle.dw_script.specs.declared.expression_step.ExpressionStep.{ExpressionStep};
 

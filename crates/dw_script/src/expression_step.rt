@@ -1,15 +1,14 @@
 //! Expressions of a line, step by step.
 
 ghost use Rattle.std.specs.Prelude.{◌≡◌, ◌<◌, ◌≤◌, max, IfOk};
-ghost use Rattle.dw_script.specs.Fields.{with_rest};
-ghost use Rattle.dw_script.specs.Pieces.{pieces_left};
+ghost use Rattle.dw_ends.specs.Fields.{with_rest};
+ghost use Rattle.dw_ends.specs.Pieces.{pieces_left};
 ghost use Rattle.dw_script.specs.Steps.{depth_after, is_open, opened_field, raw_field, step_field};
 
 use crate::field::{expect_open, next_hex_bytes, next_step_word};
 use crate::operation::{ScriptOperation, next_operation, next_pair};
 use crate::operation_word::StepWord;
-use crate::pieces::Pieces;
-use dw_ends::Reason;
+use dw_ends::{Pieces, Reason};
 
 /// A step of an expression (DWARF 5, 2.5): what stands in it, in order, with the expressions within
 /// it in their places.

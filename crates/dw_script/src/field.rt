@@ -1,9 +1,10 @@
 //! The typed fields of a line, each taken from the front of those that are left. After an error
 //! the fields are not read on.
 
-ghost use Rattle.std.specs.Prelude.{◌≡◌, ◌<◌, ◌^◌, IfOk, Ok, Err, MatchResult};
-ghost use Rattle.dw_script.specs.Pieces.{pieces_left};
-ghost use Rattle.dw_script.specs.Fields.{address_field, address_or_none_field, index_or_none_field, reference_field, byte_order_field, end_of_fields, flag_field, format_field, hex_field, next_field, number_field, signed_field, target_field, with_rest, word_field};
+ghost use Rattle.std.specs.Prelude.{◌≡◌, ◌<◌, ◌^◌, IfOk};
+ghost use Rattle.dw_ends.specs.Pieces.{pieces_left};
+ghost use Rattle.dw_ends.specs.Fields.{hex_field, number_field, with_rest};
+ghost use Rattle.dw_script.specs.Fields.{address_field, address_or_none_field, index_or_none_field, reference_field, flag_field, format_field, signed_field, target_field, word_field};
 ghost use Rattle.dw_script.specs.Locations.{location_word_field};
 ghost use Rattle.dw_script.specs.Operations.{opcode_field};
 ghost use Rattle.dw_script.specs.Ranges.{range_word_field};
@@ -19,23 +20,13 @@ use crate::number::{
     parse_usize,
 };
 use crate::operation_word::StepWord;
-use crate::pieces::Pieces;
 use crate::range_word::RangeWord;
 use crate::word::Word;
-use dw_base::{Address, DebugInfoRef, DwAt, DwOp, DwTag, Format, RunTimeEndian};
-use dw_ends::{HexBytes, Reason, number};
+use dw_base::{Address, DebugInfoRef, DwAt, DwOp, DwTag, Format};
+use dw_ends::{HexBytes, Pieces, Reason, next_field};
 
 /// How many expressions may be open at once, one within the other.
 pub(crate) const MOST_OPEN: usize = 64;
-
-/// Any field, as it stands.
-pub(crate) fn next_field<'a>(fields: &mut Pieces<'a>) -> Result<&'a [u8], Reason>
-    ensures { MatchResult result
-        (λ field. next_field (pieces_left fields.old) ≡ Ok (field.now, pieces_left fields.new))
-        (λ reason. next_field (pieces_left fields.old) ≡ Err reason) }
-{
-    fields.next().ok_or(Reason::WrongFields)
-}
 
 /// The word of a line.
 pub(crate) fn next_word(fields: &mut Pieces<'_>) -> Result<Word, Reason>
@@ -51,14 +42,6 @@ pub(crate) fn next_u128(fields: &mut Pieces<'_>) -> Result<u128, Reason>
         number_field (2 ^ 128) (pieces_left fields.old) }
 {
     parse_u128(next_field(fields)?).ok_or(Reason::BadNumber)
-}
-
-/// A number below 2^64.
-pub(crate) fn next_u64(fields: &mut Pieces<'_>) -> Result<u64, Reason>
-    ensures { with_rest result (pieces_left fields.new) ≡
-        number_field (2 ^ 64) (pieces_left fields.old) }
-{
-    number(next_field(fields)?).ok_or(Reason::BadNumber)
 }
 
 /// A place: a number below 2^64.
@@ -165,18 +148,6 @@ pub(crate) fn next_flag(fields: &mut Pieces<'_>) -> Result<bool, Reason>
     }
 }
 
-/// A byte order, by its word.
-pub(crate) fn next_byte_order(fields: &mut Pieces<'_>) -> Result<RunTimeEndian, Reason>
-    ensures { with_rest result (pieces_left fields.new) ≡
-        byte_order_field (pieces_left fields.old) }
-{
-    match next_field(fields)? {
-        b"little" => Ok(RunTimeEndian::Little),
-        b"big" => Ok(RunTimeEndian::Big),
-        _ => Err(Reason::UnknownWord),
-    }
-}
-
 /// A tag, by its number or its name.
 pub(crate) fn next_tag(fields: &mut Pieces<'_>) -> Result<DwTag, Reason>
     ensures { with_rest result (pieces_left fields.new) ≡
@@ -252,14 +223,4 @@ pub(crate) fn next_hex_bytes<'a>(fields: &mut Pieces<'a>) -> Result<HexBytes<'a>
         hex_field (pieces_left fields.old) }
 {
     HexBytes::read(next_field(fields)?).ok_or(Reason::BadHex)
-}
-
-/// The end of the line: no field is left over.
-pub(crate) fn expect_end(fields: &mut Pieces<'_>) -> Result<(), Reason>
-    ensures { result ≡ end_of_fields (pieces_left fields.old) }
-{
-    match fields.next() {
-        None => Ok(()),
-        Some(_) => Err(Reason::WrongFields),
-    }
 }

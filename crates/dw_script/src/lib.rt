@@ -24,7 +24,6 @@ mod names;
 mod number;
 mod operation;
 mod operation_word;
-mod pieces;
 mod range;
 mod range_list;
 mod range_word;

@@ -1,66 +1,32 @@
 //! A line of a script, read whole.
 
-ghost use Rattle.std.specs.Prelude.{◌≡◌, Ok, Err, MatchResult, option_map};
-ghost use Rattle.dw_script.specs.Pieces.{pieces_left};
-ghost use Rattle.dw_script.specs.Lines.{add_line, add_reserved_line, all_printable, command_of, delete_child_line, delete_line, line_fields, line_of, line_string_line, order_line, parsed_line, passed_over, reserve_line, set_line, sibling_line, string_line, unit_line};
+ghost use Rattle.std.specs.Prelude.{◌≡◌};
+ghost use Rattle.dw_ends.specs.Pieces.{pieces_left};
+ghost use Rattle.dw_script.specs.Lines.{add_line, add_reserved_line, command_of, delete_child_line, delete_line, line_of, line_string_line, order_line, parsed_line, reserve_line, set_line, sibling_line, string_line, unit_line};
 
 use crate::change::Change;
 use crate::command::Command;
 use crate::field::{
-    expect_end, next_attribute, next_byte_order, next_flag, next_format, next_hex_bytes, next_tag,
-    next_u8, next_u16, next_u64, next_word,
+    next_attribute, next_flag, next_format, next_hex_bytes, next_tag, next_u8, next_u16, next_word,
 };
 use crate::line_program::{
     parse_directory, parse_end, parse_file, parse_line_program, parse_row, parse_sequence,
 };
-use crate::pieces::Pieces;
 use crate::unit_list::{parse_location_list, parse_range_list};
 use crate::value::next_value;
 use crate::word::Word;
 use dw_base::Encoding;
-use dw_ends::Reason;
+use dw_ends::{Pieces, Reason, expect_end, line_fields, next_byte_order, next_u64};
 
 /// What a line asks for, or `None` where it is passed over.
 #[tactic(auto, unfolding(crate::specs::Lines::parsed_line))]
 pub fn parse_line(line: &[u8]) -> Result<Option<Command<'_>>, Reason>
     ensures { result ≡ parsed_line line.now }
 {
-    match fields_of(line)? {
+    match line_fields(line)? {
         Some(mut fields) => Ok(Some(parse_fields(&mut fields)?)),
         None => Ok(None),
     }
-}
-
-/// The fields of a line, or `None` where it is passed over.
-pub(crate) fn fields_of(line: &[u8]) -> Result<Option<Pieces<'_>>, Reason>
-    ensures { MatchResult result
-        (λ fields. line_fields line.now ≡ Ok (option_map pieces_left fields))
-        (λ reason. line_fields line.now ≡ Err reason) }
-{
-    if is_passed_over(line) {
-        return Ok(None);
-    }
-    if !is_printable(line) {
-        return Err(Reason::BadByte);
-    }
-    Ok(Some(Pieces::new(line, b' ')))
-}
-
-// Whether a line is empty or a remark.
-fn is_passed_over(line: &[u8]) -> bool
-    ensures { result ≡ passed_over line.now }
-{
-    match line {
-        [] => true,
-        [first, ..] => *first == b'#',
-    }
-}
-
-// Whether all bytes are of printable ASCII.
-fn is_printable(line: &[u8]) -> bool
-    ensures { result ≡ all_printable line.now }
-{
-    line.iter().all(|b| 0x20 <= *b && *b <= 0x7e)
 }
 
 fn parse_fields<'a>(fields: &mut Pieces<'a>) -> Result<Command<'a>, Reason>

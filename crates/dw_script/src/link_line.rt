@@ -1,16 +1,14 @@
 //! A line of the command `link`, read whole.
 
 ghost use Rattle.std.specs.Prelude.{◌≡◌};
-ghost use Rattle.dw_script.specs.Fields.{with_rest};
-ghost use Rattle.dw_script.specs.Pieces.{pieces_left};
+ghost use Rattle.dw_ends.specs.Fields.{with_rest};
+ghost use Rattle.dw_ends.specs.Pieces.{pieces_left};
 ghost use Rattle.dw_script.specs.LinkLines.{link_command_of, link_word_field, next_line, parsed_link_line, symbol_line};
 
-use crate::field::{expect_end, next_field, next_u64};
-use crate::line::{fields_of, parse_after};
+use crate::line::parse_after;
 use crate::link_command::LinkCommand;
 use crate::link_word::LinkWord;
-use crate::pieces::Pieces;
-use dw_ends::Reason;
+use dw_ends::{Pieces, Reason, expect_end, line_fields, next_field, next_u64};
 
 /// What a line of the command `link` asks for, or `None` where it is passed over: what a line of a
 /// script does, or one of the two that a script doesn't have.
@@ -18,7 +16,7 @@ use dw_ends::Reason;
 pub fn parse_link_line(line: &[u8]) -> Result<Option<LinkCommand<'_>>, Reason>
     ensures { result ≡ parsed_link_line line.now }
 {
-    match fields_of(line)? {
+    match line_fields(line)? {
         Some(mut fields) => Ok(Some(parse_link_fields(&mut fields)?)),
         None => Ok(None),
     }

@@ -1,17 +1,16 @@
 //! Items of location lists, as lines spell them.
 
 ghost use Rattle.std.specs.Prelude.{◌≡◌};
-ghost use Rattle.dw_script.specs.Fields.{with_rest};
+ghost use Rattle.dw_ends.specs.Fields.{with_rest};
 ghost use Rattle.dw_script.specs.Locations.{location_field, location_of_range, location_of_word};
-ghost use Rattle.dw_script.specs.Pieces.{pieces_left};
+ghost use Rattle.dw_ends.specs.Pieces.{pieces_left};
 
 use crate::expression::ExpressionFields;
 use crate::field::next_location_word;
 use crate::location_word::LocationWord;
-use crate::pieces::Pieces;
 use crate::range::{ScriptRange, next_range_of_word};
 use dw_base::Address;
-use dw_ends::Reason;
+use dw_ends::{Pieces, Reason};
 
 /// An item of a location list: where an object is while the program counter is between two
 /// addresses, the second of which doesn't belong to them, or the base that offset pairs count from

@@ -4,11 +4,10 @@ ghost use Rattle.std.specs.Prelude.{◌≡◌};
 ghost use Rattle.std.specs.Iterator.{YieldsFirst, item_count};
 ghost use Rattle.dw_script.specs.Items.{items_of, list_of};
 ghost use Rattle.dw_script.specs.Locations.{location_field, locations_left};
-ghost use Rattle.dw_script.specs.Pieces.{pieces_left};
+ghost use Rattle.dw_ends.specs.Pieces.{pieces_left};
 
 use crate::location::{ScriptLocation, next_location};
-use crate::pieces::Pieces;
-use dw_ends::Reason;
+use dw_ends::{Pieces, Reason};
 use std::marker::Model;
 
 /// The fields of a location list (DWARF 5, 2.6.2), which were looked at, so that a line is read
@@ -23,7 +22,7 @@ impl<'a> Model for LocationFields<'a> {
     ghost use Rattle.std.specs.Prelude.{List};
     ghost use Rattle.dw_script.specs.Items.{items_of};
     ghost use Rattle.dw_script.specs.Locations.{location_field};
-    ghost use Rattle.dw_script.specs.Pieces.{pieces_left};
+    ghost use Rattle.dw_ends.specs.Pieces.{pieces_left};
     ghost use Rattle.dw_script.specs.declared.location.ScriptLocation.{ScriptLocation};
 
     ghost Value = { List ScriptLocation };

@@ -1,18 +1,17 @@
 //! Operations of expressions, as lines spell them.
 
 ghost use Rattle.std.specs.Prelude.{◌≡◌};
-ghost use Rattle.dw_script.specs.Fields.{with_rest};
+ghost use Rattle.dw_ends.specs.Fields.{with_rest};
 ghost use Rattle.dw_script.specs.Operations.{bit_piece_field, deref_type_field, operation_of_word, pair_of_word, target_of};
-ghost use Rattle.dw_script.specs.Pieces.{pieces_left};
+ghost use Rattle.dw_ends.specs.Pieces.{pieces_left};
 
 use crate::field::{
     next_address, next_hex_bytes, next_i64, next_index_or_none, next_opcode, next_reference,
-    next_target, next_u8, next_u16, next_u32, next_u64, next_usize,
+    next_target, next_u8, next_u16, next_u32, next_usize,
 };
 use crate::operation_word::{OperationWord, PairWord};
-use crate::pieces::Pieces;
 use dw_base::{Address, DebugInfoRef, DwOp, Register};
-use dw_ends::{HexBytes, Reason};
+use dw_ends::{HexBytes, Pieces, Reason, next_u64};
 
 /// An operation of an expression (DWARF 5, 2.5 and 2.6). Entries are named by their index in the
 /// unit, and branches lead to the operation of an index, counted from 0 in the expression that

@@ -1,15 +1,14 @@
 //! Items of range lists, as lines spell them.
 
 ghost use Rattle.std.specs.Prelude.{◌≡◌};
-ghost use Rattle.dw_script.specs.Fields.{with_rest};
-ghost use Rattle.dw_script.specs.Pieces.{pieces_left};
+ghost use Rattle.dw_ends.specs.Fields.{with_rest};
+ghost use Rattle.dw_ends.specs.Pieces.{pieces_left};
 ghost use Rattle.dw_script.specs.Ranges.{range_field, range_of_word};
 
-use crate::field::{next_address, next_range_word, next_u64};
-use crate::pieces::Pieces;
+use crate::field::{next_address, next_range_word};
 use crate::range_word::RangeWord;
 use dw_base::Address;
-use dw_ends::Reason;
+use dw_ends::{Pieces, Reason, next_u64};
 
 /// An item of a range list: addresses that belong to it, from the first one up to the one behind
 /// the last, or the base that offset pairs count from (DWARF 5, 2.17.3).

@@ -3,12 +3,11 @@
 ghost use Rattle.std.specs.Prelude.{◌≡◌};
 ghost use Rattle.std.specs.Iterator.{YieldsFirst, item_count};
 ghost use Rattle.dw_script.specs.Items.{items_of, list_of};
-ghost use Rattle.dw_script.specs.Pieces.{pieces_left};
+ghost use Rattle.dw_ends.specs.Pieces.{pieces_left};
 ghost use Rattle.dw_script.specs.Ranges.{range_field, ranges_left};
 
-use crate::pieces::Pieces;
 use crate::range::{ScriptRange, next_range};
-use dw_ends::Reason;
+use dw_ends::{Pieces, Reason};
 use std::marker::Model;
 
 /// The fields of a range list (DWARF 5, 2.17.3), which were looked at, so that a line is read
@@ -22,7 +21,7 @@ pub struct RangeFields<'a> {
 impl<'a> Model for RangeFields<'a> {
     ghost use Rattle.std.specs.Prelude.{List};
     ghost use Rattle.dw_script.specs.Items.{items_of};
-    ghost use Rattle.dw_script.specs.Pieces.{pieces_left};
+    ghost use Rattle.dw_ends.specs.Pieces.{pieces_left};
     ghost use Rattle.dw_script.specs.Ranges.{range_field};
     ghost use Rattle.dw_script.specs.declared.range.ScriptRange.{ScriptRange};
 

@@ -2,7 +2,8 @@
 
 ghost use Rattle.std.specs.Prelude.{◌≡◌, ◌∷◌, ◌+◌, ◌<◌, ◌≤◌, ◌==◌, IfSome, length, position};
 ghost use Rattle.std.specs.Iterator.{YieldsFirstRef, item_count};
-ghost use Rattle.dw_script.specs.Pieces.{lines_left, newline, pieces, pieces_after};
+ghost use Rattle.dw_ends.specs.Pieces.{newline, pieces, pieces_after};
+ghost use Rattle.dw_script.specs.Scripts.{lines_left};
 
 use memchr::memchr;
 
@@ -19,7 +20,7 @@ impl<'a> Iterator for ScriptLines<'a> {
 
     ghost remaining = { item_count lines_left };
 
-    #[tactic(auto, unfolding(crate::specs::Pieces::lines_left))]
+    #[tactic(auto, unfolding(crate::specs::Scripts::lines_left))]
     fn next(&mut self) -> Option<&'a [u8]> {
         let (line, rest) = split_first_line(self.rest?);
         self.rest = rest;
@@ -28,7 +29,7 @@ impl<'a> Iterator for ScriptLines<'a> {
 }
 
 /// The lines of a script, which may lack its last newline.
-#[tactic(auto, unfolding(crate::specs::Pieces::lines_left))]
+#[tactic(auto, unfolding(crate::specs::Scripts::lines_left))]
 pub fn lines(script: &[u8]) -> ScriptLines<'_>
     ensures lines { lines_left result ≡ pieces newline script.now }
 

@@ -2,14 +2,12 @@
 
 ghost use Rattle.std.specs.Prelude.{◌≡◌};
 ghost use Rattle.dw_script.specs.Lists.{location_list_line, range_list_line};
-ghost use Rattle.dw_script.specs.Pieces.{pieces_left};
+ghost use Rattle.dw_ends.specs.Pieces.{pieces_left};
 
 use crate::command::Command;
-use crate::field::next_u64;
 use crate::location_list::LocationFields;
-use crate::pieces::Pieces;
 use crate::range_list::RangeFields;
-use dw_ends::Reason;
+use dw_ends::{Pieces, Reason, next_u64};
 
 /// The fields after `range`.
 pub(crate) fn parse_range_list<'a>(fields: &mut Pieces<'a>) -> Result<Command<'a>, Reason>

@@ -1,23 +1,22 @@
 //! The values of attributes.
 
 ghost use Rattle.std.specs.Prelude.{◌≡◌};
-ghost use Rattle.dw_script.specs.Fields.{with_rest};
-ghost use Rattle.dw_script.specs.Pieces.{pieces_left};
+ghost use Rattle.dw_ends.specs.Fields.{with_rest};
+ghost use Rattle.dw_ends.specs.Pieces.{pieces_left};
 ghost use Rattle.dw_script.specs.Values.{constant_of_kind, value_field};
 
 use crate::expression::ExpressionFields;
 use crate::field::{
     next_address, next_flag, next_hex_bytes, next_i64, next_index_or_none, next_kind,
-    next_reference, next_u8, next_u16, next_u32, next_u64, next_u128, next_usize,
+    next_reference, next_u8, next_u16, next_u32, next_u128, next_usize,
 };
 use crate::kind::{ConstantKind, Kind};
-use crate::pieces::Pieces;
 use dw_base::{
     Address, DebugInfoOffset, DebugInfoRef, DebugMacinfoOffset, DebugMacroOffset, DebugStrOffset,
     DebugTypeSignature, DwAccess, DwAddr, DwAte, DwCc, DwDs, DwEnd, DwId, DwInl, DwLang, DwOrd,
     DwVirtuality, DwVis,
 };
-use dw_ends::{HexBytes, Reason};
+use dw_ends::{HexBytes, Pieces, Reason, next_u64};
 
 /// A value that a line gives an attribute; sections of the standard are DWARF 5's. A word of the
 /// format has 4 bytes, and in the 64-bit format 8. Each number from `Encoding` on is spelled in

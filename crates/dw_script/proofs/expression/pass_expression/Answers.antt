@@ -2,7 +2,7 @@ use Rattle.std.proofs.Common.{◌≡◌, ◌∙◌, Err, ap, sym, subst, refl, r
 use Rattle.dw_ends.specs.declared.reason.Reason.{Reason}
 use Rattle.dw_script.specs.Branches.{count_all}
 use Rattle.dw_script.specs.Expressions.{IsWalked, judged, walk_left}
-use Rattle.dw_script.specs.Pieces.{pieces_left}
+use Rattle.dw_ends.specs.Pieces.{pieces_left}
 use Rattle.dw_script.specs.Steps.{expression_walk, step_before}
 use Rattle.dw_script.proofs.Kept.{kept_end, kept_end-none, judged-so_far}
 use Rattle.dw_script.proofs.expression.pass_expression.Goals as goal

@@ -2,7 +2,7 @@
 use Rattle.std.proofs.Common.{◌≡◌, ◌+◌, ◌<◌, ◌≤◌, ◌^◌, length}
 use Rattle.dw_script.specs.Branches.{count_all}
 use Rattle.dw_script.specs.Expressions.{walk_left}
-use Rattle.dw_script.specs.Pieces.{pieces_left}
+use Rattle.dw_ends.specs.Pieces.{pieces_left}
 use Rattle.dw_script.proofs.Kept.{kept_end}
 use Rattle.dw_script.proofs.expression.pass_expression.Given as goal
 

@@ -2,7 +2,7 @@ use Rattle.std.proofs.Common.{◌≡◌, ◌∙◌, ◌<◌, length, Ok, Err, ap
 use Rattle.std.proofs.lemmas.Bool.Decides.{nat_tests}
 use Rattle.dw_script.specs.declared.range.ScriptRange.{ScriptRange}
 use Rattle.dw_script.specs.Items.{Items, items_of}
-use Rattle.dw_script.specs.Pieces.{pieces_left}
+use Rattle.dw_ends.specs.Pieces.{pieces_left}
 use Rattle.dw_script.specs.Ranges.{range_field}
 use Rattle.dw_script.proofs.Items.{items-none, items-step, items-failed}
 use Rattle.dw_script.proofs.Ranges.{range_field-takes}

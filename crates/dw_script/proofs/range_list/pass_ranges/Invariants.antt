@@ -1,7 +1,7 @@
 -- What is left of the list ends as the whole does.
 use Rattle.std.proofs.Common.{◌≡◌, length}
 use Rattle.dw_script.specs.Items.{items_of}
-use Rattle.dw_script.specs.Pieces.{pieces_left}
+use Rattle.dw_ends.specs.Pieces.{pieces_left}
 use Rattle.dw_script.specs.Ranges.{range_field}
 use Rattle.dw_script.proofs.range_list.pass_ranges.Given as goal
 

@@ -1,5 +1,5 @@
 use Rattle.std.proofs.Common.{◌==◌}
-use Rattle.dw_script.specs.Pieces.{newline}
+use Rattle.dw_ends.specs.Pieces.{newline}
 use Rattle.dw_script.proofs.Cuts.{first_byte}
 use Rattle.dw_script.proofs.script.find_newline.Goals as goal
 

@@ -1,5 +1,6 @@
-use Rattle.dw_script.specs.Pieces.{lines_left, newline}
-use Rattle.dw_script.proofs.Cuts.{length-pieces}
+use Rattle.dw_ends.specs.Pieces.{newline}
+use Rattle.dw_script.specs.Scripts.{lines_left}
+use Rattle.dw_ends.proofs.Cuts.{length-pieces}
 use Rattle.dw_script.proofs.script.lines.Goals as goal
 
 pub returns-clause-few : goal.returns-clause-few

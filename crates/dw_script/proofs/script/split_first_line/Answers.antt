@@ -1,7 +1,7 @@
 use Rattle.std.proofs.Common.{◌+◌, sym}
 use Rattle.std.proofs.lemmas.List.{take_rest}
-use Rattle.dw_script.specs.Pieces.{newline}
-use Rattle.dw_script.proofs.Cuts.{pieces_found, pieces_none}
+use Rattle.dw_ends.specs.Pieces.{newline}
+use Rattle.dw_ends.proofs.Cuts.{pieces_found, pieces_none}
 use Rattle.dw_script.proofs.script.split_first_line.Goals as goal
 
 pub returns-in-Some : goal.returns-in-Some

@@ -1,4 +1,4 @@
-use Rattle.dw_script.specs.Pieces.{pieces_left}
+use Rattle.dw_ends.specs.Pieces.{pieces_left}
 use Rattle.dw_script.proofs.Expressions.{judged-expression}
 use Rattle.dw_script.proofs.expression.ExpressionFields.read.Goals as goal
 

@@ -1,6 +1,6 @@
 use Rattle.std.proofs.Common.{◌≡◌, ◌∙◌, refl, rules, arith, sym, ap, Ok, Err, length}
 use Rattle.dw_script.specs.Expressions.{walk_left}
-use Rattle.dw_script.specs.Pieces.{pieces_left}
+use Rattle.dw_ends.specs.Pieces.{pieces_left}
 use Rattle.dw_script.specs.Steps.{step_field, walk, is_open, step_before}
 use Rattle.dw_script.proofs.Walks.{step_field-shorter, walk-closed, walk-step, walk-failed}
 use Rattle.dw_script.proofs.expression.ExpressionSteps.step.Goals as goal

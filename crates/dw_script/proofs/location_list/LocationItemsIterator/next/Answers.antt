@@ -2,7 +2,7 @@ use Rattle.std.proofs.Common.{◌≡◌, ◌<◌, length, Ok, Err, Some, ap, rul
 use Rattle.std.proofs.lemmas.Bool.Decides.{nat_tests}
 use Rattle.dw_script.specs.declared.location.ScriptLocation.{ScriptLocation}
 use Rattle.dw_script.specs.Items.{Items, items_of, items_up_to}
-use Rattle.dw_script.specs.Pieces.{pieces_left}
+use Rattle.dw_ends.specs.Pieces.{pieces_left}
 use Rattle.dw_script.specs.Locations.{location_field, locations_left}
 use Rattle.dw_script.proofs.Items.{items-none, items-step, items-failed}
 use Rattle.dw_script.proofs.Locations.{location_field-takes}

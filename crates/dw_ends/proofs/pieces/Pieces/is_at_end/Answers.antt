@@ -2,8 +2,8 @@ use Rattle.std.proofs.Common.{◌≡◌, ℕ, ◌==◌, Bool, true, false, not, 
 use Rattle.std.specs.Borrow.{Bor}
 use Rattle.std.proofs.lemmas.Bool.Decides.{nat_tests}
 use Rattle.std.proofs.lemmas.List.Splits.{length-slice_split}
-use Rattle.dw_script.specs.Pieces.{pieces, pieces_after, pieces_left}
-use Rattle.dw_script.proofs.pieces.Pieces.is_at_end.Goals as goal
+use Rattle.dw_ends.specs.Pieces.{pieces, pieces_after, pieces_left}
+use Rattle.dw_ends.proofs.pieces.Pieces.is_at_end.Goals as goal
 
 -- bytes have one piece at least
 some_pieces : (separator : ℕ) (bytes : List ℕ) → false ≡ (length (pieces separator bytes) == 0)

@@ -1,7 +1,7 @@
 use Rattle.std.proofs.Common.{◌≤◌, length, arith, subst, sym, Some}
-use Rattle.dw_script.specs.Pieces.{pieces_left, pieces_after}
-use Rattle.dw_script.proofs.Cuts.{length-pieces}
-use Rattle.dw_script.proofs.pieces.Pieces.most_left.Goals as goal
+use Rattle.dw_ends.specs.Pieces.{pieces_left, pieces_after}
+use Rattle.dw_ends.proofs.Cuts.{length-pieces}
+use Rattle.dw_ends.proofs.pieces.Pieces.most_left.Goals as goal
 
 pub returns-in-Some : goal.returns-in-Some
 unfolding pieces_left

@@ -2,8 +2,7 @@
 use Rattle.std.specs.Prelude.{ℕ, List, [], Option, Some, None, ◌==◌}
 use Rattle.std.specs.List.{slice_split}
 use Rattle.std.specs.Borrow.{Bor}
-use Rattle.dw_script.specs.declared.script.ScriptLines.{ScriptLines}
-use Rattle.dw_script.specs.declared.pieces.Pieces.{Pieces}
+use Rattle.dw_ends.specs.declared.pieces.Pieces.{Pieces}
 
 -- what ends a line
 abbrev pub newline : ℕ
@@ -12,10 +11,6 @@ newline = 10
 -- what stands between two fields
 abbrev pub space : ℕ
 space = 32
-
--- what stands between the parts of an address
-abbrev pub colon : ℕ
-colon = 58
 
 -- the parts between the separators, some of them empty; with no separator the one part is the whole
 abbrev pub pieces : ℕ → List ℕ → List (List ℕ)
@@ -29,7 +24,3 @@ pieces_after separator (Some rest) = pieces separator rest.now
 -- the pieces that are still to come
 unfoldable pub pieces_left : Pieces → List (List ℕ)
 pieces_left p = pieces_after p.separator p.rest
-
--- the lines that are still to come
-unfoldable pub lines_left : ScriptLines → List (List ℕ)
-lines_left l = pieces_after newline l.rest

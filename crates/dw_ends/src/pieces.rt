@@ -2,9 +2,10 @@
 
 ghost use Rattle.std.specs.Prelude.{◌≡◌, [], ◌∷◌, ◌+◌, ◌<◌, ◌≤◌, ◌==◌, IfSome, length, position};
 ghost use Rattle.std.specs.Iterator.{YieldsFirstRef, item_count};
-ghost use Rattle.dw_script.specs.Pieces.{pieces, pieces_after, pieces_left};
+ghost use Rattle.dw_ends.specs.Pieces.{pieces, pieces_after, pieces_left};
 
-/// The pieces between separators, from the first on; n separators give n + 1 pieces.
+/// The pieces of bytes between separators, from the first on; n separators give n + 1 pieces, some
+/// of them empty. Cut at `:`, `1:-4` has the pieces `1` and `-4`.
 #[derive(Clone, Copy, Debug)]
 pub struct Pieces<'a> {
     separator: u8,
@@ -24,7 +25,7 @@ impl<'a> Pieces<'a> {
     }
 
     /// Whether no pieces are left.
-    pub(crate) fn is_at_end(&self) -> bool
+    pub fn is_at_end(&self) -> bool
         ensures { result ≡ (length (pieces_left self.now) == 0) }
     {
         self.rest.is_none()
@@ -32,14 +33,14 @@ impl<'a> Pieces<'a> {
 
     /// Passes all pieces that are left.
     #[tactic(auto, unfolding(crate::specs::Pieces::pieces_left))]
-    pub(crate) fn pass_all(&mut self)
+    pub fn pass_all(&mut self)
         ensures { pieces_left self.new ≡ [] }
     {
         self.rest = None;
     }
 
     /// A number that is not below that of the pieces that are left.
-    pub(crate) fn most_left(&self) -> usize
+    pub fn most_left(&self) -> usize
         ensures { length (pieces_left self.now) ≤ result }
     {
         match self.rest {
