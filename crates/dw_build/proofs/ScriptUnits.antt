@@ -14,8 +14,8 @@ use Rattle.dw_script.specs.declared.change.Change.{Change}
 use Rattle.dw_script.specs.declared.change.Change.TheVariants as change
 use Rattle.dw_script.specs.declared.line_change.LineChange.{LineChange}
 use Rattle.dw_script.specs.declared.line_change.LineChange.TheVariants as change_lines
-use Rattle.dw_script.specs.declared.location.ScriptLocation.{ScriptLocation}
-use Rattle.dw_script.specs.declared.range.ScriptRange.{ScriptRange}
+use Rattle.dw_script_fields.specs.declared.location.ScriptLocation.{ScriptLocation}
+use Rattle.dw_script_fields.specs.declared.range.ScriptRange.{ScriptRange}
 use Rattle.dw_ends.specs.declared.reason.Reason.{Reason}
 use Rattle.dw_ends.specs.declared.reason.Reason.TheVariants.{OrderNotFirst, NoSuchUnit, NoSuchEntry, NotReserved, BadTag, BadName, ZeroByte, NoLineProgram, NoSuchDirectory, InSequence, NotInSequence, NoSuchFile, AddressBack}
 use Rattle.dw_entries.specs.Content.{has_zero}

@@ -4,9 +4,9 @@ use Rattle.dw_base.specs.declared.address.DebugInfoRef.TheVariants.{Entry}
 use Rattle.dw_entries.specs.declared.value.AttributeValue.TheVariants as stored
 use Rattle.dw_expr.specs.Trees.{plain, entry_value, nothing, before}
 use Rattle.dw_expr.specs.Trees as trees
-use Rattle.dw_script.specs.declared.expression_step.ExpressionStep.TheVariants as step
-use Rattle.dw_script.specs.declared.operation.ScriptOperation.TheVariants as operation
-use Rattle.dw_script.specs.declared.value.Value.TheVariants as value
+use Rattle.dw_script_fields.specs.declared.expression_step.ExpressionStep.TheVariants as step
+use Rattle.dw_script_fields.specs.declared.operation.ScriptOperation.TheVariants as operation
+use Rattle.dw_script_fields.specs.declared.value.Value.TheVariants as value
 use Rattle.dw_build.specs.Expressions.{expression_of}
 use Rattle.dw_build.specs.Script.{attribute_value}
 

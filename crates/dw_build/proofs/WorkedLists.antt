@@ -6,9 +6,9 @@ use Rattle.dw_expr.specs.Trees.{plain}
 use Rattle.dw_expr.specs.Trees as trees
 use Rattle.dw_line.specs.LinePrograms.{no_line_program}
 use Rattle.dw_lists.specs.declared.location.Location.TheVariants as stored
-use Rattle.dw_script.specs.declared.expression_step.ExpressionStep.TheVariants as step
-use Rattle.dw_script.specs.declared.location.ScriptLocation.TheVariants as location
-use Rattle.dw_script.specs.declared.operation.ScriptOperation.TheVariants as operation
+use Rattle.dw_script_fields.specs.declared.expression_step.ExpressionStep.TheVariants as step
+use Rattle.dw_script_fields.specs.declared.location.ScriptLocation.TheVariants as location
+use Rattle.dw_script_fields.specs.declared.operation.ScriptOperation.TheVariants as operation
 use Rattle.dw_unit.specs.UnitValue.{UnitValue, new_unit}
 use Rattle.dw_build.specs.LocationLists.{after_location_list, locations_of}
 

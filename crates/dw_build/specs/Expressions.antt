@@ -3,10 +3,10 @@ use Rattle.std.specs.Prelude.{List, [], ◌∷◌, ◌++◌}
 use Rattle.std.specs.Option.{option_map}
 use Rattle.dw_expr.specs.Trees.{Node, plain, entry_value, tree_of}
 use Rattle.dw_expr.specs.Trees as trees
-use Rattle.dw_script.specs.declared.expression_step.ExpressionStep.{ExpressionStep}
-use Rattle.dw_script.specs.declared.expression_step.ExpressionStep.TheVariants as step
-use Rattle.dw_script.specs.declared.operation.ScriptOperation.{ScriptOperation}
-use Rattle.dw_script.specs.declared.operation.ScriptOperation.TheVariants as operation
+use Rattle.dw_script_fields.specs.declared.expression_step.ExpressionStep.{ExpressionStep}
+use Rattle.dw_script_fields.specs.declared.expression_step.ExpressionStep.TheVariants as step
+use Rattle.dw_script_fields.specs.declared.operation.ScriptOperation.{ScriptOperation}
+use Rattle.dw_script_fields.specs.declared.operation.ScriptOperation.TheVariants as operation
 
 -- an operation with its operands; the number of an entry is its id
 abbrev pub node_of_operation : ScriptOperation → Node

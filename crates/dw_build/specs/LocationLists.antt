@@ -5,8 +5,8 @@ use Rattle.dw_lists.specs.Lists.{with_list}
 use Rattle.dw_lists.specs.declared.location.Location.{Location}
 use Rattle.dw_lists.specs.declared.location.Location.TheVariants as stored
 use Rattle.dw_ends.specs.Fields.{Outcome}
-use Rattle.dw_script.specs.declared.location.ScriptLocation.{ScriptLocation}
-use Rattle.dw_script.specs.declared.location.ScriptLocation.TheVariants as location
+use Rattle.dw_script_fields.specs.declared.location.ScriptLocation.{ScriptLocation}
+use Rattle.dw_script_fields.specs.declared.location.ScriptLocation.TheVariants as location
 use Rattle.dw_unit.specs.UnitValue.{UnitValue}
 use Rattle.dw_build.specs.Expressions.{expression_of}
 

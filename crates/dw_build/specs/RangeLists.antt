@@ -5,8 +5,8 @@ use Rattle.dw_lists.specs.Lists.{with_list}
 use Rattle.dw_lists.specs.declared.range.Range.{Range}
 use Rattle.dw_lists.specs.declared.range.Range.TheVariants as stored
 use Rattle.dw_ends.specs.Fields.{Outcome}
-use Rattle.dw_script.specs.declared.range.ScriptRange.{ScriptRange}
-use Rattle.dw_script.specs.declared.range.ScriptRange.TheVariants as range
+use Rattle.dw_script_fields.specs.declared.range.ScriptRange.{ScriptRange}
+use Rattle.dw_script_fields.specs.declared.range.ScriptRange.TheVariants as range
 use Rattle.dw_unit.specs.UnitValue.{UnitValue}
 
 -- an item, as lists have it

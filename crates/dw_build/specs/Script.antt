@@ -9,8 +9,8 @@ use Rattle.dw_script.specs.declared.command.Command.TheVariants.{Order, Unit as 
 use Rattle.dw_script.specs.declared.change.Change.{Change}
 use Rattle.dw_script.specs.declared.change.Change.TheVariants as change
 use Rattle.dw_ends.specs.declared.reason.Reason.TheVariants.{OrderNotFirst, NoSuchUnit, NoSuchEntry, NotReserved, BadTag, BadName}
-use Rattle.dw_script.specs.declared.value.Value.{Value}
-use Rattle.dw_script.specs.declared.value.Value.TheVariants as value
+use Rattle.dw_script_fields.specs.declared.value.Value.{Value}
+use Rattle.dw_script_fields.specs.declared.value.Value.TheVariants as value
 use Rattle.dw_strings.specs.Strings.{with_string}
 use Rattle.dw_entries.specs.Entries.{EntryValue, with_changed, filled_up, with_new_child, with_sibling, with_attribute, without_attribute, without_child}
 use Rattle.dw_line.specs.LinePrograms.{no_line_program}

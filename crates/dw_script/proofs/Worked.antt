@@ -1,12 +1,13 @@
 -- Lines, read on the definition.
 use Rattle.std.proofs.Common.{◌≡◌, ◌∷◌, [], Some, None, Ok, Err, codes, refl}
+use Rattle.dw_base.specs.declared.address.Address.TheVariants as address
 use Rattle.dw_base.specs.declared.common.Format.TheVariants.{Dwarf32}
 use Rattle.dw_script.specs.declared.change.Change.TheVariants as change
 use Rattle.dw_script.specs.declared.command.Command.TheVariants as command
 use Rattle.dw_ends.specs.declared.reason.Reason.TheVariants.{BadByte, UnknownWord, BadNumber}
-use Rattle.dw_script.specs.declared.value.Value.TheVariants as value
-use Rattle.dw_script.specs.Codes.{tag_of, attribute_of}
-use Rattle.dw_script.specs.Kinds.{kind_of}
+use Rattle.dw_script_fields.specs.declared.value.Value.TheVariants as value
+use Rattle.dw_script_fields.specs.Codes.{tag_of, attribute_of}
+use Rattle.dw_script_fields.specs.Kinds.{kind_of}
 use Rattle.dw_script.specs.Lines.{parsed_line}
 use Rattle.hex.specs.Hex.{decode_pairs}
 
@@ -59,3 +60,8 @@ set_string = refl
 set_empty : parsed_line (codes "set 0 0 3 string -") ≡ Ok (Some (command.Change 0 (change.Set 0 (record { 0 = 3 }) (value.String []))))
 unfolding parsed_line attribute_of kind_of
 set_empty = refl
+
+-- an address
+set_address : parsed_line (codes "set 0 1 0x11 address 0x1000") ≡ Ok (Some (command.Change 0 (change.Set 1 (record { 0 = 0x11 }) (value.Address (address.Constant 0x1000)))))
+unfolding parsed_line attribute_of kind_of
+set_address = refl

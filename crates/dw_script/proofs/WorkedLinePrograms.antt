@@ -1,14 +1,11 @@
 -- Lines that change line programs, read on the definition.
-use Rattle.std.proofs.Common.{◌≡◌, ◌∷◌, ◌-◌, ◌^◌, [], negsuc, Some, None, Ok, Err, codes, refl}
+use Rattle.std.proofs.Common.{◌≡◌, ◌∷◌, ◌-◌, [], negsuc, Some, None, Ok, Err, codes, refl}
 use Rattle.dw_base.specs.declared.address.Address.TheVariants as address
 use Rattle.dw_script.specs.declared.command.Command.TheVariants as command
 use Rattle.dw_script.specs.declared.line_change.LineChange.TheVariants as change
 use Rattle.dw_script.specs.declared.line_change.LineText.TheVariants as text
 use Rattle.dw_ends.specs.declared.reason.Reason.TheVariants.{UnknownWord, BadNumber, BadHex, WrongFields}
-use Rattle.dw_script.specs.declared.value.Value.TheVariants as value
-use Rattle.dw_script.specs.Kinds.{kind_of}
 use Rattle.dw_script.specs.Lines.{parsed_line}
-use Rattle.dw_script.specs.Values.{value_field}
 use Rattle.hex.specs.Hex.{decode_pairs}
 
 -- a line program, whose working directory is a string of .debug_line_str
@@ -61,20 +58,3 @@ no_address = refl
 no_column : parsed_line (codes "row 1 2 3 4") ≡ Err WrongFields
 unfolding parsed_line
 no_column = refl
-
--- values: the unit's line program, which takes no field, and files of it
-line_program : value_field (codes "line_program_ref" ∷ codes "0" ∷ []) ≡ Ok (value.LineProgramRef, codes "0" ∷ [])
-unfolding kind_of
-line_program = refl
-
-last_file : value_field (codes "file_index" ∷ codes "18446744073709551615" ∷ []) ≡ Ok (value.FileIndex (Some (2 ^ 64 - 1)), [])
-unfolding kind_of
-last_file = refl
-
-no_file : value_field (codes "file_index" ∷ codes "none" ∷ []) ≡ Ok (value.FileIndex None, [])
-unfolding kind_of
-no_file = refl
-
-past_files : value_field (codes "file_index" ∷ codes "18446744073709551616" ∷ []) ≡ Err BadNumber
-unfolding kind_of
-past_files = refl

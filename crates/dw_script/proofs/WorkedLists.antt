@@ -1,21 +1,18 @@
 -- Lines that add lists to units, read on the definition.
-use Rattle.std.proofs.Common.{◌≡◌, ◌∷◌, ◌-◌, ◌^◌, [], negsuc, false, Some, Ok, Err, codes, refl}
+use Rattle.std.proofs.Common.{◌≡◌, ◌∷◌, ◌-◌, [], negsuc, false, Some, Ok, Err, codes, refl}
 use Rattle.dw_base.specs.declared.address.Address.TheVariants as address
 use Rattle.dw_script.specs.declared.command.Command.TheVariants as command
-use Rattle.dw_script.specs.declared.expression_step.ExpressionStep.TheVariants as step
-use Rattle.dw_script.specs.declared.location.ScriptLocation.TheVariants as location
-use Rattle.dw_script.specs.declared.operation.ScriptOperation.TheVariants as operation
-use Rattle.dw_script.specs.declared.range.ScriptRange.TheVariants as range
+use Rattle.dw_script_fields.specs.declared.expression_step.ExpressionStep.TheVariants as step
+use Rattle.dw_script_fields.specs.declared.location.ScriptLocation.TheVariants as location
+use Rattle.dw_script_fields.specs.declared.operation.ScriptOperation.TheVariants as operation
+use Rattle.dw_script_fields.specs.declared.range.ScriptRange.TheVariants as range
 use Rattle.dw_ends.specs.declared.reason.Reason.TheVariants.{UnknownWord, BadNumber, BadTarget, WrongFields}
-use Rattle.dw_script.specs.declared.value.Value.TheVariants as value
-use Rattle.dw_script.specs.Items.{items_up_to}
-use Rattle.dw_script.specs.Kinds.{kind_of}
+use Rattle.dw_script_fields.specs.Items.{items_up_to}
 use Rattle.dw_script.specs.Lines.{parsed_line}
-use Rattle.dw_script.specs.LocationWords.{location_word_of}
-use Rattle.dw_script.specs.OperationWords.{step_word_of}
-use Rattle.dw_script.specs.RangeWords.{range_word_of}
-use Rattle.dw_script.specs.Steps.{walk}
-use Rattle.dw_script.specs.Values.{value_field}
+use Rattle.dw_script_fields.specs.LocationWords.{location_word_of}
+use Rattle.dw_script_fields.specs.OperationWords.{step_word_of}
+use Rattle.dw_script_fields.specs.RangeWords.{range_word_of}
+use Rattle.dw_script_fields.specs.Steps.{walk}
 
 -- an item of each word, in their order, for unit 1
 ranges : parsed_line (codes "range 1 base 0x1000 pair 1 2 ends sym:0:-1 0x10 len 4 0x20") ≡ Ok (Some (command.RangeList 1
@@ -64,21 +61,3 @@ no_bracket = refl
 location_target : parsed_line (codes "loc 0 default [ skip 0 ] pair x") ≡ Err BadTarget
 unfolding parsed_line location_word_of items_up_to walk step_word_of
 location_target = refl
-
--- values: a range list by its index, and the unit's range lists, which take no field
-last_range_list : value_field (codes "range_ref" ∷ codes "18446744073709551615" ∷ []) ≡ Ok (value.RangeListRef (2 ^ 64 - 1), [])
-unfolding kind_of
-last_range_list = refl
-
-range_lists : value_field (codes "range_base" ∷ codes "0" ∷ []) ≡ Ok (value.RangeListsBase, codes "0" ∷ [])
-unfolding kind_of
-range_lists = refl
-
--- and so for location lists
-last_location_list : value_field (codes "loc_ref" ∷ codes "18446744073709551615" ∷ []) ≡ Ok (value.LocationListRef (2 ^ 64 - 1), [])
-unfolding kind_of
-last_location_list = refl
-
-location_lists : value_field (codes "loc_base" ∷ codes "0" ∷ []) ≡ Ok (value.LocationListsBase, codes "0" ∷ [])
-unfolding kind_of
-location_lists = refl

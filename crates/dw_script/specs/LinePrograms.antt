@@ -7,7 +7,7 @@ use Rattle.dw_script.specs.declared.line_change.LineText.{LineText}
 use Rattle.dw_script.specs.declared.line_change.LineText.TheVariants as text
 use Rattle.dw_ends.specs.declared.reason.Reason.TheVariants.{UnknownWord}
 use Rattle.dw_ends.specs.Fields.{Fields, Outcome, ◌>>=◌, next_field, end_of_fields, number_field, hex_field}
-use Rattle.dw_script.specs.Fields.{made, address_or_none_field}
+use Rattle.dw_script_fields.specs.Fields.{made, address_or_none_field}
 
 -- what a word and the field after it say: a name's own bytes, or the number of a string
 abbrev pub text_of_word : List ℕ → Fields → Outcome (LineText × Fields)

@@ -6,10 +6,11 @@ use Rattle.dw_script.specs.declared.command.Command.TheVariants as command
 use Rattle.dw_script.specs.declared.word.Word.{Word}
 use Rattle.dw_script.specs.declared.word.Word.TheVariants as word
 use Rattle.dw_ends.specs.Fields.{line_fields, said_by, Fields, Outcome, ◌>>=◌, end_of_fields, number_field, byte_order_field, hex_field}
-use Rattle.dw_script.specs.Fields.{word_field, format_field, flag_field}
+use Rattle.dw_script_fields.specs.Fields.{format_field, flag_field}
+use Rattle.dw_script.specs.Words.{word_field}
 use Rattle.dw_script.specs.LinePrograms.{line_program_line, directory_line, file_line, sequence_line, row_line, end_line}
 use Rattle.dw_script.specs.Lists.{range_list_line, location_list_line}
-use Rattle.dw_script.specs.Values.{tag_field, attribute_field, value_field}
+use Rattle.dw_script_fields.specs.Values.{tag_field, attribute_field, value_field}
 
 -- the fields after `order`: the byte order
 abbrev pub order_line : Fields → Outcome Command

@@ -3,9 +3,9 @@ use Rattle.std.specs.Prelude.{◌^◌, Ok}
 use Rattle.dw_script.specs.declared.command.Command.{Command}
 use Rattle.dw_script.specs.declared.command.Command.TheVariants as command
 use Rattle.dw_ends.specs.Fields.{Fields, Outcome, ◌>>=◌, number_field}
-use Rattle.dw_script.specs.Items.{list_of}
-use Rattle.dw_script.specs.Locations.{location_field}
-use Rattle.dw_script.specs.Ranges.{range_field}
+use Rattle.dw_script_fields.specs.Items.{list_of}
+use Rattle.dw_script_fields.specs.Locations.{location_field}
+use Rattle.dw_script_fields.specs.Ranges.{range_field}
 
 -- the fields after `range`: the unit, and one item or more
 abbrev pub range_list_line : Fields → Outcome Command

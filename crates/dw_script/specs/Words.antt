@@ -1,6 +1,8 @@
 -- The words that begin a line.
-use Rattle.std.specs.Prelude.{ℕ, List, [], ◌∷◌, Option, bytes_eq, codes}
+use Rattle.std.specs.Prelude.{ℕ, List, [], ◌∷◌, Option, Ok, ok_or, bytes_eq, codes}
 use Rattle.std.specs.Map.{lookup}
+use Rattle.dw_ends.specs.Fields.{Fields, Outcome, ◌>>=◌, next_field}
+use Rattle.dw_ends.specs.declared.reason.Reason.TheVariants.{UnknownWord}
 use Rattle.dw_script.specs.declared.word.Word.{Word}
 use Rattle.dw_script.specs.declared.word.Word.TheVariants as word
 
@@ -31,3 +33,10 @@ words =
 -- the word that a field spells
 abbrev pub word_of : List ℕ → Option Word
 word_of field = lookup (bytes_eq field) words
+
+-- the word of a line, and the fields after it
+abbrev pub word_field : Fields → Outcome (Word × Fields)
+word_field fields = do
+  (field, fields) ← next_field fields
+  word ← ok_or (word_of field) UnknownWord
+  Ok (word, fields)

@@ -1,7 +1,7 @@
 //! What a line of a script asks of one unit.
 
-use crate::value::Value;
 use dw_base::{DwAt, DwTag};
+use dw_script_fields::Value;
 
 /// A change of a unit's entries.
 #[derive(Debug, Drop)]

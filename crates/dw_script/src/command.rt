@@ -2,10 +2,9 @@
 
 use crate::change::Change;
 use crate::line_change::LineChange;
-use crate::location_list::LocationFields;
-use crate::range_list::RangeFields;
 use dw_base::{Encoding, RunTimeEndian};
 use dw_ends::HexBytes;
+use dw_script_fields::{LocationFields, RangeFields};
 
 /// One line's request.
 #[derive(Debug, Drop)]

@@ -6,17 +6,16 @@ ghost use Rattle.dw_script.specs.Lines.{add_line, add_reserved_line, command_of,
 
 use crate::change::Change;
 use crate::command::Command;
-use crate::field::{
-    next_attribute, next_flag, next_format, next_hex_bytes, next_tag, next_u8, next_u16, next_word,
-};
 use crate::line_program::{
     parse_directory, parse_end, parse_file, parse_line_program, parse_row, parse_sequence,
 };
 use crate::unit_list::{parse_location_list, parse_range_list};
-use crate::value::next_value;
-use crate::word::Word;
+use crate::word::{Word, next_word};
 use dw_base::Encoding;
 use dw_ends::{Pieces, Reason, expect_end, line_fields, next_byte_order, next_u64};
+use dw_script_fields::{
+    next_attribute, next_flag, next_format, next_hex_bytes, next_tag, next_u8, next_u16, next_value,
+};
 
 /// What a line asks for, or `None` where it is passed over.
 #[tactic(auto, unfolding(crate::specs::Lines::parsed_line))]

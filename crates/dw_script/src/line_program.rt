@@ -6,9 +6,9 @@ ghost use Rattle.dw_ends.specs.Fields.{with_rest};
 ghost use Rattle.dw_script.specs.LinePrograms.{directory_line, end_line, file_line, line_program_line, line_text_field, row_line, sequence_line};
 
 use crate::command::Command;
-use crate::field::{next_address_or_none, next_hex_bytes, next_usize};
 use crate::line_change::{LineChange, LineText};
 use dw_ends::{Pieces, Reason, expect_end, next_field, next_u64};
+use dw_script_fields::{next_address_or_none, next_hex_bytes, next_usize};
 
 /// The fields after `line`.
 pub(crate) fn parse_line_program<'a>(fields: &mut Pieces<'a>) -> Result<Command<'a>, Reason>

@@ -5,9 +5,8 @@ ghost use Rattle.dw_script.specs.Lists.{location_list_line, range_list_line};
 ghost use Rattle.dw_ends.specs.Pieces.{pieces_left};
 
 use crate::command::Command;
-use crate::location_list::LocationFields;
-use crate::range_list::RangeFields;
 use dw_ends::{Pieces, Reason, next_u64};
+use dw_script_fields::{LocationFields, RangeFields};
 
 /// The fields after `range`.
 pub(crate) fn parse_range_list<'a>(fields: &mut Pieces<'a>) -> Result<Command<'a>, Reason>

@@ -1,7 +1,11 @@
 //! The words that begin a line.
 
 ghost use Rattle.std.specs.Prelude.{◌≡◌};
-ghost use Rattle.dw_script.specs.Words.{word_of};
+ghost use Rattle.dw_ends.specs.Fields.{with_rest};
+ghost use Rattle.dw_ends.specs.Pieces.{pieces_left};
+ghost use Rattle.dw_script.specs.Words.{word_field, word_of};
+
+use dw_ends::{Pieces, Reason, next_field};
 
 /// The word of a line, which says what the line's other fields are.
 #[derive(Clone, Copy, Debug, PartialEq, Eq)]
@@ -56,4 +60,12 @@ impl Word {
         };
         Some(word)
     }
+}
+
+/// The word of a line.
+pub(crate) fn next_word(fields: &mut Pieces<'_>) -> Result<Word, Reason>
+    ensures { with_rest result (pieces_left fields.new) ≡
+        word_field (pieces_left fields.old) }
+{
+    Word::read(next_field(fields)?).ok_or(Reason::UnknownWord)
 }

@@ -1,6 +1,6 @@
 -- The list so far, and the items that are left, are the whole.
 use Rattle.std.proofs.Common.{◌≡◌, ◌++◌}
-use Rattle.dw_script.specs.Locations.{locations_left}
+use Rattle.dw_script_fields.specs.Locations.{locations_left}
 use Rattle.dw_build.specs.LocationLists.{locations_of}
 use Rattle.dw_build.proofs.location_lists.owned_list.Given as goal
 

@@ -1,6 +1,6 @@
 -- The list so far, and the items that are left, are the whole.
 use Rattle.std.proofs.Common.{◌≡◌, ◌++◌}
-use Rattle.dw_script.specs.Ranges.{ranges_left}
+use Rattle.dw_script_fields.specs.Ranges.{ranges_left}
 use Rattle.dw_build.specs.RangeLists.{ranges_of}
 use Rattle.dw_build.proofs.range_lists.owned_list.Given as goal
 

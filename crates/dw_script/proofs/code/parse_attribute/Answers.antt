@@ -1,6 +1,0 @@
-use Rattle.dw_script.specs.Codes.{attribute_of}
-use Rattle.dw_script.proofs.code.parse_attribute.Goals as goal
-
-pub returns : goal.returns
-unfolding attribute_of
-returns c = c.parse_code.ensures

@@ -1,6 +1,0 @@
-use Rattle.dw_script.specs.Codes.{tag_of}
-use Rattle.dw_script.proofs.code.parse_tag.Goals as goal
-
-pub returns : goal.returns
-unfolding tag_of
-returns c = c.parse_code.ensures

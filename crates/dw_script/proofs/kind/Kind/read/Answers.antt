@@ -1,6 +1,0 @@
-use Rattle.dw_script.specs.Kinds.{kind_of}
-use Rattle.dw_script.proofs.kind.Kind.read.Goals as goal
-
-pub returns : goal.returns
-unfolding kind_of
-returns c = c.find_name.ensures

@@ -1,6 +1,0 @@
-use Rattle.dw_script.specs.LocationWords.{location_word_of}
-use Rattle.dw_script.proofs.location_word.LocationWord.read.Goals as goal
-
-pub returns : goal.returns
-unfolding location_word_of
-returns c = c.find_name.ensures

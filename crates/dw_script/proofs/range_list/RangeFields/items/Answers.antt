@@ -1,6 +1,0 @@
-use Rattle.dw_script.specs.Ranges.{ranges_left}
-use Rattle.dw_script.proofs.range_list.RangeFields.items.Goals as goal
-
-pub returns : goal.returns
-unfolding ranges_left
-returns c = c.self.view_is

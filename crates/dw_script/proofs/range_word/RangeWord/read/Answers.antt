@@ -1,6 +1,0 @@
-use Rattle.dw_script.specs.RangeWords.{range_word_of}
-use Rattle.dw_script.proofs.range_word.RangeWord.read.Goals as goal
-
-pub returns : goal.returns
-unfolding range_word_of
-returns c = c.find_name.ensures

@@ -1,0 +1,56 @@
+-- The kinds of an attribute's value.
+use Rattle.std.specs.Prelude.{ℕ, List, [], ◌∷◌, Option, bytes_eq, codes}
+use Rattle.std.specs.Map.{lookup}
+use Rattle.dw_script_fields.specs.declared.kind.ConstantKind.TheVariants as constant
+use Rattle.dw_script_fields.specs.declared.kind.Kind.{Kind}
+use Rattle.dw_script_fields.specs.declared.kind.Kind.TheVariants as kind
+
+-- each kind with its spelling
+abbrev pub kinds : List (List ℕ × Kind)
+kinds =
+    (codes "string", kind.String)
+    ∷ (codes "data1", kind.Data1)
+    ∷ (codes "udata", kind.Udata)
+    ∷ (codes "unit_ref", kind.UnitRef)
+    ∷ (codes "address", kind.Address)
+    ∷ (codes "block", kind.Block)
+    ∷ (codes "data2", kind.Data2)
+    ∷ (codes "data4", kind.Data4)
+    ∷ (codes "data8", kind.Data8)
+    ∷ (codes "data16", kind.Data16)
+    ∷ (codes "sdata", kind.Sdata)
+    ∷ (codes "implicit_const", kind.ImplicitConst)
+    ∷ (codes "flag", kind.Flag)
+    ∷ (codes "flag_present", kind.FlagPresent)
+    ∷ (codes "info_ref_sup", kind.DebugInfoRefSup)
+    ∷ (codes "macinfo_ref", kind.DebugMacinfoRef)
+    ∷ (codes "macro_ref", kind.DebugMacroRef)
+    ∷ (codes "types_ref", kind.DebugTypesRef)
+    ∷ (codes "str_ref_sup", kind.DebugStrRefSup)
+    ∷ (codes "exprloc", kind.Exprloc)
+    ∷ (codes "info_ref", kind.DebugInfoRef)
+    ∷ (codes "line_program_ref", kind.LineProgramRef)
+    ∷ (codes "loc_ref", kind.LocationListRef)
+    ∷ (codes "loc_base", kind.LocationListsBase)
+    ∷ (codes "range_ref", kind.RangeListRef)
+    ∷ (codes "range_base", kind.RangeListsBase)
+    ∷ (codes "str_ref", kind.StringRef)
+    ∷ (codes "line_str_ref", kind.LineStringRef)
+    ∷ (codes "file_index", kind.FileIndex)
+    ∷ (codes "encoding", kind.Constant constant.Encoding)
+    ∷ (codes "decimal_sign", kind.Constant constant.DecimalSign)
+    ∷ (codes "endianity", kind.Constant constant.Endianity)
+    ∷ (codes "accessibility", kind.Constant constant.Accessibility)
+    ∷ (codes "visibility", kind.Constant constant.Visibility)
+    ∷ (codes "virtuality", kind.Constant constant.Virtuality)
+    ∷ (codes "language", kind.Constant constant.Language)
+    ∷ (codes "address_class", kind.Constant constant.AddressClass)
+    ∷ (codes "identifier_case", kind.Constant constant.IdentifierCase)
+    ∷ (codes "calling_convention", kind.Constant constant.CallingConvention)
+    ∷ (codes "inline", kind.Constant constant.Inline)
+    ∷ (codes "ordering", kind.Constant constant.Ordering)
+    ∷ []
+
+-- the kind that a field spells
+unfoldable pub kind_of : List ℕ → Option Kind
+kind_of field = lookup (bytes_eq field) kinds
