@@ -139,3 +139,4 @@ mod expressions;
 mod location_lists;
 mod range_lists;
 mod returning;
+mod returning_operations;

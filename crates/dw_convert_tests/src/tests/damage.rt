@@ -1,4 +1,4 @@
-//! Sections that are cut, and sections of which a bit is turned.
+//! Sections that are cut, and sections of which a byte is turned.
 
 use crate::tests::{Evens, FIVE_AT, FOUR, first, moved, section, sections};
 use dw_base::{LocationListsOffset, RangeListsOffset};
@@ -103,35 +103,111 @@ fn refuses_each_cut(rt: HostRuntime) {
     }
 }
 
-/// The bytes with one bit turned.
-fn turned(bytes: &[u8], place: usize, bit: u32) -> [u8; 48] {
+/// Each bit of a byte, and all of them.
+const MASKS: [u8; 9] = [0x01, 0x02, 0x04, 0x08, 0x10, 0x20, 0x40, 0x80, 0xff];
+
+// What comes of the bytes where one of them is turned: a group for each byte, with a letter for
+// each of the nine ways to turn it. A reader in another language told them.
+const EXPRESSION_TURNED: &[u8] = b"\
+    XXXXXXXXX ......... .......AA AAAAAAAAA AAAAAAAAA DX.UX.XXX .EEEEEEEE EX.XX.XXX .EEEEEEEE \
+    ....X...X .......XX .......XX XXXXXXXXX DD......D ......... ......... ......... EEXXX.X.X \
+    X.EEEEEEE .XXXXXX.X .......EE E.XX.XXXX .......EE";
+
+const RANGES_TURNED: &[u8] = b"\
+    ..AKKKKKK .EEEEEEEE ..AKKKKKK .EEEEEEEE .EEEEEEEE EKAKKKKKK .EEEEEEEE .......EE AA.KKKKKK \
+    ......... ......... ..KKKKKKK ......... .......AA AAAAAAAAA AAAAAAAAA K.EKKKKKK ......... \
+    .......AA AAAAAAAAA AAAAAAAAA ......... .......AA AAAAAAAAA AAAAAAAAA EK.KKKKKK ......... \
+    .......AA AAAAAAAAA AAAAAAAAA .......EE EEEKKKKKK";
+
+const OLD_RANGES_TURNED: &[u8] = b"\
+    ......... .......AA AAAAAAAAA AAAAAAAAA ......... .......AA AAAAAAAAA AAAAAAAAA AAAAAAAAA \
+    AAAAAAAAA AAAAAAAAA AAAAAAAAA ......... .......AA AAAAAAAAA AAAAAAAAA ......... .......AA \
+    AAAAAAAAA AAAAAAAAA ......... .......AA AAAAAAAAA AAAAAAAAA EEEEEEEEE EEEEEEERA AAAAAAAAA \
+    AAAAAAAAA EEEEEEEEE EEEEEEERA AAAAAAAAA AAAAAAAAA";
+
+const LOCATIONS_TURNED: &[u8] = b"\
+    .KXKKKKKK .EEEEEEEE ..AKKKKKK .EEEEEEEE .EEEEEEEE KEEXXXEEE .....EEXX EKEKKKKKK .EEEEEEEE \
+    .......EE KXXXXXEEE .....EEXX XA.KKKKKK .......EE .......EE KXXXXEEEE .....EEXX XAKKKKKKK \
+    KXXXXEEEE .....EEXX A.EKKKKKK ......... .......AA AAAAAAAAA AAAAAAAAA .K.KKKKKK ......... \
+    .......AA AAAAAAAAA AAAAAAAAA ......... .......AA AAAAAAAAA AAAAAAAAA KK.XEEEEE .....EEXX \
+    KKK.KKKKK ......... .......AA AAAAAAAAA AAAAAAAAA .......EE KEEEEEEEE .....EEXX EEEEKKKKK";
+
+const OLD_LOCATIONS_TURNED: &[u8] = b"\
+    ......... .......AA AAAAAAAAA AAAAAAAAA ......... .......AA AAAAAAAAA AAAAAAAAA EXXXXEEEE \
+    EEEEEEEEE .....EEXX AAAAAAAAA AAAAAAAAA AAAAAAAAA AAAAAAAAA ......... .......AA AAAAAAAAA \
+    AAAAAAAAA ......... .......AA AAAAAAAAA AAAAAAAAA ......... .......AA AAAAAAAAA AAAAAAAAA \
+    XEXXEEEEE EEEEEEEEE .XXXXXX.X .......EE EEEEEEEEE EEEEEEEEE EEEEEEEEE EEEEEEEEE EEEEEEEEE \
+    EEEEEEEEE EEEEEEEEE EEEEEEEEE";
+
+/// What is converted, in which unit, and what comes of it where a byte is turned.
+const TURNED: [(Kind, &[u8], &[u8], &[u8]); 5] = [
+    (Kind::Expression, FIVE_AT, EXPRESSION, EXPRESSION_TURNED),
+    (Kind::Ranges, FIVE_AT, RANGES, RANGES_TURNED),
+    (Kind::Ranges, FOUR, OLD_RANGES, OLD_RANGES_TURNED),
+    (Kind::Locations, FIVE_AT, LOCATIONS, LOCATIONS_TURNED),
+    (Kind::Locations, FOUR, OLD_LOCATIONS, OLD_LOCATIONS_TURNED),
+];
+
+/// The letter of an answer, a dot where the bytes are converted.
+fn letter(refused: Option<ConvertError>) -> u8 {
+    match refused {
+        None => b'.',
+        Some(ConvertError::Read(ReadError::UnexpectedEof)) => b'E',
+        Some(ConvertError::Read(ReadError::InvalidExpression(_))) => b'X',
+        Some(ConvertError::Read(ReadError::UnknownRangeListsEntry(_))) => b'K',
+        Some(ConvertError::Read(ReadError::UnknownLocListsEntry(_))) => b'K',
+        Some(ConvertError::InvalidAddress) => b'A',
+        Some(ConvertError::InvalidUnitRef) => b'U',
+        Some(ConvertError::InvalidDebugInfoRef) => b'D',
+        Some(ConvertError::InvalidRangeRelativeAddress) => b'R',
+        Some(_) => b'?',
+    }
+}
+
+/// The bytes with one byte turned.
+fn turned(bytes: &[u8], place: usize, mask: u8) -> [u8; 48] {
     let mut copy = [0; 48];
     for (to, from) in copy.iter_mut().zip(bytes) {
         *to = *from;
     }
     if let Some(byte) = copy.get_mut(place) {
-        *byte ^= 1u8.wrapping_shl(bit);
+        *byte ^= mask;
     }
     copy
 }
 
-/// The first bit that leads to want of memory, of which nothing is taken by a number that is read.
-fn first_short_of_memory(alloc: Global, kind: Kind, info: &[u8], bytes: &[u8]) -> Option<usize> {
-    for bit in 0..bytes.len().saturating_mul(8) {
-        let copy = turned(bytes, bit / 8, (bit % 8) as u32);
+/// The first byte and way to turn it of which something else comes than is told.
+fn first_untold(
+    alloc: Global,
+    kind: Kind,
+    info: &[u8],
+    bytes: &[u8],
+    told: &[u8],
+) -> Option<(usize, usize)> {
+    for (number, letter_told) in told.iter().enumerate() {
+        let (place, way) = (number / 10, number % 10);
+        let Some(mask) = MASKS.get(way) else {
+            continue;
+        };
+        let copy = turned(bytes, place, *mask);
         let length = bytes.len().min(48);
-        if refusal(alloc, kind, info, &copy[..length]) == Some(ConvertError::NoMemory) {
-            return Some(bit);
+        if letter(refusal(alloc, kind, info, &copy[..length])) != *letter_told {
+            return Some((place, way));
         }
     }
     None
 }
 
 #[test]
-fn answers_whatever_bit_is_turned(rt: HostRuntime) {
-    for (number, case) in WHOLE.iter().enumerate() {
-        let (kind, info, bytes, _) = *case;
-        let short = first_short_of_memory(rt.alloc(), kind, info, bytes);
-        assert_eq!(rt; (number, short), (number, None));
+fn answers_each_byte_that_is_turned(rt: HostRuntime) {
+    for (number, case) in TURNED.iter().enumerate() {
+        let (kind, info, bytes, told) = *case;
+        assert_eq!(rt;
+            told.len() + 1,
+            bytes.len().saturating_mul(10),
+            "at {number}"
+        );
+        let untold = first_untold(rt.alloc(), kind, info, bytes, told);
+        assert_eq!(rt; (number, untold), (number, None));
     }
 }

@@ -16,7 +16,7 @@ use dw_writer::Bytes;
 use std::alloc::Global;
 
 /// Bytes, and the operations that they become.
-type Case = (&'static [u8], Vec<Operation>);
+pub(super) type Case = (&'static [u8], Vec<Operation>);
 
 /// An expression of the unit of version 5 that has addresses.
 fn converted(alloc: Global, bytes: &[u8]) -> ConvertResult<Expression> {
@@ -43,7 +43,7 @@ const LOW: Operation = Operation::Address(Address::Constant(0x1000));
 
 const HIGH: Operation = Operation::Address(Address::Constant(0x2000));
 
-fn values(alloc: Global, number: usize) -> Result<Case> {
+pub(super) fn values(alloc: Global, number: usize) -> Result<Case> {
     Ok(match number {
         // Two of the three by an index.
         0 => (
@@ -97,7 +97,7 @@ const XDEREF_TWO: Operation = Operation::DerefSize {
     size: 2,
 };
 
-fn stack(alloc: Global, number: usize) -> Result<Case> {
+pub(super) fn stack(alloc: Global, number: usize) -> Result<Case> {
     Ok(match number {
         // A size of 4 bytes is that of an address, so what is read then is a word.
         0 => (
@@ -151,7 +151,7 @@ const XDEREF_BASE: Operation = Operation::DerefType {
 };
 
 /// Operations with base types, which have the code of version 5 or that of the GNU extension.
-fn types(alloc: Global, number: usize) -> Result<Case> {
+pub(super) fn types(alloc: Global, number: usize) -> Result<Case> {
     Ok(match number {
         0 => (
             b"\xa4\x02\x01\xaa\xf4\x02\x01\xaa",
@@ -190,7 +190,7 @@ const FAR_POINTER: Operation = Operation::ImplicitPointer {
     byte_offset: -1,
 };
 
-fn entries(alloc: Global, number: usize) -> Result<Case> {
+pub(super) fn entries(alloc: Global, number: usize) -> Result<Case> {
     Ok(match number {
         0 => (
             b"\x98\x02\x00\x99\x04\x00\x00\x00\x9a\x02\x00\x00\x00",
@@ -228,7 +228,7 @@ const BITS: Operation = Operation::BitPiece {
     bit_offset: 1,
 };
 
-fn places(alloc: Global, number: usize) -> Result<Case> {
+pub(super) fn places(alloc: Global, number: usize) -> Result<Case> {
     Ok(match number {
         0 => (
             b"\x50\x6f\x90\x20",
@@ -258,7 +258,7 @@ fn places(alloc: Global, number: usize) -> Result<Case> {
     })
 }
 
-fn branches(alloc: Global, number: usize) -> Result<Case> {
+pub(super) fn branches(alloc: Global, number: usize) -> Result<Case> {
     Ok(match number {
         0 => (
             b"\x2f\x02\x00\x10\x17",

@@ -15,15 +15,15 @@ use dw_read_units::{Dwarf, Unit, UnitRef};
 use dw_writer::{EndianVec, Sections, Writer};
 use std::alloc::Global;
 
-type Slice<'a> = EndianSlice<'a, RunTimeEndian>;
+pub(super) type Slice<'a> = EndianSlice<'a, RunTimeEndian>;
 
 type Written = Sections<EndianVec<RunTimeEndian>>;
 
 /// In what a list is written: an encoding and an order of bytes, in a unit with a base or without.
 #[derive(Clone, Copy)]
-struct Layout {
-    encoding: Encoding,
-    endian: RunTimeEndian,
+pub(super) struct Layout {
+    pub(super) encoding: Encoding,
+    pub(super) endian: RunTimeEndian,
     has_base: bool,
 }
 
@@ -65,7 +65,7 @@ fn sections_of(alloc: Global, layout: Layout) -> Result<Written> {
 }
 
 /// A reader of these bytes. No proof but this function's knows what it reads.
-fn reader(bytes: &[u8], endian: RunTimeEndian) -> Slice<'_> {
+pub(super) fn reader(bytes: &[u8], endian: RunTimeEndian) -> Slice<'_> {
     EndianSlice::new(bytes, endian)
 }
 
@@ -319,10 +319,10 @@ const DEFAULTS: &[Row] = &[Row {
 }];
 
 /// Versions, formats, sizes of addresses and orders of bytes.
-const LAYOUTS: usize = 32;
+pub(super) const LAYOUTS: usize = 32;
 
 /// The layout of a number, in a unit with a base or without.
-fn numbered(number: usize, has_base: bool) -> Layout {
+pub(super) fn numbered(number: usize, has_base: bool) -> Layout {
     let version = [2, 3, 4, 5][number / 8 % 4];
     let format = [Format::Dwarf32, Format::Dwarf64][number / 4 % 2];
     let address_size = [4, 8][number / 2 % 2];
