@@ -6,6 +6,8 @@ mod Stepping
 mod Zipping
 mod Nesting
 mod LocationSteps
+mod WrittenItems
+mod WrittenWalks
 mod Dropped
 mod Lookups
 mod Defaults

@@ -11,6 +11,7 @@ pub mod Expressions
 pub mod Listings
 pub mod Locations
 pub mod LocationLists
+pub mod WrittenLists
 pub mod LocationViews
 pub mod Images
 pub mod Tables

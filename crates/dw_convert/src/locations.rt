@@ -4,6 +4,7 @@ ghost use Rattle.std.specs.Prelude.{◌≡◌, ◌++◌, [], ◌∷◌, IfOk, If
 ghost use Rattle.dw_sources.specs.declared.convert_error.ConvertError.TheVariants.{NoMemory};
 ghost use Rattle.dw_convert.specs.Locations.{kept_locations};
 ghost use Rattle.dw_convert.specs.LocationLists.{IsLocationList, RefusesLocationList};
+ghost use Rattle.dw_convert.specs.WrittenLists.{IsWrittenLocationList};
 
 use crate::location::{convert_location, is_base, is_nowhere, parts_of};
 use crate::references::ConvertDebugInfoRef;
@@ -32,6 +33,8 @@ pub fn location_list<R: Reader, C: ConvertDebugInfoRef, F: Fn(u64) -> Option<Add
 ) -> ConvertResult<LocationList>
     requires { F.IsAlwaysCallable convert_address.now }
     ensures ok { IfOk result (IsLocationList R.reading (F.post convert_address.now)
+        (C.entries refs.now) (C.infos refs.now) unit.entry offset.0) }
+    ensures written { IfOk result (IsWrittenLocationList R.reading (F.post convert_address.now)
         (C.entries refs.now) (C.infos refs.now) unit.entry offset.0) }
     ensures err { IfErr result (RefusesLocationList R.reading (F.post convert_address.now)
         (C.entries refs.now) (C.infos refs.now) unit.entry offset.0) }

@@ -5,6 +5,7 @@ ghost use Rattle.std.specs.List.{filter};
 ghost use Rattle.dw_sources.specs.declared.convert_error.ConvertError.TheVariants.{NoMemory};
 ghost use Rattle.dw_convert.specs.Ranges.{kept};
 ghost use Rattle.dw_convert.specs.RangeLists.{IsRangeList, RefusesRangeList};
+ghost use Rattle.dw_convert.specs.WrittenLists.{IsWrittenRangeList};
 
 use crate::range::{convert_range, is_base, is_empty};
 use dw_base::{Address, RangeListsOffset};
@@ -31,6 +32,8 @@ pub fn range_list<R: Reader, F: Fn(u64) -> Option<Address>>(
     requires { F.IsAlwaysCallable convert_address.now }
     ensures ok { IfOk result
         (IsRangeList R.reading (F.post convert_address.now) unit.entry offset.0) }
+    ensures written { IfOk result
+        (IsWrittenRangeList R.reading (F.post convert_address.now) unit.entry offset.0) }
     ensures err { IfErr result
         (RefusesRangeList R.reading (F.post convert_address.now) unit.entry offset.0) }
 {

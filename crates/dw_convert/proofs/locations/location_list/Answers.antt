@@ -9,6 +9,7 @@ use Rattle.dw_convert.specs.Locations.{is_base_item, kept_locations}
 use Rattle.dw_convert.specs.RangeLists.{has_base}
 use Rattle.dw_convert.proofs.Addresses.{is_err}
 use Rattle.dw_convert.proofs.Growing.{begun_more, based_more}
+use Rattle.dw_convert.proofs.WrittenWalks.{locations_written}
 use Rattle.dw_convert.proofs.LocationSteps.{passes, closes, read_here, closed_here, from_parts}
 use Rattle.dw_convert.proofs.locations.location_list.Goals as goal
 
@@ -87,3 +88,18 @@ returns-clause-ok g c =
       };
       is = i.kept;
     }
+
+pub returns-clause-written : goal.returns-clause-written
+returns-clause-written g c =
+    let i = c.items.invariant in
+    let reading = g.R.Reader.reading in
+    locations_written _ _ reading (goal.F-post g c.args.convert_address.now) (g.C.ConvertDebugInfoRef.entries c.args.refs.now) (g.C.ConvertDebugInfoRef.infos c.args.refs.now) c.args.unit _ _ (record {
+      images = i.images;
+      converted = record {
+        rest = left (reading c.items.items.input);
+        begun = i.begun;
+        behind = left (reading c.next.new.self.input);
+        close = closed_here _ _ reading _ _ _ _ i.order i.encoding i.open_yet (closes _ _ reading _ _ _ c.in_ok-item.ensures c.in_default.is);
+      };
+      is = i.kept;
+    })

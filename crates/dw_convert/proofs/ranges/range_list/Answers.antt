@@ -8,6 +8,7 @@ use Rattle.dw_convert.specs.Ranges.{RangeOutcome, is_base, kept}
 use Rattle.dw_convert.specs.RangeLists.{has_base}
 use Rattle.dw_convert.proofs.Addresses.{is_err}
 use Rattle.dw_convert.proofs.Growing.{begun_more, based_more}
+use Rattle.dw_convert.proofs.WrittenWalks.{ranges_written}
 use Rattle.dw_convert.proofs.RangeSteps.{passes, closes, read_here, closed_here}
 use Rattle.dw_convert.proofs.ranges.range_list.Goals as goal
 
@@ -72,3 +73,18 @@ returns-clause-ok g c =
       };
       is = i.kept;
     }
+
+pub returns-clause-written : goal.returns-clause-written
+returns-clause-written g c =
+    let i = c.items.invariant in
+    let reading = g.R.Reader.reading in
+    ranges_written _ _ reading (goal.F-post g c.args.convert_address.now) c.args.unit _ _ (record {
+      images = i.images;
+      converted = record {
+        rest = left (reading c.items.items.input);
+        begun = i.begun;
+        behind = left (reading c.next.new.self.input);
+        close = closed_here _ _ reading _ _ _ _ i.order i.encoding i.open_yet (closes _ _ reading _ _ _ c.in_ok-item.ensures c.in_default.is);
+      };
+      is = i.kept;
+    })
