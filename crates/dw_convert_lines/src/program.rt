@@ -3,7 +3,6 @@
 ghost use Rattle.std.specs.Prelude.{◌≡◌, ◌⊎◌, true, IfOk, IfErr, IfSome, Ok, Err};
 ghost use Rattle.dw_line.specs.LinePrograms.{file_count_of};
 ghost use Rattle.dw_sources.specs.declared.convert_error.ConvertError.TheVariants.{NoMemory};
-ghost use Rattle.dw_convert_lines.specs.EntryNames.{Tables};
 ghost use Rattle.dw_convert_lines.specs.HeaderImages.{IsWritable};
 ghost use Rattle.dw_convert_lines.specs.ReadPrograms.{ProgramOutcome, RowsOutcome, LinesOutcome};
 ghost use Rattle.dw_convert_lines.specs.RowImages.{AreFiles};
@@ -92,15 +91,13 @@ pub fn read_line_program<'a, R: Reader>(
     program: IncompleteLineProgram<R>,
     encoding: Option<Encoding>,
     line_encoding: Option<LineEncoding>,
-    line_strings: &'a mut LineStringTable,
-    strings: &'a mut StringTable,
+    line_strings: &mut LineStringTable,
+    strings: &mut StringTable,
 ) -> ConvertResult<ConvertLineProgram<'a, R>>
     requires { IfSome line_encoding IsWritable }
-    // The tables are lent for as long as the result, so that no clause can tell them.
-    ensures ok { IfOk result (λ c. (t : Tables) × ProgramOutcome R.reading
-        (texts_of R.reading dwarf.now) program encoding line_encoding
-        (tables strings.old line_strings.old)
-        (Ok (record { program = c.program; ids = c.files.items; tables = t }))) }
+    ensures ok { IfOk result (λ c. ProgramOutcome R.reading (texts_of R.reading dwarf.now)
+        program encoding line_encoding (tables strings.old line_strings.old)
+        (Ok (converting c.program c.files.items strings.new line_strings.new))) }
     ensures err { IfErr result (λ e. (e ≡ NoMemory) ⊎ ProgramOutcome R.reading
         (texts_of R.reading dwarf.now) program encoding line_encoding
         (tables strings.old line_strings.old) (Err e)) }

@@ -1,8 +1,7 @@
 //! Files whose units are converted and written again, with the bytes of all that is written.
 
 use dw_base::{Address, Encoding, Format, LittleEndian};
-use dw_dwarf::convert_units;
-use dw_dwarf::{Dwarf, EndianVec, LineProgram, Sections, Unit};
+use dw_dwarf::{Dwarf, EndianVec, LineProgram, Sections, Unit, convert_units};
 use dw_read::{EndianSlice, ReadError};
 use dw_read_units::Dwarf as ReadDwarf;
 use dw_sources::{ConvertError, ConvertResult};

@@ -1,5 +1,5 @@
-//! The tests of conversions in `dw_dwarf`. They stand over the finished crate: beside its code they would
-//! have it proved a second time.
+//! The tests of units that are converted by `dw_dwarf`. They stand over the finished crate: beside
+//! its code they would have it proved a second time.
 #![tactic(auto)]
 
 #[cfg(test)]

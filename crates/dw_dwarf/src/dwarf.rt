@@ -11,10 +11,9 @@ ghost use Rattle.dw_unit.specs.Pending.{starts_of};
 ghost use Rattle.dw_unit.specs.Valid.{CanFollow};
 ghost use Rattle.dw_unit.specs.Written.{AreWritten, AreStopped, CompletesAny};
 ghost use Rattle.dw_sources.specs.declared.convert_error.ConvertError.TheVariants as refused;
-ghost use Rattle.dw_convert_lines.specs.EntryNames.{Tables};
 ghost use Rattle.dw_convert_lines.specs.HeaderImages.{IsWritable};
 ghost use Rattle.dw_convert_lines.specs.ReadPrograms.{ProgramOutcome};
-ghost use Rattle.dw_convert_lines.specs.Views.{texts_of, tables};
+ghost use Rattle.dw_convert_lines.specs.Views.{texts_of, tables, converting};
 ghost use Rattle.dw_dwarf.specs.ConvertedDwarf.{IsConverted, CannotConvert};
 ghost use Rattle.dw_dwarf.specs.DwarfValue.{dwarf_in};
 ghost use Rattle.dw_dwarf.specs.Left.{IsLeft};
@@ -202,9 +201,9 @@ impl Dwarf {
     /// have one again. `convert_address` says what an address of the read file becomes.
     ///
     /// Refused as `Read` where something that is read can't be, as `InvalidAddress` where
-    /// `convert_address` answers `None`, as `InvalidUnitRef` or `InvalidDebugInfoRef` where no entry
-    /// begins at a place that is named, for each other cause for which a line program or a value
-    /// becomes nothing, and as `NoMemory`.
+    /// `convert_address` answers `None`, as `InvalidUnitRef` or `InvalidDebugInfoRef` where no
+    /// entry begins at a place that is named, for each other cause for which a line program or a
+    /// value becomes nothing, and as `NoMemory`.
     ///
     /// ```
     /// let constant = |address: u64| Some(Address::Constant(address));
@@ -251,21 +250,22 @@ impl Dwarf {
     /// dwarf.line_programs.push(program)?;
     /// ```
     pub fn read_line_program<'a, R: Reader>(
-        &'a mut self,
+        &mut self,
         dwarf: &'a ReadDwarf<R>,
         program: IncompleteLineProgram<R>,
         encoding: Option<Encoding>,
         line_encoding: Option<LineEncoding>,
     ) -> ConvertResult<ConvertLineProgram<'a, R>>
         requires { IfSome line_encoding IsWritable }
-        // The tables are lent for as long as the result, so that no clause can tell them.
-        ensures ok { IfOk result (λ c. (t : Tables) × ProgramOutcome R.reading
-            (texts_of R.reading dwarf.now) program encoding line_encoding
-            (tables self.old.strings self.old.line_strings)
-            (Ok (record { program = c.program; ids = c.files.items; tables = t }))) }
+        ensures ok { IfOk result (λ c. ProgramOutcome R.reading (texts_of R.reading dwarf.now)
+            program encoding line_encoding (tables self.old.strings self.old.line_strings)
+            (Ok (converting c.program c.files.items self.new.strings self.new.line_strings))) }
         ensures err { IfErr result (λ e. (e ≡ refused.NoMemory) ⊎ ProgramOutcome R.reading
             (texts_of R.reading dwarf.now) program encoding line_encoding
             (tables self.old.strings self.old.line_strings) (Err e)) }
+        // Only the strings change.
+        ensures kept { self.new ≡ record self.old
+            { strings = self.new.strings; line_strings = self.new.line_strings } }
     {
         let alloc = *self.line_programs.allocator();
         read_line_program(
