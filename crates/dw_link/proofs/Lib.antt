@@ -7,7 +7,8 @@ pub mod SectionSteps
 pub mod SetSteps
 pub mod LinkSteps
 pub mod JoinLaws
-pub mod Linked
 pub mod Faultless
+pub mod PartLengths
+pub mod Linked
 pub mod JoinedSections
 mod Worked

@@ -1,18 +1,15 @@
 -- Sets that writing Dwarfs left are joined to the sections of all of them.
-use Rattle.std.specs.Prelude.{◌≡◌, ℕ, ◌+◌, Bool, true, false, not, ◌&&◌, List, [], ◌∷◌, ◌++◌, length, take, map, Some, None, refl, if◌then◌else◌}
+use Rattle.std.specs.Prelude.{◌≡◌, ℕ, ◌+◌, Bool, true, false, List, [], ◌∷◌, ◌++◌, length, map, Some, refl}
 use Rattle.std.specs.List.{flat_map}
-use Rattle.std.proofs.Common.{sym, ◌∙◌, ap, subst, arith, length-append, append_assoc, append-nil}
-use Rattle.std.proofs.Math.Seq.{take-append_seam}
-use Rattle.std.proofs.lemmas.Option.{none-some, same_Some}
+use Rattle.std.proofs.Common.{sym, ◌∙◌, ap, subst, arith, length-append, append_assoc}
+use Rattle.std.proofs.lemmas.Option.{same_Some}
 use Rattle.dw_base.specs.declared.section_id.SectionId.{SectionId}
 use Rattle.dw_base.specs.declared.section_id.SectionId.TheVariants.{DebugAbbrev, DebugStr, DebugLineStr, DebugLine, DebugRanges, DebugRngLists, DebugLoc, DebugLocLists, DebugInfo}
-use Rattle.dw_writer.specs.Texts.{Text, followed}
-use Rattle.dw_writer.specs.Layout.{Layout, is_at_zero}
-use Rattle.dw_writer.specs.Meaning.{Meaning, Model, IsTidy, spelled_text}
-use Rattle.dw_writer.specs.Resolved.{put_record, put_records, resolved}
-use Rattle.dw_writer.specs.declared.relocate.Relocation.{Relocation}
+use Rattle.dw_writer.specs.Texts.{followed}
+use Rattle.dw_writer.specs.Layout.{Layout}
+use Rattle.dw_writer.specs.Meaning.{Meaning, Model}
+use Rattle.dw_writer.specs.Resolved.{resolved}
 use Rattle.dw_writer.specs.declared.sections.Sections.{Sections}
-use Rattle.dw_writer.proofs.Laws.{resolved-wide}
 use Rattle.dw_strings.specs.Strings.{string_bytes}
 use Rattle.dw_unit.specs.Built.{Starts, Built}
 use Rattle.dw_writer.specs.Drafts.{filled_text}
@@ -24,39 +21,8 @@ use Rattle.dw_dwarf.specs.Left.{units_of, IsLeft}
 use Rattle.dw_dwarf.specs.Written.{dwarf_lines, dwarf_ranges}
 use Rattle.dw_link.specs.Linked.{AreLeft, files_from, texts_from, lines_from, ranges_from, range_lists_from, locations_from, AreRows, LinksDwarfs}
 use Rattle.dw_link.specs.Outcome.{JoinsParts}
-use Rattle.dw_link.specs.Sets.{Parts, parts_of, sets_of, bytes_of, concatenated, start_in, layout_in, linked_from, linked_parts}
-
--- How long parts are
-
-put_records-none : (big : Bool) (l : Layout) (rs : List Relocation) → put_records big l rs None ≡ None
-unfolding put_record
-put_records-none big l [] = refl
-put_records-none big l (r ∷ rs) = put_records-none big l rs
-
-nowhere : (b : Bool) (t : Text) → t ≡ None → (if b then None else t) ≡ None
-nowhere true t h = refl
-nowhere false t h = h
-
--- what a part resolves to is as long as its bytes
-part_length : (l : Layout) (m : Meaning) (xs : List ℕ) → IsTidy m → resolved l m ≡ Some xs → length (spelled_text m.bytes) ≡ length xs
-unfolding resolved
-part_length l m xs tidy h = by_text m.bytes refl
-  where
-    by_text : (t : Text) → m.bytes ≡ t → length (spelled_text m.bytes) ≡ length xs
-    by_text None is =
-        let none = ap (put_records m.is_big l m.records) is ∙ put_records-none m.is_big l m.records in
-        absurd (none-some xs (sym (nowhere (m.is_plain && not (is_at_zero l)) (put_records m.is_big l m.records m.bytes) none) ∙ h))
-    by_text (Some b) is = ap (λ t. length (spelled_text t)) is ∙ tidy.sized b is ∙ sym (resolved-wide l m tidy xs h)
-
-concatenated-more : (s : SectionId) (before : List Parts) (set : Parts) → length (concatenated s (before ++ set ∷ [])) ≡ length (concatenated s before) + length (bytes_of (set s))
-concatenated-more s [] set = omega (arith, ap length (append-nil (bytes_of (set s))))
-concatenated-more s (p ∷ before) set =
-    omega (arith, length-append (bytes_of (p s)) (concatenated s (before ++ set ∷ [])), length-append (bytes_of (p s)) (concatenated s before), concatenated-more s before set)
-
--- where the parts of the set behind these start
-behind : (sets before after : List Parts) (n : ℕ) (s : SectionId) → sets ≡ before ++ after → n ≡ length before → start_in sets n s ≡ length (concatenated s before)
-behind sets before after n s is at =
-    ap (λ xs. length (concatenated s xs)) (ap (take n) is ∙ ap (λ k. take k (before ++ after)) at ∙ take-append_seam before after)
+use Rattle.dw_link.specs.Sets.{Parts, parts_of, sets_of, concatenated, layout_in, linked_from, linked_parts}
+use Rattle.dw_link.proofs.PartLengths.{part_length, concatenated-more, behind}
 
 -- Units
 

@@ -23,7 +23,7 @@ use Rattle.dw_link_frames.specs.Numbered.{numbered_cie, numbered_fde, numbered_c
 use Rattle.dw_link_frames.specs.Placed.{section_id, numbered_part, tables_part, personality_fixed, entry_fixed, frames_fixed, AreFree, StartsAt, AreThere}
 use Rattle.dw_link_frames.specs.Written.{AreTaken}
 use Rattle.dw_link_frames.proofs.Entering.{first_false, second_false, IsBegun}
-use Rattle.dw_link_frames.proofs.Sections.{far}
+use Rattle.dw_link.proofs.JoinedSections.{far}
 use Rattle.dw_link_frames.proofs.Sound.{There, Known, turn_known, turn_known_there}
 use Rattle.dw_link_frames.proofs.Tabling.{turn_none, other_of, moved, to_number, AreMoved, place_moved, with_moved, new_moves, frame_moves, table_moves}
 use Rattle.dw_link_frames.proofs.Turning.{Moves}

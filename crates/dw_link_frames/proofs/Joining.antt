@@ -1,21 +1,18 @@
 -- Sets in which tables were written are joined to the text of the numbered tables.
-use Rattle.std.specs.Prelude.{◌≡◌, ℕ, ◌+◌, Bool, true, false, not, ◌&&◌, List, [], ◌∷◌, ◌++◌, length, take, Some, None, refl, IsFalse, if◌then◌else◌}
+use Rattle.std.specs.Prelude.{◌≡◌, ℕ, ◌+◌, Bool, true, List, [], ◌∷◌, ◌++◌, length, Some, refl, IsFalse}
 use Rattle.std.specs.List.{list_any}
 use Rattle.std.specs.Option.{option_map}
-use Rattle.std.proofs.Common.{sym, ◌∙◌, ap, ap₂, subst, arith, length-append, append_assoc, append-nil}
-use Rattle.std.proofs.Math.Seq.{take-append_seam}
-use Rattle.std.proofs.lemmas.Option.{none-some}
+use Rattle.std.proofs.Common.{sym, ◌∙◌, ap, ap₂, subst, arith, length-append, append_assoc}
 use Rattle.dw_base.specs.Numbers.{◌>>=◌}
 use Rattle.dw_base.specs.declared.section_id.SectionId.{SectionId}
 use Rattle.dw_base.specs.declared.section_id.SectionId.TheVariants.{DebugAbbrev, DebugStr, DebugLineStr, DebugLine, DebugRanges, DebugRngLists, DebugLoc, DebugLocLists, DebugInfo, DebugFrame, EhFrame, DebugAddr, DebugStrOffsets, DebugMacinfo, DebugMacro, DebugAranges}
-use Rattle.dw_writer.specs.Layout.{Layout, is_at_zero}
-use Rattle.dw_writer.specs.Texts.{Text, followed}
-use Rattle.dw_writer.specs.Meaning.{Meaning, IsTidy, AllInside, spelled_text}
-use Rattle.dw_writer.specs.Resolved.{put_record, put_records, resolved}
+use Rattle.dw_writer.specs.Layout.{Layout}
+use Rattle.dw_writer.specs.Texts.{followed}
+use Rattle.dw_writer.specs.Meaning.{Meaning, IsTidy, AllInside}
+use Rattle.dw_writer.specs.Resolved.{resolved}
 use Rattle.dw_writer.specs.Sections.{section_of}
-use Rattle.dw_writer.specs.declared.relocate.Relocation.{Relocation}
 use Rattle.dw_writer.specs.declared.sections.Sections.{Sections}
-use Rattle.dw_writer.proofs.Laws.{resolved-wide, followed-somes}
+use Rattle.dw_writer.proofs.Laws.{followed-somes}
 use Rattle.dw_frame.specs.declared.kind.FrameKind.{FrameKind}
 use Rattle.dw_frame.specs.declared.kind.FrameKind.TheVariants.{Debug, Eh}
 use Rattle.dw_frame.specs.declared.table.FrameTable.{FrameTable}
@@ -26,8 +23,9 @@ use Rattle.dw_frame.specs.Reading.{at_zero}
 use Rattle.dw_frame.specs.Tables.{frames_at}
 use Rattle.dw_frame.proofs.Steps.{nothing-followed}
 use Rattle.dw_frame.proofs.TextParts.{split}
-use Rattle.dw_link.specs.Sets.{Parts, parts_of, sets_of, bytes_of, concatenated, start_in, layout_in, linked_part, linked_from, linked_parts}
+use Rattle.dw_link.specs.Sets.{Parts, parts_of, sets_of, bytes_of, concatenated, layout_in, linked_part, linked_from, linked_parts}
 use Rattle.dw_link.specs.Outcome.{JoinsParts}
+use Rattle.dw_link.proofs.PartLengths.{part_length, concatenated-more, behind}
 use Rattle.dw_link_frames.specs.Placed.{section_id, numbered_part, tables_part, frames_fixed, AreFree}
 use Rattle.dw_link_frames.specs.Written.{new_recorder, is_same, AreWritten}
 use Rattle.dw_link_frames.specs.Outcome.{HasText, OthersAreEmpty}
@@ -48,38 +46,6 @@ new_resolved big l = refl
 pub written_text : (big : Bool) (l : Layout) (kind : FrameKind) (t : FrameTable) (m : Meaning) → IsWritten (new_recorder big) m (frames_at kind t 0).piece → resolved l m ≡ (frames_at kind t 0).piece.text big l
 written_text big l kind t m w =
     w.resolves (new_tidy big) l ∙ ap (λ x. followed x ((frames_at kind t 0).piece.text big l)) (new_resolved big l) ∙ nothing-followed ((frames_at kind t 0).piece.text big l)
-
--- How long parts are
-
-put_records-none : (big : Bool) (l : Layout) (rs : List Relocation) → put_records big l rs None ≡ None
-unfolding put_record
-put_records-none big l [] = refl
-put_records-none big l (r ∷ rs) = put_records-none big l rs
-
-nowhere : (b : Bool) (t : Text) → t ≡ None → (if b then None else t) ≡ None
-nowhere true t h = refl
-nowhere false t h = h
-
--- what a part resolves to is as long as its bytes
-pub part_length : (l : Layout) (m : Meaning) (xs : List ℕ) → IsTidy m → resolved l m ≡ Some xs → length (spelled_text m.bytes) ≡ length xs
-unfolding resolved
-part_length l m xs tidy h = by_text m.bytes refl
-  where
-    by_text : (t : Text) → m.bytes ≡ t → length (spelled_text m.bytes) ≡ length xs
-    by_text None is =
-        let none = ap (put_records m.is_big l m.records) is ∙ put_records-none m.is_big l m.records in
-        absurd (none-some xs (sym (nowhere (m.is_plain && not (is_at_zero l)) (put_records m.is_big l m.records m.bytes) none) ∙ h))
-    by_text (Some b) is = ap (λ t. length (spelled_text t)) is ∙ tidy.sized b is ∙ sym (resolved-wide l m tidy xs h)
-
-pub concatenated-more : (s : SectionId) (before : List Parts) (set : Parts) → length (concatenated s (before ++ set ∷ [])) ≡ length (concatenated s before) + length (bytes_of (set s))
-concatenated-more s [] set = omega (arith, ap length (append-nil (bytes_of (set s))))
-concatenated-more s (p ∷ before) set =
-    omega (arith, length-append (bytes_of (p s)) (concatenated s (before ++ set ∷ [])), length-append (bytes_of (p s)) (concatenated s before), concatenated-more s before set)
-
--- where the parts of the set behind these start
-pub behind : (sets before after : List Parts) (n : ℕ) (s : SectionId) → sets ≡ before ++ after → n ≡ length before → start_in sets n s ≡ length (concatenated s before)
-behind sets before after n s is at =
-    ap (λ xs. length (concatenated s xs)) (ap (take n) is ∙ ap (λ k. take k (before ++ after)) at ∙ take-append_seam before after)
 
 -- The section of the tables
 

@@ -19,8 +19,9 @@ use Rattle.dw_link.specs.Outcome.{part_fault, fault_at, IsFaultless}
 use Rattle.dw_link.specs.Sets.{Parts, parts_of, sets_of, bytes_of, concatenated, start_in, layout_in}
 use Rattle.dw_link_frames.specs.Placed.{section_id, StartsAt, AreThere}
 use Rattle.dw_link_frames.specs.Written.{new_recorder, is_same, IsWrittenSet, AreWritten}
-use Rattle.dw_link_frames.proofs.Sections.{AllJoined, far, part_joined, part_faultless}
-use Rattle.dw_link_frames.proofs.Joining.{new_tidy, written_text, part_length, concatenated-more, behind, kind_there}
+use Rattle.dw_link.proofs.JoinedSections.{AllJoined, far, part_joined, part_faultless}
+use Rattle.dw_link.proofs.PartLengths.{part_length, concatenated-more, behind}
+use Rattle.dw_link_frames.proofs.Joining.{new_tidy, written_text, kind_there}
 use Rattle.dw_link_frames.proofs.Steps.{same_section}
 
 begins : (all : List Parts) (symbols : List ℕ) (n : ℕ) (kind : FrameKind) → start_of (layout_in all symbols n (section_id kind)) (section_id kind) ≡ (layout_in all symbols n (section_id kind)).own_start

@@ -8,8 +8,6 @@ pub mod Joining
 pub mod Widths
 pub mod Telling
 pub mod Steps
-pub mod Faultless
-pub mod Sections
 pub mod Knowing
 pub mod Sound
 pub mod Valid

@@ -21,7 +21,8 @@ use Rattle.dw_frame.specs.PointerParts.{pointer, address}
 use Rattle.dw_frame.proofs.TextParts.{some_if}
 use Rattle.dw_link_frames.specs.Numbered.{known_or, value_at, numbered}
 use Rattle.dw_link_frames.specs.Placed.{is_fixed}
-use Rattle.dw_link_frames.proofs.Turning.{opened, Holds, Moves}
+use Rattle.dw_link.proofs.Faultless.{opened}
+use Rattle.dw_link_frames.proofs.Turning.{Holds, Moves}
 
 -- A pointer in as many bytes as its format has
 

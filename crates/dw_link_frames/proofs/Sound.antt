@@ -25,7 +25,8 @@ use Rattle.dw_frame.specs.Pieces.{Piece, both}
 use Rattle.dw_link_frames.specs.Numbered.{known_or, value_at, numbered}
 use Rattle.dw_link_frames.proofs.Pointing.{laid_by}
 use Rattle.dw_link_frames.proofs.Tabling.{turn_none}
-use Rattle.dw_link_frames.proofs.Turning.{opened, Moves}
+use Rattle.dw_link.proofs.Faultless.{opened}
+use Rattle.dw_link_frames.proofs.Turning.{Moves}
 
 -- Texts that are there
 

@@ -25,7 +25,7 @@ use Rattle.dw_frame.specs.Parts.{Placed}
 use Rattle.dw_link_frames.specs.Numbered.{known_or, value_at, numbered, numbered_cie, numbered_fde, numbered_cies, numbered_fdes}
 use Rattle.dw_link_frames.specs.Placed.{numbered_part, tables_part, ReadsTables}
 use Rattle.dw_link_frames.specs.Written.{AreAllTold}
-use Rattle.dw_link_frames.proofs.Turning.{opened}
+use Rattle.dw_link.proofs.Faultless.{opened}
 use Rattle.dw_link_frames.proofs.Widths.{cie_wide, fde_wide}
 
 -- Addresses have 64 bits

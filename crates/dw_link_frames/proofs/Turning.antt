@@ -1,7 +1,7 @@
 -- Texts over a layout, and the texts over no layout at all that they turn into once numbers are known.
-use Rattle.std.specs.Prelude.{◌≡◌, ℕ, ◌+◌, Bool, true, false, List, Option, Some, None, refl, if◌then◌else◌}
+use Rattle.std.specs.Prelude.{◌≡◌, ℕ, ◌+◌, Bool, true, false, List, Some, refl, if◌then◌else◌}
 use Rattle.std.proofs.Common.{sym, ◌∙◌, ap, ap₂, subst, add_assoc}
-use Rattle.dw_base.specs.Numbers.{◌>>=◌, is_width, length_size, word_of}
+use Rattle.dw_base.specs.Numbers.{is_width, length_size, word_of}
 use Rattle.dw_base.specs.declared.common.Encoding.{Encoding}
 use Rattle.dw_base.specs.declared.common.Format.{Format}
 use Rattle.dw_base.specs.declared.error.Error.{Error}
@@ -13,17 +13,6 @@ use Rattle.dw_frame.specs.Parts.{Part, Placed, free, caused, only_if, in_turn}
 use Rattle.dw_frame.specs.Entries.{length_piece, with_length, with_count, padding, padded, entry, counted}
 use Rattle.dw_frame.specs.Reading.{at_zero}
 use Rattle.dw_frame.proofs.TextParts.{split}
-
--- What an option that is there leads to
-
-pub record Opened {A B : Type 0} (o : Option A) (f : A → Option B) (y : B) : Type 0 where
-  pub value : A
-  pub is : o ≡ Some value
-  pub leads : f value ≡ Some y
-
-pub opened : {A B : Type 0} (o : Option A) (f : A → Option B) (y : B) → (o >>= f) ≡ Some y → Opened o f y
-opened None f y e = cc
-opened (Some x) f y e = record { value = x; is = refl; leads = e }
 
 module _ (big : Bool) (l : Layout) where
   -- a piece of the same size, with this text
