@@ -66,8 +66,14 @@ module _ {W : Type 0} (meaning : W → Meaning) (big : Bool) (old new : Sections
             subst (λ b. filled_text (info_of ns w.kept) (locations_draft ns true) b l ≡ Some xs) (order p.same.order e.debug_loclists.order) (filled_alone (meaning old.debug_loclists.0) (meaning new.debug_loclists.0) (info_of ns w.kept) (locations_draft ns true) (empty_as e.debug_loclists) p l xs h);
         strings = added_alone big (meaning old.debug_str.0) (meaning new.debug_str.0) (string_bytes d.strings) e.debug_str strings.others;
         line_strings = added_alone big (meaning old.debug_line_str.0) (meaning new.debug_line_str.0) (string_bytes d.line_strings) e.debug_line_str strings.lines;
+        ranges_found = λ k u within. ranges.found k u within (unwritten k u within);
+        located = w.adds.lists.located;
         info_tidy = w.adds.units.tidy (empty_tidy big m e.debug_info);
         abbrevs_tidy = (Adds-appends w.adds.tables).tidy (empty_tidy big (meaning old.debug_abbrev.0) e.debug_abbrev);
+        ranges_tidy = ranges.ranges.tidy (empty_tidy big (meaning old.debug_ranges.0) e.debug_ranges);
+        range_lists_tidy = ranges.range_lists.tidy (empty_tidy big (meaning old.debug_rnglists.0) e.debug_rnglists);
+        locations_tidy = w.adds.lists.locations.tidy (empty_tidy big (meaning old.debug_loc.0) e.debug_loc);
+        location_lists_tidy = w.adds.lists.location_lists.tidy (empty_tidy big (meaning old.debug_loclists.0) e.debug_loclists);
       }
     where
       row : (w : WritesWhole meaning old new (units_of d)) → AreInRow at_begin (units_of d) w.kept

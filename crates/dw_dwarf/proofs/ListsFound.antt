@@ -4,6 +4,7 @@ use Rattle.std.proofs.Common.{sym, ◌∙◌, ap, subst, inl, inr, arith, append
 use Rattle.std.proofs.lemmas.List.Elements.{All-head, All-tail}
 use Rattle.std.proofs.lemmas.Option.{slice_get_cases}
 use Rattle.dw_writer.specs.Drafts.{left_open, open_text}
+use Rattle.dw_writer.specs.Layout.{Layout}
 use Rattle.dw_writer.specs.Texts.{Text, followed}
 use Rattle.dw_lists.specs.Items.{is_five}
 use Rattle.dw_lists.specs.Tables.{IsFound, AreNumbered, no_place, ranges_in}
@@ -46,17 +47,17 @@ told_apart (Some xs) None bytes h = absurd (let x : ◌≡◌ {A = Text} None (S
 told_apart (Some xs) (Some ys) bytes h = record { first = xs; rest = ys; first_is = refl; rest_is = refl; both = sym (some_is (xs ++ ys) bytes h) }
 
 -- the bytes of a unit's lists in one of the sections are as many as they come to
-module _ (u : UnitValue) (big : Bool) where
-  part_size : (five : Bool) (xs : List ℕ) → range_text five u big at_zero ≡ Some xs → length xs ≡ range_size five u
+module _ (u : UnitValue) (big : Bool) (l : Layout) where
+  pub part_size : (five : Bool) (xs : List ℕ) → range_text five u big l ≡ Some xs → length xs ≡ range_size five u
   part_size five xs h = by_version (is_own_section five u.encoding) h
     where
-      by_version : (b : Bool) → (if b then open_text (range_draft u) big at_zero else Some []) ≡ Some xs → length xs ≡ (if b then (range_draft u).size else 0)
-      by_version true k = ranges-wide u.encoding u.ranges left_open big at_zero xs k
+      by_version : (b : Bool) → (if b then open_text (range_draft u) big l else Some []) ≡ Some xs → length xs ≡ (if b then (range_draft u).size else 0)
+      by_version true k = ranges-wide u.encoding u.ranges left_open big l xs k
       by_version false k = ap length (sym (some_is [] xs k))
 
-  whole_text : (five : Bool) → is_five u.encoding ≡ five → (xs : List ℕ) → range_text five u big at_zero ≡ Some xs → open_text (range_draft u) big at_zero ≡ Some xs
-  whole_text true is xs h = sym (ap (λ b. if b then open_text (range_draft u) big at_zero else Some []) is) ∙ h
-  whole_text false is xs h = sym (ap (λ b. if not b then open_text (range_draft u) big at_zero else Some []) is) ∙ h
+  pub whole_text : (five : Bool) → is_five u.encoding ≡ five → (xs : List ℕ) → range_text five u big l ≡ Some xs → open_text (range_draft u) big l ≡ Some xs
+  whole_text true is xs h = sym (ap (λ b. if b then open_text (range_draft u) big l else Some []) is) ∙ h
+  whole_text false is xs h = sym (ap (λ b. if not b then open_text (range_draft u) big l else Some []) is) ∙ h
 
 -- one unit's lists, where both sections stand before and behind them
 module _ (old new : InOrder) (found : Elsewhere) (u : UnitValue) (again : AreFound u) (numbered : All AreNumbered (ranges_in u.ranges)) where
@@ -86,8 +87,8 @@ all_found old new found plain at before more behind others (u ∷ us) p q unwrit
       by_version o n old_here new_here numbered (is_five u.encoding) refl,
       all_found old new (past_parts found u) plain (past_table at u) (before ++ o.first) o.rest (behind ++ n.first) n.rest us p q (All-tail IsUnwritten u us unwritten)
           (All-tail (λ v. v.is_written ≡ false → AreFound v) u us again) (subst (λ s. AreWritable plain s (past_table at u) us) past can.1)
-          (old_here ∙ sym (append_assoc before o.first o.rest)) (omega (arith, length-append before o.first, old_at, part_size u old.is_big false o.first o.first_is)) o.rest_is
-          (new_here ∙ sym (append_assoc behind n.first n.rest)) (omega (arith, length-append behind n.first, new_at, part_size u new.is_big true n.first n.first_is)) n.rest_is,
+          (old_here ∙ sym (append_assoc before o.first o.rest)) (omega (arith, length-append before o.first, old_at, part_size u old.is_big at_zero false o.first o.first_is)) o.rest_is
+          (new_here ∙ sym (append_assoc behind n.first n.rest)) (omega (arith, length-append behind n.first, new_at, part_size u new.is_big at_zero true n.first n.first_is)) n.rest_is,
     )
   where
     by_version : (o : AreTold (range_text false u old.is_big at_zero) (texts (range_text false) us old.is_big at_zero) more) →
@@ -95,7 +96,7 @@ all_found old new found plain at before more behind others (u ∷ us) p q unwrit
         old.bytes ≡ before ++ (o.first ++ o.rest) → new.bytes ≡ behind ++ (n.first ++ n.rest) → All AreNumbered (ranges_in u.ranges) → (five : Bool) → is_five u.encoding ≡ five → FindsLists old new found u
     by_version o n old_here new_here numbered true is =
         one_found old new found u (All-head (λ v. v.is_written ≡ false → AreFound v) u us again (All-head IsUnwritten u us unwritten)) numbered behind n.first n.rest new true is (ap (λ b. if b then new else old) is) new_here
-        (new_at ∙ sym (ap (λ b. if b then found.ends.range_lists.size else found.ends.ranges.size) is)) (whole_text u new.is_big true is n.first n.first_is)
+        (new_at ∙ sym (ap (λ b. if b then found.ends.range_lists.size else found.ends.ranges.size) is)) (whole_text u new.is_big at_zero true is n.first n.first_is)
     by_version o n old_here new_here numbered false is =
         one_found old new found u (All-head (λ v. v.is_written ≡ false → AreFound v) u us again (All-head IsUnwritten u us unwritten)) numbered before o.first o.rest old false is (ap (λ b. if b then new else old) is) old_here
-        (old_at ∙ sym (ap (λ b. if b then found.ends.range_lists.size else found.ends.ranges.size) is)) (whole_text u old.is_big false is o.first o.first_is)
+        (old_at ∙ sym (ap (λ b. if b then found.ends.range_lists.size else found.ends.ranges.size) is)) (whole_text u old.is_big at_zero false is o.first o.first_is)

@@ -3,6 +3,7 @@ use Rattle.std.specs.Prelude.{◌≡◌, ℕ, suc, Bool, true, false, not, List,
 use Rattle.std.proofs.Common.{sym, ◌∙◌, ap, subst, inr, arith, append_assoc, length-append}
 use Rattle.std.proofs.lemmas.List.Elements.{All-head, All-tail}
 use Rattle.dw_writer.specs.Drafts.{Info, no_draft, IsDraft, then_draft}
+use Rattle.dw_writer.specs.Layout.{Layout}
 use Rattle.dw_writer.specs.Texts.{Text}
 use Rattle.dw_lists.specs.Items.{is_five}
 use Rattle.dw_lists.specs.Tables.{IsFound, AreNumbered, offsets_from, locations_in}
@@ -21,17 +22,17 @@ use Rattle.dw_dwarf.proofs.ListsFound.{all_at, AreTold, told_apart, some_is}
 use Rattle.dw_dwarf.proofs.LocationsThere.{locations_sound}
 
 -- the bytes of a unit's lists in one of the sections are as many as they come to
-module _ (u : UnitValue) (is : IsDraft (location_draft (settled u))) (info : Info) (big : Bool) where
-  part_size : (five : Bool) (xs : List ℕ) → (location_part five (settled u)).text info big at_zero ≡ Some xs → length xs ≡ location_size five u
+module _ (u : UnitValue) (is : IsDraft (location_draft (settled u))) (info : Info) (big : Bool) (l : Layout) where
+  pub part_size : (five : Bool) (xs : List ℕ) → (location_part five (settled u)).text info big l ≡ Some xs → length xs ≡ location_size five u
   part_size five xs h = by_section (is_own_section five u.encoding) h
     where
-      by_section : (b : Bool) → (if b then location_draft (settled u) else no_draft).text info big at_zero ≡ Some xs → length xs ≡ (if b then location_draft (settled u) else no_draft).size
-      by_section true k = is.wide info big at_zero xs k
+      by_section : (b : Bool) → (if b then location_draft (settled u) else no_draft).text info big l ≡ Some xs → length xs ≡ (if b then location_draft (settled u) else no_draft).size
+      by_section true k = is.wide info big l xs k
       by_section false k = ap length (sym (some_is [] xs k))
 
-  whole_text : (five : Bool) → is_five u.encoding ≡ five → (xs : List ℕ) → (location_part five (settled u)).text info big at_zero ≡ Some xs → (location_draft (settled u)).text info big at_zero ≡ Some xs
-  whole_text true own xs h = sym (ap (λ b. (if b then location_draft (settled u) else no_draft).text info big at_zero) own) ∙ h
-  whole_text false own xs h = sym (ap (λ b. (if not b then location_draft (settled u) else no_draft).text info big at_zero) own) ∙ h
+  pub whole_text : (five : Bool) → is_five u.encoding ≡ five → (xs : List ℕ) → (location_part five (settled u)).text info big l ≡ Some xs → (location_draft (settled u)).text info big l ≡ Some xs
+  whole_text true own xs h = sym (ap (λ b. (if b then location_draft (settled u) else no_draft).text info big l) own) ∙ h
+  whole_text false own xs h = sym (ap (λ b. (if not b then location_draft (settled u) else no_draft).text info big l) own) ∙ h
 
 -- one unit's lists, where both sections stand before and behind them
 module _ (old new : InOrder) (info : Info) (found : Elsewhere) (u : UnitValue) (located : AreLocated (settled u)) (numbered : All AreNumbered (locations_in u.locations)) where
@@ -65,15 +66,15 @@ all_located old new info n found plain at before more behind others (u ∷ us) p
       by_version own o w old_here new_here numbered (is_five u.encoding) refl,
       all_located old new info (suc n) (past_parts found u) plain (past_table at u) (before ++ o.first) o.rest (behind ++ w.first) w.rest us p q (All-tail IsUnwritten u us unwritten)
           (All-tail (λ (w : Numbered). AreLocated w.unit) (settled_at n found u) (numbered_from (suc n) (past_parts found u) us) located) (subst (λ s. AreWritable plain s (past_table at u) us) past can.1)
-          (old_here ∙ sym (append_assoc before o.first o.rest)) (omega (arith, length-append before o.first, old_at, part_size u own.draft info old.is_big false o.first o.first_is)) o.rest_is
-          (new_here ∙ sym (append_assoc behind w.first w.rest)) (omega (arith, length-append behind w.first, new_at, part_size u own.draft info new.is_big true w.first w.first_is)) w.rest_is,
+          (old_here ∙ sym (append_assoc before o.first o.rest)) (omega (arith, length-append before o.first, old_at, part_size u own.draft info old.is_big at_zero false o.first o.first_is)) o.rest_is
+          (new_here ∙ sym (append_assoc behind w.first w.rest)) (omega (arith, length-append behind w.first, new_at, part_size u own.draft info new.is_big at_zero true w.first w.first_is)) w.rest_is,
     )
   where
     by_version : {t s : Text} → AreLocated (settled u) → (o : AreTold ((location_part false (settled u)).text info old.is_big at_zero) t more) → (w : AreTold ((location_part true (settled u)).text info new.is_big at_zero) s others) →
         old.bytes ≡ before ++ (o.first ++ o.rest) → new.bytes ≡ behind ++ (w.first ++ w.rest) → All AreNumbered (locations_in u.locations) → (five : Bool) → is_five u.encoding ≡ five → FindsLocations old new info found u
     by_version own o w old_here new_here numbered true is =
         one_found old new info found u own numbered behind w.first w.rest new (ap (λ b. if b then new else old) is) new_here
-        (new_at ∙ sym (ap (λ b. if b then found.ends.location_lists.size else found.ends.locations.size) is)) (whole_text u own.draft info new.is_big true is w.first w.first_is)
+        (new_at ∙ sym (ap (λ b. if b then found.ends.location_lists.size else found.ends.locations.size) is)) (whole_text u own.draft info new.is_big at_zero true is w.first w.first_is)
     by_version own o w old_here new_here numbered false is =
         one_found old new info found u own numbered before o.first o.rest old (ap (λ b. if b then new else old) is) old_here
-        (old_at ∙ sym (ap (λ b. if b then found.ends.location_lists.size else found.ends.locations.size) is)) (whole_text u own.draft info old.is_big false is o.first o.first_is)
+        (old_at ∙ sym (ap (λ b. if b then found.ends.location_lists.size else found.ends.locations.size) is)) (whole_text u own.draft info old.is_big at_zero false is o.first o.first_is)

@@ -1,5 +1,5 @@
 -- What writing a Dwarf leaves in sections that were new, of any kind, as a linker finds it.
-use Rattle.std.specs.Prelude.{◌≡◌, ℕ, Bool, true, List, Some, false}
+use Rattle.std.specs.Prelude.{◌≡◌, ℕ, Bool, true, List, All, Some, false}
 use Rattle.dw_writer.specs.Drafts.{filled_text}
 use Rattle.dw_writer.specs.Layout.{Layout}
 use Rattle.dw_writer.specs.Meaning.{Meaning, IsTidy}
@@ -7,6 +7,8 @@ use Rattle.dw_writer.specs.Resolved.{resolved}
 use Rattle.dw_writer.specs.declared.sections.Sections.{Sections}
 use Rattle.dw_strings.specs.Strings.{string_bytes}
 use Rattle.dw_unit.specs.Built.{Numbered, at_begin}
+use Rattle.dw_unit.specs.Elsewhere.{AreFound}
+use Rattle.dw_unit.specs.Locations.{AreLocated}
 use Rattle.dw_unit.specs.Pending.{Kept, AreInRow, info_of, units_draft, tables_of, locations_draft}
 use Rattle.dw_dwarf.specs.DwarfValue.{DwarfValue}
 use Rattle.dw_dwarf.specs.Valid.{empty_ends, settled_units}
@@ -17,7 +19,8 @@ abbrev pub units_of : DwarfValue → List Numbered
 units_of d = settled_units (empty_ends true) d
 
 -- Wherever the sections come to stand and whatever symbols are, what resolves in them is the units with the places that they
--- keep, their tables, the line programs, the range lists, the location lists and the strings.
+-- keep, their tables, the line programs, the range lists, the location lists and the strings. Wherever the text of a table of
+-- lists stands, each list is found there and read as it was built.
 pub record IsLeft {W : Type 0} (meaning : W → Meaning) (big : Bool) (s : Sections W) (d : DwarfValue) : Type 0 where
   pub kept : List Kept
   pub in_row : AreInRow at_begin (units_of d) kept
@@ -30,5 +33,11 @@ pub record IsLeft {W : Type 0} (meaning : W → Meaning) (big : Bool) (s : Secti
   pub location_lists : (l : Layout) (xs : List ℕ) → resolved l (meaning s.debug_loclists.0) ≡ Some xs → filled_text (info_of (units_of d) kept) (locations_draft (units_of d) true) big l ≡ Some xs
   pub strings : (l : Layout) (xs : List ℕ) → resolved l (meaning s.debug_str.0) ≡ Some xs → string_bytes d.strings ≡ xs
   pub line_strings : (l : Layout) (xs : List ℕ) → resolved l (meaning s.debug_line_str.0) ≡ Some xs → string_bytes d.line_strings ≡ xs
+  pub ranges_found : All AreFound d.units
+  pub located : All (λ u. AreLocated u.unit) (units_of d)
   pub info_tidy : IsTidy (meaning s.debug_info.0)
   pub abbrevs_tidy : IsTidy (meaning s.debug_abbrev.0)
+  pub ranges_tidy : IsTidy (meaning s.debug_ranges.0)
+  pub range_lists_tidy : IsTidy (meaning s.debug_rnglists.0)
+  pub locations_tidy : IsTidy (meaning s.debug_loc.0)
+  pub location_lists_tidy : IsTidy (meaning s.debug_loclists.0)

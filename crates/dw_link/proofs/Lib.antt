@@ -9,6 +9,8 @@ pub mod LinkSteps
 pub mod JoinLaws
 pub mod Faultless
 pub mod PartLengths
+pub mod OldLists
+pub mod ListsFound
 pub mod Linked
 pub mod JoinedSections
 mod Worked

@@ -19,9 +19,11 @@ use Rattle.dw_unit.proofs.ReadUnits.{parted}
 use Rattle.dw_dwarf.specs.DwarfValue.{DwarfValue}
 use Rattle.dw_dwarf.specs.Left.{units_of, IsLeft}
 use Rattle.dw_dwarf.specs.Written.{dwarf_lines, dwarf_ranges}
-use Rattle.dw_link.specs.Linked.{AreLeft, files_from, texts_from, lines_from, ranges_from, range_lists_from, locations_from, AreRows, LinksDwarfs}
+use Rattle.dw_link.specs.Linked.{AreLeft, files_from, texts_from, lines_from, ranges_from, range_lists_from, locations_from, LinksDwarfs}
+use Rattle.dw_link.specs.Lists.{AreRows}
 use Rattle.dw_link.specs.Outcome.{JoinsParts}
 use Rattle.dw_link.specs.Sets.{Parts, parts_of, sets_of, concatenated, layout_in, linked_from, linked_parts}
+use Rattle.dw_link.proofs.ListsFound.{ranges_of_sets, locations_of_sets}
 use Rattle.dw_link.proofs.PartLengths.{part_length, concatenated-more, behind}
 
 -- Units
@@ -171,12 +173,17 @@ dwarfs_linked from to big sets symbols ds out parts left =
       lines = λ bytes told. lines_left from big all symbols 0 sets ds bytes left (sym (parts DebugLine out.debug_line.0 refl) ∙ told);
       ranges = λ bytes told. ranges_left from big all symbols 0 sets ds bytes left (sym (parts DebugRanges out.debug_ranges.0 refl) ∙ told);
       range_lists = λ bytes told. range_lists_left from big all symbols 0 sets ds bytes left (sym (parts DebugRngLists out.debug_rnglists.0 refl) ∙ told);
+      found_ranges = λ old new told lists.
+          ranges_of_sets from big all symbols old new [] 0 sets ds [] old [] new refl refl left refl refl (sym (parts DebugRanges out.debug_ranges.0 refl) ∙ told) refl refl (sym (parts DebugRngLists out.debug_rnglists.0 refl) ∙ lists);
       locations = record {
         kept = kept_left from big all symbols sets ds left;
         rows = rows_left from big all symbols sets ds left;
         locations = λ bytes told. lists_left from big all symbols DebugLoc false (λ s. s.debug_loc.0) (λ n. refl) (λ n s ss. refl) (λ s d h. h.locations) 0 sets ds bytes left (sym (parts DebugLoc out.debug_loc.0 refl) ∙ told);
         location_lists = λ bytes told. lists_left from big all symbols DebugLocLists true (λ s. s.debug_loclists.0) (λ n. refl) (λ n s ss. refl) (λ s d h. h.location_lists) 0 sets ds bytes left (sym (parts DebugLocLists out.debug_loclists.0 refl) ∙ told);
       };
+      found_locations = λ old new told lists.
+          let f = locations_of_sets from big all symbols old new [] 0 sets ds [] old [] new refl refl left refl refl (sym (parts DebugLoc out.debug_loc.0 refl) ∙ told) refl refl (sym (parts DebugLocLists out.debug_loclists.0 refl) ∙ lists) in
+          record { kept = f.kept; rows = f.rows; found = f.found };
       strings = λ bytes told. strings_left from big all symbols 0 sets ds bytes left (sym (parts DebugStr out.debug_str.0 refl) ∙ told);
       line_strings = λ bytes told. line_strings_left from big all symbols 0 sets ds bytes left (sym (parts DebugLineStr out.debug_line_str.0 refl) ∙ told);
     }

@@ -4,4 +4,5 @@ pub mod Bits
 pub mod Sets
 pub mod Outcome
 pub mod Steps
+pub mod Lists
 pub mod Linked

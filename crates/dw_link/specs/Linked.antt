@@ -8,11 +8,12 @@ use Rattle.dw_writer.specs.Meaning.{Meaning, Model}
 use Rattle.dw_writer.specs.declared.sections.Sections.{Sections}
 use Rattle.dw_strings.specs.Strings.{string_bytes}
 use Rattle.dw_writer.specs.Drafts.{filled_text}
-use Rattle.dw_unit.specs.Built.{File, Built, at_begin}
-use Rattle.dw_unit.specs.Pending.{Kept, AreInRow, info_of, locations_draft}
+use Rattle.dw_unit.specs.Built.{File, Built}
+use Rattle.dw_unit.specs.Pending.{Kept, info_of, locations_draft}
 use Rattle.dw_dwarf.specs.DwarfValue.{DwarfValue}
 use Rattle.dw_dwarf.specs.Left.{units_of, IsLeft}
 use Rattle.dw_dwarf.specs.Written.{dwarf_lines, dwarf_ranges}
+use Rattle.dw_link.specs.Lists.{AreRows, FindRanges, FindLocations}
 use Rattle.dw_link.specs.Sets.{Parts, sets_of, layout_in}
 
 -- each set is as writing a Dwarf over new sections left it
@@ -51,13 +52,6 @@ module _ (sets : List Parts) (symbols : List ℕ) where
   locations_from id five big n (d ∷ ds) (k ∷ ks) =
       followed (filled_text (info_of (units_of d) k) (locations_draft (units_of d) five) big (layout_in sets symbols n id)) (locations_from id five big (n + 1) ds ks)
 
--- the units of each set stand in a row
-abbrev pub AreRows : List DwarfValue → List (List Kept) → Type 0
-AreRows [] [] = Unit {0}
-AreRows [] (k ∷ ks) = ⊥
-AreRows (d ∷ ds) [] = ⊥
-AreRows (d ∷ ds) (k ∷ ks) = AreInRow at_begin (units_of d) k × AreRows ds ks
-
 -- The joined sections of location lists are those of all sets: each reference from a list to an entry by its place in
 -- .debug_info has that of the entry in its own set.
 pub record LinkLocations {X : Type 0} (to : X → Meaning) (big : Bool) (sets : List Parts) (symbols : List ℕ) (ds : List DwarfValue) (joined : Sections X) : Type 0 where
@@ -68,12 +62,15 @@ pub record LinkLocations {X : Type 0} (to : X → Meaning) (big : Bool) (sets : 
 
 -- The joined sections are those of all: .debug_info and .debug_abbrev are read, to their last byte, as exactly the units of
 -- all sets in order, each reference leading to an entry of its own set, and strings, line programs and lists named in the set's
--- own parts; and these parts hold what each set has.
+-- own parts; and these parts hold what each set has. Where an attribute of a unit leads to in a joined section of lists, the list is
+-- found that was built.
 pub record LinksDwarfs {W X : Type 0} (from : W → Meaning) (to : X → Meaning) (big : Bool) (sets : List (Sections W)) (symbols : List ℕ) (ds : List DwarfValue) (joined : Sections X) : Type 0 where
   pub built : (info abbrevs : List ℕ) → (to joined.debug_info.0).bytes ≡ Some info → (to joined.debug_abbrev.0).bytes ≡ Some abbrevs → Built (files_from (sets_of from sets) symbols 0 ds) big info abbrevs
   pub lines : (bytes : List ℕ) → (to joined.debug_line.0).bytes ≡ Some bytes → lines_from (sets_of from sets) symbols big 0 ds ≡ Some bytes
   pub ranges : (bytes : List ℕ) → (to joined.debug_ranges.0).bytes ≡ Some bytes → ranges_from (sets_of from sets) symbols big 0 ds ≡ Some bytes
   pub range_lists : (bytes : List ℕ) → (to joined.debug_rnglists.0).bytes ≡ Some bytes → range_lists_from (sets_of from sets) symbols big 0 ds ≡ Some bytes
+  pub found_ranges : (old new : List ℕ) → (to joined.debug_ranges.0).bytes ≡ Some old → (to joined.debug_rnglists.0).bytes ≡ Some new → FindRanges (layout_in (sets_of from sets) symbols) big old new ds
   pub locations : LinkLocations to big (sets_of from sets) symbols ds joined
+  pub found_locations : (old new : List ℕ) → (to joined.debug_loc.0).bytes ≡ Some old → (to joined.debug_loclists.0).bytes ≡ Some new → FindLocations (layout_in (sets_of from sets) symbols) big old new ds
   pub strings : (bytes : List ℕ) → (to joined.debug_str.0).bytes ≡ Some bytes → flat_map (λ d. string_bytes d.strings) ds ≡ bytes
   pub line_strings : (bytes : List ℕ) → (to joined.debug_line_str.0).bytes ≡ Some bytes → flat_map (λ d. string_bytes d.line_strings) ds ≡ bytes
