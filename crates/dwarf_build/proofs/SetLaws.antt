@@ -67,6 +67,10 @@ layout_same big sets ps h symbols n s =
     let starts : start_in sets n ≡ section_size (take n ps) = λ k. λ t. start_same big sets ps h n t k in
     ap (λ f. laid_out symbols f s) starts
 
+-- so are all layouts
+pub layouts_same : (big : Bool) (sets : List Parts) (ps : List Placed) → HoldSets big sets ps → (symbols : List ℕ) → layout_in sets symbols ≡ set_layout ps symbols
+layouts_same big sets ps h symbols = λ k. λ n s. layout_same big sets ps h symbols n s k
+
 -- What they are joined to
 
 held_text : (o : Option Meaning) (big : Bool) (q : Option Part) (l : Layout) → IsHeld o big q → (o >>= resolved l) ≡ text_in q big l

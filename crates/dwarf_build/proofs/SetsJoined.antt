@@ -15,6 +15,7 @@ use Rattle.dw_dwarf.specs.Written.{SectionTexts, TellTexts}
 use Rattle.dw_ends.specs.Listing.{Lists, listing, read_as, read_of}
 use Rattle.dw_ends.specs.Sections.{sections_of}
 use Rattle.dw_link.specs.Linked.{LinksDwarfs}
+use Rattle.dw_link.specs.Lists.{FindRanges, FindLocations}
 use Rattle.dw_link.specs.Outcome.{AllInOrder, JoinsParts, LinkRefused, IsFirstFault, is_other, differs, is_mixed, first_mixed}
 use Rattle.dw_link.specs.Sets.{Parts, sets_of}
 use Rattle.dw_link.specs.declared.error.LinkError.{LinkError}
@@ -24,7 +25,7 @@ use Rattle.dwarf_build.specs.Linked.{AreValidSets, ListsSets, IsLinkRefusal, tex
 use Rattle.dwarf_build.specs.SetParts.{Part, Placed, part_of, section_text, IsHeld, AreSets}
 use Rattle.dwarf_build.specs.Texts.{link_refused_text}
 use Rattle.dwarf_build.proofs.Answered.{told_named}
-use Rattle.dwarf_build.proofs.SetLaws.{HoldSets, placed_sets, joined_same, files_are}
+use Rattle.dwarf_build.proofs.SetLaws.{HoldSets, placed_sets, layouts_same, joined_same, files_are}
 
 module _ {W X : Type 0} (from : W → Meaning) (to : X → Meaning) (tells : (x : X) → (bytes : List ℕ) × ((to x).bytes ≡ Some bytes)) where
   -- what joined sections hold
@@ -91,6 +92,7 @@ module _ {W X : Type 0} (from : W → Meaning) (to : X → Meaning) (tells : (x 
       let texts = texts_of joined in
       let told = all_told joined in
       let own : (to joined.debug_info.0).is_big ≡ big = order DebugInfo joined.debug_info.0 refl in
+      let layouts = layouts_same big (sets_of from sets) p.placed p.hold s.symbols in
       let files = files_are big (sets_of from sets) p.placed p.hold s.symbols s.dwarfs p.are in
       record {
         texts = texts;
@@ -98,6 +100,8 @@ module _ {W X : Type 0} (from : W → Meaning) (to : X → Meaning) (tells : (x 
         are = p.are;
         valid = valid;
         built = subst (λ fs. Built fs big texts.debug_info texts.debug_abbrev) files (links.built texts.debug_info texts.debug_abbrev told.debug_info told.debug_abbrev);
+        ranges = subst (λ l. FindRanges l big texts.debug_ranges texts.debug_rnglists s.dwarfs) layouts (links.found_ranges texts.debug_ranges texts.debug_rnglists told.debug_ranges told.debug_rnglists);
+        locations = subst (λ l. FindLocations l big texts.debug_loc texts.debug_loclists s.dwarfs) layouts (links.found_locations texts.debug_loc texts.debug_loclists told.debug_loc told.debug_loclists);
         joined = sections_are s sets joined p.placed p.hold parts;
         listed = listed.is ∙ (λ k. listing (own k) (told_named to joined texts told k));
         read_back = back ∙ (λ k. Ok (read_as (own k) (map (λ n. n.1) (told_named to joined texts told k))));

@@ -9,12 +9,13 @@ use Rattle.dw_dwarf.specs.DwarfValue.{DwarfValue}
 use Rattle.dw_dwarf.specs.Valid.{IsValid}
 use Rattle.dw_dwarf.specs.Written.{SectionTexts}
 use Rattle.dw_ends.specs.Sections.{sections_of}
+use Rattle.dw_link.specs.Lists.{FindRanges, FindLocations}
 use Rattle.dw_link.specs.Outcome.{IsFirstFault}
 use Rattle.dw_link.specs.Sets.{Parts}
 use Rattle.dw_link.specs.declared.error.LinkError.{LinkError}
 use Rattle.dw_build.specs.SetsValue.{SetsValue}
 use Rattle.dwarf_build.specs.Faults.{HasFault}
-use Rattle.dwarf_build.specs.SetParts.{Placed, ArePlaced, AllFit, AreSets, files_behind, section_text}
+use Rattle.dwarf_build.specs.SetParts.{Placed, ArePlaced, AllFit, AreSets, files_behind, section_text, set_layout}
 use Rattle.dwarf_build.specs.Texts.{refused_text, link_refused_text, sections_text, texts_read}
 
 -- each can be written by writers that record relocations, which take symbols
@@ -41,14 +42,17 @@ text_at t s = None
 
 -- The listing of joined sections: .debug_info and .debug_abbrev are read, to their last byte, as exactly the units of all sets
 -- in order, each reference leading to an entry of its own set; and each section is what the sets leave in it, one behind
--- another, in which each number counts from where its set's parts start, and symbols are values. It comes, with status 0, only for
--- sets that are all valid. Read as a listing, it gives the same sections in the same byte order.
+-- another, in which each number counts from where its set's parts start, and symbols are values. Where an attribute of a unit leads
+-- to in a section of lists, the list is found that was built. It comes, with status 0, only for sets that are all valid. Read as a
+-- listing, it gives the same sections in the same byte order.
 pub record ListsSets (s : SetsValue) (text : List ℕ) : Type 0 where
   pub texts : SectionTexts
   pub placed : List Placed
   pub are : ArePlaced s.dwarfs placed
   pub valid : AreValidSets s.dwarfs
   pub built : Built (files_behind placed s.symbols 0 placed) (is_big_of s.endian) texts.debug_info texts.debug_abbrev
+  pub ranges : FindRanges (set_layout placed s.symbols) (is_big_of s.endian) texts.debug_ranges texts.debug_rnglists s.dwarfs
+  pub locations : FindLocations (set_layout placed s.symbols) (is_big_of s.endian) texts.debug_loc texts.debug_loclists s.dwarfs
   pub joined : (id : SectionId) (bytes : List ℕ) → text_at texts id ≡ Some bytes → section_text placed s.symbols (is_big_of s.endian) id ≡ Some bytes
   pub listed : text ≡ sections_text (is_big_of s.endian) texts
   pub read_back : sections_of text ≡ Ok (texts_read (is_big_of s.endian) texts)
