@@ -1,0 +1,28 @@
+-- A listing's lines, one more at a time.
+use Rattle.std.proofs.Common.{◌≡◌, ◌∙◌, sym, ap, ℕ, ◌+◌, List, ◌∷◌}
+use Rattle.std.specs.Prelude.{Result, Ok, Err}
+use Rattle.dw_ends.specs.Fields.{Outcome}
+use Rattle.dw_ends.specs.Sections.{ListingValue, after_line, after_lines, sections_of}
+use Rattle.dw_ends.specs.declared.reason.Reason.{Reason}
+use Rattle.dw_listing.specs.Listed.{RefusedAt, RefusedWhole}
+use Rattle.dw_listing.specs.declared.listing.ListingError.{ListingError}
+use Rattle.dw_listing.specs.declared.listing.ListingError.TheVariants.{Refused, NoMemory}
+
+-- what is left to do after line n
+after_outcome : ℕ → List (List ℕ) → Outcome ListingValue → Result ListingValue (ℕ × Reason)
+after_outcome n lines r = elim r as (λ _. Result ListingValue (ℕ × Reason)) [ Ok v ↦ after_lines (n + 1) v lines | Err reason ↦ Err (n, reason) ]
+
+-- a line that is taken, and one that is refused
+pub after_lines-ok : (n : ℕ) (v next : ListingValue) (line : List ℕ) (lines : List (List ℕ)) → after_line v line ≡ Ok next → after_lines n v (line ∷ lines) ≡ after_lines (n + 1) next lines
+unfolding after_outcome
+after_lines-ok n v next line lines e = ap (after_outcome n lines) e
+
+after_lines-err : (n : ℕ) (v : ListingValue) (reason : Reason) (line : List ℕ) (lines : List (List ℕ)) → after_line v line ≡ Err reason → after_lines n v (line ∷ lines) ≡ Err (n, reason)
+unfolding after_outcome
+after_lines-err n v reason line lines e = ap (after_outcome n lines) e
+
+-- the first line that is refused is that of all
+pub listing_refused : (bytes : List ℕ) (n : ℕ) (v : ListingValue) (line : List ℕ) (lines : List (List ℕ)) (x : ListingError) → after_lines n v (line ∷ lines) ≡ sections_of bytes → RefusedAt n (after_line v line) x → RefusedWhole (sections_of bytes) x
+listing_refused bytes n v line lines (Refused number reason) same h =
+    sym same ∙ after_lines-err n v reason line lines h.1 ∙ ap (λ (k : ℕ). let x : Result ListingValue (ℕ × Reason) = Err (k, reason) in x) (sym h.0)
+listing_refused bytes n v line lines NoMemory same h = tt
