@@ -2,9 +2,13 @@
 use Rattle.std.proofs.Common.{◌≡◌, ◌∙◌, sym, ap, subst, ℕ, List, [], ◌∷◌, refl, arith, inl, inr}
 use Rattle.std.specs.Prelude.{◌⊎◌, true, false, Option, Some, None, Result, Ok, Err, IsTrue}
 use Rattle.std.specs.Option.{is_some}
+use Rattle.dw_base.specs.declared.endianity.RunTimeEndian.{RunTimeEndian}
+use Rattle.dw_sources.specs.declared.convert_error.ConvertError.{ConvertError}
+use Rattle.dw_dwarf.specs.DwarfValue.{DwarfValue}
 use Rattle.dw_dwarf.specs.Valid.{IsValid}
 use Rattle.dw_base.specs.Faults.{HasRisen}
 use Rattle.dw_ends.specs.Ends.{Intake}
+use Rattle.dw_ends.specs.Sections.{ListingValue, sections_of}
 use Rattle.dw_build.specs.Script.{script}
 use Rattle.dw_build.specs.ScriptValue.{ScriptValue}
 use Rattle.dw_build.specs.Sets.{sets}
@@ -12,9 +16,11 @@ use Rattle.dw_build.specs.SetsValue.{SetsValue}
 use Rattle.dw_build.specs.declared.script.Refusal.{Refusal}
 use Rattle.dwarf_build.specs.Answers.{DoRead, IsShort, Says, SaysAsked, SaysBuilt, SaysOf, SaysOfBytes, SaysOfInput, SaysOfSets, SaysRead, Prints, code_of, made_of}
 use Rattle.dwarf_build.specs.Commands.{reading_of}
+use Rattle.dwarf_build.specs.Converted.{Becomes, BecomesNone, SaysOfListing, listing_read, with_refusal}
+use Rattle.dwarf_build.specs.Listed.{SaysOfDwarf}
 use Rattle.dwarf_build.specs.Linked.{AreValidSets, Fit}
 use Rattle.dwarf_build.specs.declared.command.Reading.{Reading}
-use Rattle.dwarf_build.specs.declared.command.Reading.TheVariants.{Build, Link}
+use Rattle.dwarf_build.specs.declared.command.Reading.TheVariants.{Build, Convert, Link}
 use Rattle.dwarf_build.specs.declared.status.Status.{Status}
 use Rattle.dwarf_build.specs.declared.status.Status.TheVariants.{Listed, Usage, ScriptRefused, WriteRefused, SourceFailed, SinkFailed, NoMemory, TooLong}
 use Rattle.dwarf_build.proofs.Faulty.{valid_faultless}
@@ -74,19 +80,35 @@ printed_complete words reading left bytes asked told short only status result te
     let here : SaysOfInput reading left status text = subst (λ r. SaysAsked r (made_of words) left status text) asked says in
     printed_done status result text old new (input_only reading left bytes told short only status text here) prints calm
 
--- a script that is valid is listed
-script_listed : (s : ScriptValue) → IsValid true s.dwarf → (status : Status) (text : List ℕ) → SaysOf s status text → status ≡ Listed
-script_listed s valid Listed text h = refl
-script_listed s valid WriteRefused text h = absurd (valid_faultless true s.dwarf h.error valid h.cause)
-script_listed s valid Usage text h = absurd h
-script_listed s valid ScriptRefused text h = absurd h
-script_listed s valid SourceFailed text h = absurd h
-script_listed s valid SinkFailed text h = absurd h
-script_listed s valid NoMemory text h = absurd h
-script_listed s valid TooLong text h = absurd h
+-- a Dwarf that is valid is listed
+dwarf_listed : (endian : RunTimeEndian) (d : DwarfValue) → IsValid true d → (status : Status) (text : List ℕ) → SaysOfDwarf endian d status text → status ≡ Listed
+dwarf_listed endian d valid Listed text h = refl
+dwarf_listed endian d valid WriteRefused text h = absurd (valid_faultless true d h.error valid h.cause)
+dwarf_listed endian d valid Usage text h = absurd h
+dwarf_listed endian d valid ScriptRefused text h = absurd h
+dwarf_listed endian d valid SourceFailed text h = absurd h
+dwarf_listed endian d valid SinkFailed text h = absurd h
+dwarf_listed endian d valid NoMemory text h = absurd h
+dwarf_listed endian d valid TooLong text h = absurd h
 
 pub build_only : (bytes : List ℕ) (s : ScriptValue) → script bytes ≡ Ok s → IsValid true s.dwarf → (status : Status) (text : List ℕ) → SaysOfBytes Build bytes status text → status ≡ Listed
-build_only bytes s accepted valid status text h = built_only script SaysOf s (script_listed s valid) bytes status text accepted h
+build_only bytes s accepted valid status text h = built_only script SaysOf s (dwarf_listed s.endian s.dwarf valid) bytes status text accepted h
+
+-- so are sections that can be converted, and only to what is valid
+module _ (v : ListingValue) (able : (e : ConvertError) → BecomesNone v e → ⊥) (valid : (d : DwarfValue) → Becomes v d → IsValid true d) where
+  converted_listed : (status : Status) (text : List ℕ) → SaysOfListing v status text → status ≡ Listed
+  converted_listed Listed text h = refl
+  converted_listed WriteRefused text (inl h) = absurd (valid_faultless true h.dwarf h.refused.error (valid h.dwarf h.becomes) h.refused.cause)
+  converted_listed WriteRefused text (inr h) = absurd (able h.error h.becomes)
+  converted_listed Usage text h = absurd h
+  converted_listed ScriptRefused text h = absurd h
+  converted_listed SourceFailed text h = absurd h
+  converted_listed SinkFailed text h = absurd h
+  converted_listed NoMemory text h = absurd h
+  converted_listed TooLong text h = absurd h
+
+  pub convert_only : (bytes : List ℕ) → sections_of bytes ≡ Ok v → (status : Status) (text : List ℕ) → SaysOfBytes Convert bytes status text → status ≡ Listed
+  convert_only bytes said status text h = built_only listing_read SaysOfListing v converted_listed bytes status text (ap with_refusal said) h
 
 -- so are sets that are valid and fit
 sets_listed : (s : SetsValue) → AreValidSets s.dwarfs → Fit s → (status : Status) (text : List ℕ) → SaysOfSets s status text → status ≡ Listed

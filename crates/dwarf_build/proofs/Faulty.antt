@@ -1,6 +1,7 @@
 -- New plain sections take every Dwarf that is valid.
 use Rattle.std.specs.Prelude.{◌≡◌, true, false, Bool, List}
 use Rattle.std.proofs.Common.{ℕ, sym, subst, refl}
+use Rattle.dw_base.specs.declared.endianity.RunTimeEndian.{RunTimeEndian}
 use Rattle.dw_base.specs.declared.error.Error.{Error}
 use Rattle.dw_base.specs.declared.error.Error.TheVariants.{NoMemory}
 use Rattle.dw_writer.specs.Contents.{Meaning}
@@ -11,10 +12,9 @@ use Rattle.dw_dwarf.specs.DwarfValue.{DwarfValue}
 use Rattle.dw_dwarf.specs.Valid.{AreUnwritten, IsValid, DwarfFails, DwarfRefused, empty_ends}
 use Rattle.dw_dwarf.specs.Written.{AreNewPlain, AreNew}
 use Rattle.dw_dwarf.proofs.Complete.{AreNew-from_plain, dwarf_fails, valid_unfailing}
-use Rattle.dwarf_build.specs.Answers.{SaysOf}
 use Rattle.dwarf_build.specs.Faults.{HasFault}
+use Rattle.dwarf_build.specs.Listed.{SaysOfDwarf}
 use Rattle.dwarf_build.specs.Texts.{refused_text}
-use Rattle.dw_build.specs.ScriptValue.{ScriptValue}
 use Rattle.dwarf_build.specs.declared.status.Status.{Status}
 use Rattle.dwarf_build.specs.declared.status.Status.TheVariants.{WriteRefused}
 
@@ -32,10 +32,10 @@ set_faulty meaning old new empty recorder d e unwritten some refused calm =
     let fails = dwarf_fails meaning old new empty calm d e some (refused empty.fixups unwritten) in
     subst (λ b. DwarfFails b at_begin (empty_ends b) d e) recorder fails
 
--- what is said of a script that is refused
-pub says_refused : (s : ScriptValue) (status : Status) (text : List ℕ) (e : Error) → status ≡ WriteRefused → text ≡ refused_text e → HasFault true s.dwarf e → SaysOf s status text
-says_refused s status text e is says cause =
-    subst (λ x. SaysOf s x text) (sym is) (record { error = e; cause = cause; says = says })
+-- what is said of a Dwarf that is refused
+pub says_refused : (endian : RunTimeEndian) (d : DwarfValue) (status : Status) (text : List ℕ) (e : Error) → status ≡ WriteRefused → text ≡ refused_text e → HasFault true d e → SaysOfDwarf endian d status text
+says_refused endian d status text e is says cause =
+    subst (λ x. SaysOfDwarf endian d x text) (sym is) (record { error = e; cause = cause; says = says })
 
 -- a valid Dwarf has no fault
 pub valid_faultless : (plain : Bool) (d : DwarfValue) (e : Error) → IsValid plain d → HasFault plain d e → ⊥

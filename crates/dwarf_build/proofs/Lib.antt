@@ -3,6 +3,7 @@ pub mod CommandWords
 pub mod Texts
 pub mod Answered
 pub mod Faulty
+pub mod Converted
 pub mod SetLaws
 pub mod SetParts
 pub mod NewSets

@@ -1,24 +1,25 @@
 -- What the program answers, by its status.
 use Rattle.std.specs.Prelude.{◌≡◌, ◌⊎◌, ℕ, ◌+◌, ◌<◌, ◌≤◌, true, false, List, [], ◌∷◌, length, Option, Some, None, Result, Ok, Err, IsTrue, codes, bytes_eq, if◌then◌else◌}
 use Rattle.std.specs.Option.{is_some}
-use Rattle.dw_base.specs.Order.{is_big_of}
-use Rattle.dw_base.specs.declared.error.Error.{Error}
+use Rattle.dw_sources.specs.declared.convert_error.ConvertError.{ConvertError}
 use Rattle.dw_dwarf.specs.Valid.{IsValid}
+use Rattle.dw_dwarf.specs.DwarfValue.{DwarfValue}
 use Rattle.dw_dwarf.specs.Written.{SectionTexts, AreTextsOf, one_order}
 use Rattle.dw_base.specs.Faults.{HasRisen}
 use Rattle.dw_ends.specs.Ends.{Input, Intake, used_up, with_after, TakesPrefix}
-use Rattle.dw_ends.specs.Sections.{sections_of}
+use Rattle.dw_ends.specs.Sections.{ListingValue, sections_of}
 use Rattle.dw_ends.specs.Numbers.{number_below}
 use Rattle.dwarf_build.specs.Generated.{generated}
 use Rattle.dw_build.specs.Script.{script}
 use Rattle.dw_build.specs.Sets.{sets}
 use Rattle.dw_build.specs.SetsValue.{SetsValue}
 use Rattle.dwarf_build.specs.Commands.{reading_of}
-use Rattle.dwarf_build.specs.Faults.{HasFault}
+use Rattle.dwarf_build.specs.Converted.{Becomes, BecomesNone, SaysOfListing, listing_read}
+use Rattle.dwarf_build.specs.Listed.{SaysOfDwarf}
 use Rattle.dwarf_build.specs.Linked.{AreValidSets, Fit, ListsSets, IsSetRefusal, IsLinkRefusal}
 use Rattle.dwarf_build.specs.declared.command.Reading.{Reading}
-use Rattle.dwarf_build.specs.declared.command.Reading.TheVariants.{Build, Link}
-use Rattle.dwarf_build.specs.Texts.{usage_text, too_long_text, refusal_text, refused_text, sections_text, summary_text, texts_read}
+use Rattle.dwarf_build.specs.declared.command.Reading.TheVariants.{Build, Convert, Link}
+use Rattle.dwarf_build.specs.Texts.{usage_text, too_long_text, refusal_text, summary_text}
 use Rattle.dwarf_build.specs.declared.answer.Stop.{Stop}
 use Rattle.dwarf_build.specs.declared.answer.Stop.TheVariants as stop
 use Rattle.dwarf_build.specs.declared.status.Status.{Status}
@@ -53,27 +54,9 @@ longest_script = 16777216
 abbrev pub IsShort : List ℕ → Type 0
 IsShort bytes = length bytes ≤ longest_script
 
--- the listing of sections that are read as exactly the script's units, with their line programs, lists and strings in their
--- sections and nothing in the others. It comes, with status 0, only for valid units, so that each reference in it names an entry
--- of its unit's tree. Read as a listing, it gives the same sections in the same byte order
-pub record ListsScript (s : ScriptValue) (text : List ℕ) : Type 0 where
-  pub texts : SectionTexts
-  pub valid : IsValid true s.dwarf
-  pub are : AreTextsOf (one_order (is_big_of s.endian)) s.dwarf texts
-  pub listed : text ≡ sections_text (is_big_of s.endian) texts
-  pub read_back : sections_of text ≡ Ok (texts_read (is_big_of s.endian) texts)
-
--- some unit of the script, or a reference across them, can't be written, and the text says why
-pub record IsWriteRefusal (s : ScriptValue) (text : List ℕ) : Type 0 where
-  pub error : Error
-  pub cause : HasFault true s.dwarf error
-  pub says : text ≡ refused_text error
-
 -- what is said of an accepted script
 abbrev pub SaysOf : ScriptValue → Status → List ℕ → Type 0
-SaysOf s Listed text = ListsScript s text
-SaysOf s WriteRefused text = IsWriteRefusal s text
-SaysOf s _ text = ⊥
+SaysOf s status text = SaysOfDwarf s.endian s.dwarf status text
 
 -- what is said of sets that are accepted
 abbrev pub SaysOfSets : SetsValue → Status → List ℕ → Type 0
@@ -103,6 +86,7 @@ SaysBuilt built says _ text = ⊥
 -- what is said of an input by each command that reads
 abbrev pub SaysOfBytes : Reading → List ℕ → Status → List ℕ → Type 0
 SaysOfBytes Build bytes status text = SaysBuilt (script bytes) SaysOf status text
+SaysOfBytes Convert bytes status text = SaysBuilt (listing_read bytes) SaysOfListing status text
 SaysOfBytes Link bytes status text = SaysBuilt (sets bytes) SaysOfSets status text
 
 -- these bytes were read, which are those that the source told, and this is said of them
@@ -224,6 +208,13 @@ abbrev pub LinksValid : List (List ℕ) → Input → Input → Intake → Intak
 LinksValid words source_old source_new sink_old sink_new code =
     reading_of words ≡ Some Link → (bytes : List ℕ) → source_old.left ≡ Some bytes → IsShort bytes →
     (s : SetsValue) → sets bytes ≡ Ok s → AreValidSets s.dwarfs → Fit s → IsDoneUnless source_old source_new sink_old sink_new code
+
+-- So was a listing of sections that can be converted, and only to what is valid.
+abbrev pub ConvertsValid : List (List ℕ) → Input → Input → Intake → Intake → ℕ → Type 0
+ConvertsValid words source_old source_new sink_old sink_new code =
+    reading_of words ≡ Some Convert → (bytes : List ℕ) → source_old.left ≡ Some bytes → IsShort bytes →
+    (v : ListingValue) → sections_of bytes ≡ Ok v → ((e : ConvertError) → BecomesNone v e → ⊥) → ((d : DwarfValue) → Becomes v d → IsValid true d) →
+    IsDoneUnless source_old source_new sink_old sink_new code
 
 -- what is generated is valid; it was written, or memory lacked, unless the sink failed
 abbrev pub MakesNumbers : List (List ℕ) → Intake → Intake → ℕ → Type 0

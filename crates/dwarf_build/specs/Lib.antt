@@ -2,6 +2,8 @@ pub mod Generated
 pub mod Drafted
 pub mod Texts
 pub mod Faults
+pub mod Listed
+pub mod Converted
 pub mod Commands
 pub mod SetParts
 pub mod Linked

@@ -9,6 +9,8 @@ use Rattle.dw_dwarf.specs.DwarfValue.{DwarfValue}
 use Rattle.dw_ends.specs.Listing.{listing, read_as}
 use Rattle.dw_ends.specs.Sections.{ListingValue}
 use Rattle.dw_ends.specs.Reasons.{reason_text}
+use Rattle.dw_sources.specs.ConvertErrors.{convert_error_name}
+use Rattle.dw_sources.specs.declared.convert_error.ConvertError.{ConvertError}
 use Rattle.dw_link.specs.ErrorName.{link_error_name}
 use Rattle.dw_link.specs.declared.error.LinkError.{LinkError}
 use Rattle.dw_build.specs.declared.script.Refusal.{Refusal}
@@ -21,13 +23,17 @@ usage_text = codes "usage: build | convert | link | make N\n"
 abbrev pub too_long_text : List ℕ
 too_long_text = codes "too long\n"
 
--- a line of the script is refused
+-- a line of the script or of the listing is refused
 abbrev pub refusal_text : Refusal → List ℕ
 refusal_text r = codes "line " ++ decimal r.line ++ codes ": " ++ reason_text r.reason ++ codes "\n"
 
 -- writing is refused
 abbrev pub refused_text : Error → List ℕ
 refused_text e = codes "refused: " ++ error_name e ++ codes "\n"
+
+-- converting is refused
+abbrev pub convert_refused_text : ConvertError → List ℕ
+convert_refused_text e = codes "refused: " ++ convert_error_name e ++ codes "\n"
 
 -- linking is refused
 abbrev pub link_refused_text : LinkError → List ℕ

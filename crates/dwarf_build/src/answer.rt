@@ -3,19 +3,22 @@
 ghost use Rattle.std.specs.Prelude.{◌≡◌, ◌≢◌, ◌+◌, ◌≤◌, length, map, IfOk, IfErr, IfSome, string_bytes};
 ghost use Rattle.dw_base.specs.declared.error.Error.TheVariants.{NoMemory};
 ghost use Rattle.dw_ends.specs.Numbers.{number_below};
-ghost use Rattle.dwarf_build.specs.Answers.{LeavesUnread, Says, SaysOf, SaysOfBytes, SaysOfInput, SaysMade, Reads, ReadsInput, StopsFor, StopsReading, made_of, most_variables};
-ghost use Rattle.dw_build.specs.Script.{AreOpen};
-ghost use Rattle.dw_build.specs.ScriptValue.{script_in};
+ghost use Rattle.dw_dwarf.specs.DwarfValue.{dwarf_in};
+ghost use Rattle.dw_dwarf.specs.Valid.{AreUnwritten};
+ghost use Rattle.dwarf_build.specs.Listed.{SaysOfDwarf};
+ghost use Rattle.dwarf_build.specs.Answers.{LeavesUnread, Says, SaysOfBytes, SaysOfInput, SaysMade, Reads, ReadsInput, StopsFor, StopsReading, made_of, most_variables};
 ghost use Rattle.dwarf_build.specs.Texts.{refusal_text, refused_text};
 
 use crate::command::Reading;
+use crate::convert::convert_listing;
 use crate::link::link_script;
 use crate::make::generate;
 use crate::status::Status;
 use crate::summary::{Counts, summarize};
 use crate::write::write_new;
 use dw_base::{Error, RunTimeEndian};
-use dw_build::{Refusal, SCRIPT_LIMIT, Script, ScriptError, read_script};
+use dw_build::{Refusal, SCRIPT_LIMIT, ScriptError, read_script};
+use dw_dwarf::Dwarf;
 use dw_ends::{EndError, Source, listing_text, read_all};
 use dw_script::parse_u64;
 use dw_writer::Section;
@@ -83,7 +86,7 @@ pub(crate) fn answer_with(alloc: Global, status: Status, text: &[u8]) -> Result<
     })
 }
 
-/// The line of the script that is refused, and why.
+/// The line of the script or the listing that is refused, and why.
 pub(crate) fn answer_refusal(alloc: Global, refusal: Refusal) -> Result<Answer, AllocError>
     ensures { IfOk result (λ a.
         (a.status ≡ Status.ScriptRefused) × (a.text.items ≡ refusal_text refusal)) }
@@ -108,12 +111,16 @@ pub(crate) fn answer_write_refusal(alloc: Global, error: Error) -> Result<Answer
     answer_with(alloc, Status::WriteRefused, text.as_bytes())
 }
 
-// Writes what the script has built, and lists the sections.
-fn write_script(alloc: Global, mut script: Script) -> Result<Answer, AllocError>
-    requires { AreOpen script.dwarf.units }
-    ensures { IfOk result (λ a. SaysOf (script_in script) a.status a.text.items) }
+/// Writes what was built into new sections of a byte order, and lists them.
+pub(crate) fn answer_dwarf(
+    alloc: Global,
+    endian: RunTimeEndian,
+    mut dwarf: Dwarf,
+) -> Result<Answer, AllocError>
+    requires { AreUnwritten (dwarf_in dwarf) }
+    ensures { IfOk result (λ a. SaysOfDwarf endian (dwarf_in dwarf) a.status a.text.items) }
 {
-    match write_new(alloc, script.endian, &mut script.dwarf) {
+    match write_new(alloc, endian, &mut dwarf) {
         Ok(sections) => {
             let text = listing_text(alloc, &sections)?;
             Ok(Answer {
@@ -131,7 +138,7 @@ fn build(alloc: Global, bytes: &[u8]) -> Result<Answer, AllocError>
     ensures { IfOk result (λ a. SaysOfBytes Reading.Build bytes.now a.status a.text.items) }
 {
     match read_script(alloc, bytes) {
-        Ok(script) => write_script(alloc, script),
+        Ok(script) => answer_dwarf(alloc, script.endian, script.dwarf),
         Err(ScriptError::Refused(found)) => answer_refusal(alloc, found),
         Err(ScriptError::NoMemory) => Err(AllocError),
     }
@@ -144,6 +151,7 @@ fn answer_bytes(alloc: Global, reading: Reading, bytes: &[u8]) -> Result<Answer,
 {
     match reading {
         Reading::Build => build(alloc, bytes),
+        Reading::Convert => convert_listing(alloc, bytes),
         Reading::Link => link_script(alloc, bytes),
     }
 }

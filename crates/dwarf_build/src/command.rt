@@ -8,6 +8,8 @@ ghost use Rattle.dwarf_build.specs.Commands.{reading_named, reading_of};
 pub enum Reading {
     /// A script is built and written.
     Build,
+    /// The sections of a listing are converted and written.
+    Convert,
     /// The sets of a script are built, written and linked.
     Link,
 }
@@ -29,6 +31,8 @@ impl Reading {
     {
         if word == "build" {
             Some(Reading::Build)
+        } else if word == "convert" {
+            Some(Reading::Convert)
         } else if word == "link" {
             Some(Reading::Link)
         } else {

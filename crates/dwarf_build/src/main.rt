@@ -1,5 +1,5 @@
-//! Builds DWARF from a script, one file or several that are linked, and lists it, or generates it,
-//! and tells how much it is.
+//! Builds DWARF from a script, one file or several that are linked, or converts that of a listing,
+//! and lists it; or generates it, and tells how much it is.
 #![tactic(auto)]
 
 mod answer;
@@ -8,6 +8,7 @@ mod case_tests;
 #[cfg(test)]
 mod cases;
 mod command;
+mod convert;
 #[cfg(test)]
 mod generated_tests;
 mod link;

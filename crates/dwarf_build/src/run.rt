@@ -2,7 +2,7 @@
 
 ghost use Rattle.std.specs.Prelude.{◌≡◌, ◌≤◌, map, string_bytes, MatchResult};
 ghost use Rattle.std.specs.Process.{exit_status};
-ghost use Rattle.dwarf_build.specs.Answers.{LeavesUnread, LinksValid, ListsValid, MakesNumbers, RunAnswers, Prints};
+ghost use Rattle.dwarf_build.specs.Answers.{ConvertsValid, LeavesUnread, LinksValid, ListsValid, MakesNumbers, RunAnswers, Prints};
 
 use crate::answer::{Answer, Stop, answer_to};
 use crate::status::Status;
@@ -24,10 +24,10 @@ fn print<K: Sink>(answer: &Answer, sink: &mut K) -> Status
 }
 
 /// Does what the words ask for with the source's bytes, prints to the sink, and answers the exit
-/// status: 0 a listing or a summary, 1 words that are no command, 2 a script that is refused, 3
-/// DWARF that can't be written or linked, 4 a source that failed, 5 a sink that failed, 6 want of
-/// memory, 7 more input than 16,777,216 bytes. The input is read whole first; then it is parsed,
-/// written and printed.
+/// status: 0 a listing or a summary, 1 words that are no command, 2 a script or a listing that is
+/// refused, 3 DWARF that can't be converted, written or linked, 4 a source that failed, 5 a sink
+/// that failed, 6 want of memory, 7 more input than 16,777,216 bytes. The input is read whole
+/// first; then it is parsed, converted, written and printed.
 pub fn run<S: Source, K: Sink>(
     alloc: Global,
     words: &Vec<String>,
@@ -37,6 +37,8 @@ pub fn run<S: Source, K: Sink>(
     ensures answers { RunAnswers (map string_bytes words.now.items)
         (S.input source.old) (S.input source.new) (K.intake sink.old) (K.intake sink.new) result }
     ensures complete { ListsValid (map string_bytes words.now.items)
+        (S.input source.old) (S.input source.new) (K.intake sink.old) (K.intake sink.new) result }
+    ensures converts { ConvertsValid (map string_bytes words.now.items)
         (S.input source.old) (S.input source.new) (K.intake sink.old) (K.intake sink.new) result }
     ensures links { LinksValid (map string_bytes words.now.items)
         (S.input source.old) (S.input source.new) (K.intake sink.old) (K.intake sink.new) result }

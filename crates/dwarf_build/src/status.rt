@@ -10,9 +10,9 @@ pub enum Status {
     Listed,
     /// The words aren't a command.
     Usage,
-    /// The script was refused.
+    /// The script or the listing was refused.
     ScriptRefused,
-    /// Writing was refused.
+    /// Writing, linking or converting was refused.
     WriteRefused,
     /// The input couldn't be read.
     SourceFailed,
@@ -20,7 +20,7 @@ pub enum Status {
     SinkFailed,
     /// No memory could be had.
     NoMemory,
-    /// The input is longer than a script may be.
+    /// The input is longer than a script or a listing may be.
     TooLong,
 }
 

@@ -70,7 +70,7 @@ fn tells_the_usage_without_reading(rt: HostRuntime) -> Result<(), Fail> {
         &["Build"],
         &["Link"],
         &["link", "link"],
-        &["convert"],
+        &["Convert"],
         &["make"],
         &["make", "5", "5"],
     ];

@@ -2,9 +2,9 @@ use Rattle.std.proofs.Common.{◌∙◌, sym, ap, subst, inr, map}
 use Rattle.std.specs.Prelude.{string_bytes}
 use Rattle.dw_base.specs.Faults.{HasRisen}
 use Rattle.dwarf_build.specs.Answers.{StopsFor, code_of}
-use Rattle.dwarf_build.specs.declared.command.Reading.TheVariants.{Build, Link}
+use Rattle.dwarf_build.specs.declared.command.Reading.TheVariants.{Build, Convert, Link}
 use Rattle.dwarf_build.proofs.CommandWords.{asked_few}
-use Rattle.dwarf_build.proofs.Completeness.{IsDone, build_only, link_only, printed_complete, printed_made, not_both}
+use Rattle.dwarf_build.proofs.Completeness.{IsDone, build_only, convert_only, link_only, printed_complete, printed_made, not_both}
 use Rattle.dwarf_build.proofs.Runs.{printed_answers, source_failed_answers, no_memory_answers}
 use Rattle.dwarf_build.proofs.MadeValid.{generated_valid}
 use Rattle.dwarf_build.proofs.run.run.Goals.{in-Ok, in-Err-SourceFailed, in-Err-NoMemory}
@@ -17,6 +17,17 @@ returns-clause-complete g c = λ build bytes told short s accepted valid source_
           let calm : HasRisen (g.K.Sink.intake c.args.sink.now).faults (g.K.Sink.intake w.print-status.new.sink).faults → ⊥ = λ h. sink_calm (subst (λ k. HasRisen (g.K.Sink.intake c.args.sink.now).faults (g.K.Sink.intake k).faults) (sym w.sink-is) h) in
           subst IsDone (sym (c.code.ensures ∙ ap code_of w.status-is))
           (printed_complete (map string_bytes c.args.words.now.items) Build (g.S.Source.input c.args.source.now).left bytes build told short (build_only bytes s accepted valid) _ _ _ _ _ w.in-Ok.ensures.ok w.print-status.ensures.prints calm)
+      | in-Err-SourceFailed w ↦ absurd (source_calm (subst (StopsFor (map string_bytes c.args.words.now.items) (g.S.Source.input c.args.source.now) (g.S.Source.input c.answer_to.new.source)) w.in-Err-SourceFailed.field-0-is w.in-Err-SourceFailed.ensures.err).1)
+      | in-Err-NoMemory w ↦ inr (c.code.ensures ∙ ap code_of w.status-is)
+    ]
+
+pub returns-clause-converts : goal.returns-clause-converts
+returns-clause-converts g c = λ convert bytes told short v said able valid source_calm sink_calm.
+    elim c.match-answer_to.branch [
+      | in-Ok w ↦
+          let calm : HasRisen (g.K.Sink.intake c.args.sink.now).faults (g.K.Sink.intake w.print-status.new.sink).faults → ⊥ = λ h. sink_calm (subst (λ k. HasRisen (g.K.Sink.intake c.args.sink.now).faults (g.K.Sink.intake k).faults) (sym w.sink-is) h) in
+          subst IsDone (sym (c.code.ensures ∙ ap code_of w.status-is))
+          (printed_complete (map string_bytes c.args.words.now.items) Convert (g.S.Source.input c.args.source.now).left bytes convert told short (convert_only v able valid bytes said) _ _ _ _ _ w.in-Ok.ensures.ok w.print-status.ensures.prints calm)
       | in-Err-SourceFailed w ↦ absurd (source_calm (subst (StopsFor (map string_bytes c.args.words.now.items) (g.S.Source.input c.args.source.now) (g.S.Source.input c.answer_to.new.source)) w.in-Err-SourceFailed.field-0-is w.in-Err-SourceFailed.ensures.err).1)
       | in-Err-NoMemory w ↦ inr (c.code.ensures ∙ ap code_of w.status-is)
     ]
