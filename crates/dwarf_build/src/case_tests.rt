@@ -26,13 +26,34 @@ const SECTIONS: [&str; 11] = [
     ".eh_frame",
 ];
 
+/// The sections of a listing that is read: those of one that is printed, and the two that
+/// only indices lead into.
+const READ_SECTIONS: [&str; 13] = [
+    ".debug_abbrev",
+    ".debug_str",
+    ".debug_line_str",
+    ".debug_line",
+    ".debug_ranges",
+    ".debug_rnglists",
+    ".debug_loc",
+    ".debug_loclists",
+    ".debug_info",
+    ".debug_frame",
+    ".eh_frame",
+    ".debug_addr",
+    ".debug_str_offsets",
+];
+
 /// A line that begins with no word of a case.
 const UNKNOWN_WORD: &str = "unknown word";
+
+/// A case whose input is a script and a listing.
+const TWO_INPUTS: &str = "two inputs";
 
 /// A case that tells no status, or several.
 const NO_STATUS: &str = "no status";
 
-/// A case that tells neither text nor sections, or both.
+/// A case that tells neither text nor sections, or several of them.
 const NO_OUTPUT: &str = "no output";
 
 /// The byte order and the encoding of the unit that a case is run for, as scripts spell them.
@@ -94,33 +115,53 @@ fn joined(alloc: Global, lines: &str, word: &str, end: &str) -> Result<String, A
     Ok(text)
 }
 
-/// How many of the lines say what the sections hold.
-fn section_lines(lines: &str) -> usize {
+/// How many of the lines begin with one of these words.
+fn lines_of(lines: &str, words: &[&str]) -> usize {
     let mut count = 0usize;
-    for section in SECTIONS {
-        count = count.saturating_add(count_of(lines, section));
+    for word in words {
+        count = count.saturating_add(count_of(lines, word));
+    }
+    count
+}
+
+/// How many ways of telling the output a case takes.
+fn outputs(lines: &str) -> usize {
+    let mut count = 0usize;
+    for told in [
+        lines_of(lines, &SECTIONS),
+        count_of(lines, "same"),
+        count_of(lines, "text"),
+    ] {
+        if told != 0 {
+            count = count.saturating_add(1);
+        }
     }
     count
 }
 
 /// Tells what a case lacks, or has too much.
 fn fault_of(lines: &str) -> Option<&'static str> {
-    let mut known = section_lines(lines);
-    let has_sections = known != 0;
-    for word in [
-        "", "#", "command", "units", "script", "status", "order", "text",
-    ] {
-        known = known.saturating_add(count_of(lines, word));
-    }
+    let words = [
+        "", "#", "command", "units", "script", "read", "status", "order", "text", "same", "once",
+    ];
+    let known = lines_of(lines, &SECTIONS).saturating_add(lines_of(lines, &words));
     if known != lines.lines().count() {
         Some(UNKNOWN_WORD)
     } else if count_of(lines, "status") != 1 {
         Some(NO_STATUS)
-    } else if has_sections == (count_of(lines, "text") != 0) {
+    } else if outputs(lines) != 1 {
         Some(NO_OUTPUT)
+    } else if count_of(lines, "read") != 0 && count_of(lines, "script") != 0 {
+        Some(TWO_INPUTS)
     } else {
         None
     }
+}
+
+/// Tells whether these lines, which say what a listing holds, name nothing else.
+fn is_listing(lines: &str) -> bool {
+    let known = lines_of(lines, &READ_SECTIONS).saturating_add(count_of(lines, "order"));
+    known == lines.lines().count()
 }
 
 /// Appends the digits of fields. What follows a `=` is a number, its most significant byte first,
@@ -188,11 +229,11 @@ fn order_of(alloc: Global, lines: &str, head: Head) -> Result<String, AllocError
     Ok(told)
 }
 
-/// The listing of sections.
-fn listing_of(alloc: Global, lines: &str, head: Head) -> Result<String, Fail> {
+/// The listing of these sections.
+fn listing_of(alloc: Global, lines: &str, head: Head, sections: &[&str]) -> Result<String, Fail> {
     let order = order_of(alloc, lines, head)?;
     let mut text = format!(in alloc; "order {order}\n")?;
-    for section in SECTIONS {
+    for section in sections {
         let digits = digits_of(alloc, lines, head, section)?;
         let size = digits.len() / 2;
         let line = format!(in alloc; "{section} {size} {digits}")?;
@@ -206,15 +247,20 @@ fn listing_of(alloc: Global, lines: &str, head: Head) -> Result<String, Fail> {
 fn command_of(alloc: Global, lines: &str) -> Result<String, AllocError> {
     let told = joined(alloc, lines, "command", "")?;
     if told.is_empty() {
-        return String::from_str(alloc, "build");
+        let is_listing = count_of(lines, "read") != 0;
+        return String::from_str(alloc, if is_listing { "convert" } else { "build" });
     }
     Ok(told)
 }
 
 /// All that a run prints.
 fn text_of(alloc: Global, lines: &str, head: Head) -> Result<String, Fail> {
+    if count_of(lines, "same") != 0 {
+        let read = joined(alloc, lines, "read", "\n")?;
+        return listing_of(alloc, read.as_str(), head, &SECTIONS);
+    }
     if count_of(lines, "text") == 0 {
-        return listing_of(alloc, lines, head);
+        return listing_of(alloc, lines, head, &SECTIONS);
     }
     Ok(joined(alloc, lines, "text", "\n")?)
 }
@@ -251,12 +297,26 @@ fn script_of(alloc: Global, lines: &str, head: Head) -> Result<Vec<u8>, Fail> {
     unescaped(alloc, text.as_str())
 }
 
-/// Runs a case for a head.
-fn run_once(
+/// What is read: a listing where the case tells one, else a script.
+fn input_of(alloc: Global, lines: &str, head: Head) -> Result<Vec<u8>, Fail> {
+    let read = joined(alloc, lines, "read", "\n")?;
+    if read.is_empty() {
+        return script_of(alloc, lines, head);
+    }
+    if !is_listing(read.as_str()) {
+        return Err("a line that is read is none of a listing".into());
+    }
+    let text = listing_of(alloc, read.as_str(), head, &READ_SECTIONS)?;
+    Ok(Vec::from_slice(alloc, text.as_bytes())?)
+}
+
+/// Runs a case's command over an input, which is to print a text.
+fn run_to(
     rt: &impl Abort,
     alloc: Global,
     (name, lines): (&str, &str),
     head: Head,
+    (input, want): (&[u8], &str),
 ) -> Result<(), Fail> {
     let Head {
         order,
@@ -264,17 +324,29 @@ fn run_once(
         address_size,
         format,
     } = head;
-    let script = script_of(alloc, lines, head)?;
-    let want = text_of(alloc, lines, head)?;
     let status = joined(alloc, lines, "status", "")?;
     let command = command_of(alloc, lines)?;
-    let (ended, text) = run_over(alloc, command.as_str(), script.as_slice())?;
+    let (ended, text) = run_over(alloc, command.as_str(), input)?;
     let ended = format!(in alloc; "{ended}")?;
     assert_eq!(rt;
         (ended.as_str(), text.as_str()),
-        (status.as_str(), want.as_str()),
+        (status.as_str(), want),
         "case {name} ({order} {version} {address_size} {format})"
     );
+    Ok(())
+}
+
+/// Runs a case for a head. A listing that was converted is converted again, to itself, unless the
+/// case says that it is done `once`.
+fn run_once(rt: &impl Abort, alloc: Global, case: (&str, &str), head: Head) -> Result<(), Fail> {
+    let lines = case.1;
+    let input = input_of(alloc, lines, head)?;
+    let want = text_of(alloc, lines, head)?;
+    run_to(rt, alloc, case, head, (input.as_slice(), want.as_str()))?;
+    let command = command_of(alloc, lines)?;
+    if command.as_str() == "convert" && lines_of(lines, &["text", "once"]) == 0 {
+        run_to(rt, alloc, case, head, (want.as_bytes(), want.as_str()))?;
+    }
     Ok(())
 }
 
@@ -417,6 +489,12 @@ fn finds_faults_of_cases(rt: HostRuntime) {
         ("status 0\nstatus 1\ntext", Some(NO_STATUS)),
         ("status 0\ntext\n.debug_inf", Some(UNKNOWN_WORD)),
         ("status 0\ntext\n text", Some(UNKNOWN_WORD)),
+        ("read .debug_info\nstatus 0\nsame", None),
+        (
+            "read .debug_info\nstatus 0\nsame\n.debug_info",
+            Some(NO_OUTPUT),
+        ),
+        ("read .debug_info\nscript\nstatus 0\nsame", Some(TWO_INPUTS)),
     ];
     for (lines, want) in rows {
         assert_eq!(rt; fault_of(lines), want, "at {lines}");
