@@ -2,8 +2,9 @@
 //! module `cases` tells how a table is written.
 
 use crate::cases::{
-    expressions, headers, limits, lines, links, locations, ranges, references, refusals,
-    refused_locations, strings, trees, values,
+    convert, converted_lists, converted_values, expressions, headers, limits, lines, links,
+    locations, ranges, references, refusals, refused_conversions, refused_locations, strings,
+    trees, values,
 };
 use crate::tests::run_over;
 use std::alloc::{AllocError, Global};
@@ -467,6 +468,26 @@ fn builds_expressions(rt: HostRuntime) -> Result<(), Fail> {
 #[test]
 fn links_sets(rt: HostRuntime) -> Result<(), Fail> {
     run_table(&rt, rt.alloc(), links::CASES)
+}
+
+#[test]
+fn converts_units(rt: HostRuntime) -> Result<(), Fail> {
+    run_table(&rt, rt.alloc(), convert::CASES)
+}
+
+#[test]
+fn converts_values(rt: HostRuntime) -> Result<(), Fail> {
+    run_table(&rt, rt.alloc(), converted_values::CASES)
+}
+
+#[test]
+fn converts_lists(rt: HostRuntime) -> Result<(), Fail> {
+    run_table(&rt, rt.alloc(), converted_lists::CASES)
+}
+
+#[test]
+fn refuses_to_convert(rt: HostRuntime) -> Result<(), Fail> {
+    run_table(&rt, rt.alloc(), refused_conversions::CASES)
 }
 
 #[test]

@@ -29,6 +29,9 @@
 //!
 //! The bytes are written by hand from the standard's tables, never copied from a listing.
 
+pub(crate) mod convert;
+pub(crate) mod converted_lists;
+pub(crate) mod converted_values;
 pub(crate) mod expressions;
 pub(crate) mod headers;
 pub(crate) mod limits;
@@ -38,6 +41,7 @@ pub(crate) mod locations;
 pub(crate) mod ranges;
 pub(crate) mod references;
 pub(crate) mod refusals;
+pub(crate) mod refused_conversions;
 pub(crate) mod refused_locations;
 pub(crate) mod strings;
 pub(crate) mod trees;
