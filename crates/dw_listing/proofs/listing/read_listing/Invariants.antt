@@ -1,5 +1,5 @@
 use Rattle.std.proofs.Common.{◌≡◌, ◌+◌, ◌≤◌, length}
-use Rattle.dw_script.specs.Pieces.{lines_left}
+use Rattle.dw_script.specs.Scripts.{lines_left}
 use Rattle.dw_ends.specs.Sections.{after_lines, sections_of}
 use Rattle.dw_listing.proofs.listing.read_listing.Given as goal
 
