@@ -89,7 +89,7 @@ fn push_times(text: &mut String, piece: &str, count: usize) -> Result<(), AllocE
 }
 
 /// A listing of these sections alone, as it is printed.
-fn listing_of(
+pub(crate) fn listing_of(
     alloc: Global,
     order: &str,
     abbrev: &str,
@@ -121,11 +121,17 @@ fn listing_of(
     Ok(text)
 }
 
-/// Tells that a listing is converted to itself.
-fn is_kept(rt: &impl Abort, alloc: Global, input: &[u8], listing: &str) -> Result<(), AllocError> {
+/// Tells that what is read is converted to this listing.
+pub(crate) fn is_kept_as(
+    rt: &impl Abort,
+    alloc: Global,
+    input: &[u8],
+    listing: &str,
+    name: &str,
+) -> Result<(), AllocError> {
     let (status, text) = run_over(alloc, "convert", input)?;
-    assert_eq!(rt; status, 0);
-    assert!(rt; text.as_str() == listing);
+    assert_eq!(rt; status, 0, "{name}");
+    assert!(rt; text.as_str() == listing, "{name}");
     Ok(())
 }
 
@@ -140,7 +146,13 @@ fn converts_a_long_chain(rt: HostRuntime) -> Result<(), Fail> {
     push_times(&mut info, "00", 100_000)?;
     let table = "01110100000234010000033400000000";
     let listing = listing_of(rt.alloc(), "order little\n", table, "", info.as_str())?;
-    is_kept(&rt, rt.alloc(), listing.as_bytes(), listing.as_str())?;
+    is_kept_as(
+        &rt,
+        rt.alloc(),
+        listing.as_bytes(),
+        listing.as_str(),
+        "entries",
+    )?;
     Ok(())
 }
 
@@ -156,7 +168,13 @@ fn converts_a_long_circle(rt: HostRuntime) -> Result<(), Fail> {
     info.push_str("020000000d00")?;
     let table = "01110100000234004913000000";
     let listing = listing_of(rt.alloc(), "order big\n", table, "", info.as_str())?;
-    is_kept(&rt, rt.alloc(), listing.as_bytes(), listing.as_str())?;
+    is_kept_as(
+        &rt,
+        rt.alloc(),
+        listing.as_bytes(),
+        listing.as_str(),
+        "entries",
+    )?;
     Ok(())
 }
 
@@ -172,7 +190,13 @@ fn converts_no_more_than_the_limit(rt: HostRuntime) -> Result<(), Fail> {
     let listing = listing_of(rt.alloc(), "order little\n", table, strings.as_str(), info)?;
     let mut input = Vec::from_slice(rt.alloc(), listing.as_bytes())?;
     input.resize(16_777_216, b'#')?;
-    is_kept(&rt, rt.alloc(), input.as_slice(), listing.as_str())?;
+    is_kept_as(
+        &rt,
+        rt.alloc(),
+        input.as_slice(),
+        listing.as_str(),
+        "a string",
+    )?;
     input.push(b'#')?;
     let (status, text) = run_over(rt.alloc(), "convert", input.as_slice())?;
     assert_eq!(rt; (status, text.as_str()), (7, "too long\n"));

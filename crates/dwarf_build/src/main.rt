@@ -10,6 +10,8 @@ mod cases;
 mod command;
 mod convert;
 #[cfg(test)]
+mod converted_names;
+#[cfg(test)]
 mod converted_tests;
 #[cfg(test)]
 mod generated_tests;
