@@ -1,0 +1,6 @@
+mod Rows
+mod Codes
+mod Numbers
+mod Operands
+mod Law
+mod Worked
