@@ -1,0 +1,6 @@
+mod Walks
+mod Items
+mod Fewer
+mod There
+mod Lists
+mod Locations

@@ -1,0 +1,10 @@
+//! Range lists and location lists are read as they were written (DWARF 4, 2.6.2 and 2.17.3;
+//! DWARF 5, 2.6.2, 2.17.3, 7.7.3 and 7.25).
+//!
+//! `dw_lists` says what a section of lists tells that it has written, and `dw_sources` reads
+//! lists item by item: these are two definitions, and here they are proved to be one.
+#![tactic(auto)]
+
+mod laws;
+
+pub use laws::{location_lists_are_one, range_lists_are_one};
