@@ -4,3 +4,6 @@ mod Fewer
 mod There
 mod Lists
 mod Locations
+mod Steps
+mod Told
+mod Whole

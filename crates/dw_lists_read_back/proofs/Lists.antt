@@ -25,7 +25,7 @@ module _ {A : Type 0} (loc : Bool) (grammar : Bool → Encoding → Parser (Opti
         };
   }
 
-  at_place : (big : Bool) (e : Encoding) (section : List ℕ) (at : ℕ) (items : List Item) → items_at loc big e section at ≡ Some items →
+  pub at_place : (big : Bool) (e : Encoding) (section : List ℕ) (at : ℕ) (items : List Item) → items_at loc big e section at ≡ Some items →
       (behind : List ℕ) × (items_up_to (item_at (is_five e) loc big e.address_size) (length (drop at section)) (drop at section) ≡ Some (items, behind))
   unfolding items_at
   at_place big e section at items h =

@@ -1,3 +1,4 @@
 pub mod Walks
 pub mod Views
 pub mod Laws
+pub mod ReadLists

@@ -6,5 +6,7 @@
 #![tactic(auto)]
 
 mod laws;
+mod read_lists;
 
 pub use laws::{location_lists_are_one, range_lists_are_one};
+pub use read_lists::{all_locations, all_ranges};
