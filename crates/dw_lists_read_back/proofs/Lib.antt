@@ -2,6 +2,7 @@ mod Walks
 mod Items
 mod Fewer
 mod There
+mod Entries
 mod Lists
 mod Locations
 mod Steps

@@ -7,6 +7,7 @@ use Rattle.dw_lists.specs.Items.{Item, items_up_to, item_at, items_at, is_five}
 use Rattle.dw_lists.specs.Tables.{IsFound, offsets_from}
 use Rattle.dw_lists_read_back.specs.Laws.{ItemsAreOne, ListsAreOne, TablesAreReadBack}
 use Rattle.dw_lists_read_back.proofs.Walks.{some_same, walked, fuelled, worded, unworded}
+use Rattle.dw_lists_read_back.proofs.Entries.{found_whole}
 use Rattle.dw_lists_read_back.proofs.Fewer.{item_fewer}
 use Rattle.dw_lists_read_back.proofs.There.{table_there}
 
@@ -41,7 +42,7 @@ module _ {A : Type 0} (loc : Bool) (grammar : Bool → Encoding → Parser (Opti
       record {
         place_of = f.place_of;
         answered = f.answered;
-        entry = f.entry;
+        entry = λ base is. found_whole e big (before ++ (bytes ++ rest)) base i f.place_of (f.entry base is);
         items = b.0;
         built = b.1;
         behind = t.0;

@@ -1,11 +1,13 @@
 -- That lists are read as they are written: what the definition of written lists tells of bytes is what the definition of items
 -- that are read has there.
 use Rattle.std.specs.Prelude.{◌≡◌, ◌⊎◌, ℕ, Bool, true, false, List, ◌++◌, map, length, drop, Option, Some, slice_get}
-use Rattle.dw_base.specs.Numbers.{Parser, ◌>>=◌, is_width}
+use Rattle.dw_base.specs.Numbers.{Parser, ◌>>=◌, is_width, word_of}
 use Rattle.dw_base.specs.declared.common.Encoding.{Encoding}
 use Rattle.dw_writer.specs.Meaning.{Layout}
 use Rattle.dw_writer.specs.Drafts.{Info}
+use Rattle.dw_read.specs.Reading.{Reading, left, whole}
 use Rattle.dw_read.specs.Took.{option_of}
+use Rattle.dw_read_units.specs.Lookups.{FindsList}
 use Rattle.dw_lists.specs.Items.{Item, items_up_to, item_at, is_five, entry_at}
 use Rattle.dw_lists.specs.Parts.{Part}
 use Rattle.dw_lists.specs.Texts.{parts_in}
@@ -50,14 +52,21 @@ module _ {A : Type 0} (loc : Bool) (grammar : Bool → Encoding → Parser (Opti
     pub written : (big : Bool) (e : Encoding) (bytes : List ℕ) (ys : List A) (behind : List ℕ) → HasAddressSize e →
         AreItems (grammar big e) bytes ys behind → AreWritten big e bytes ys behind
 
+-- Entries of tables of version 5
+
+-- the place that an entry tells is the one that a reader finds by its number
+pub record EntriesAreOne : Type 0 where
+  pub found : (e : Encoding) (section : Reading) (base number place : ℕ) → entry_at section.is_big e (left section) base number ≡ Some place → FindsList (word_of e.format) base number section place
+  pub told : (e : Encoding) (section : Reading) (base number place : ℕ) → FindsList (word_of e.format) base number section place → entry_at section.is_big e (left section) base number ≡ Some place
+
 -- Written tables
 
 module _ {A : Type 0} (loc : Bool) (grammar : Bool → Encoding → Parser (Option A)) (view : Bool → Item → A) where
-  -- the list of a number is found in a section, by its entry in version 5, and its items are read up to the close
+  -- a reader finds the list of a number in a section, by its entry in version 5, and reads its items up to the close
   pub record IsReadBack (e : Encoding) (place : ℕ → Option ℕ) (info : Info) (big : Bool) (l : Layout) (section : List ℕ) (at : Offsets) (number : ℕ) (ps : List Part) : Type 0 where
     pub place_of : ℕ
     pub answered : slice_get at.places number ≡ Some place_of
-    pub entry : (base : ℕ) → at.base ≡ Some base → entry_at big e section base number ≡ Some place_of
+    pub entry : (base : ℕ) → at.base ≡ Some base → FindsList (word_of e.format) base number (whole section big) place_of
     pub items : List Item
     pub built : parts_in (is_five e) e place info big l ps ≡ Some items
     pub behind : List ℕ

@@ -1,5 +1,6 @@
 //! That the definition of written lists and that of items that are read are one.
 
+ghost use Rattle.dw_lists_read_back.specs.Laws.{EntriesAreOne};
 ghost use Rattle.dw_lists_read_back.specs.Laws.{LocationItemsAreOne, LocationListsAreOne};
 ghost use Rattle.dw_lists_read_back.specs.Laws.{LocationTablesAreReadBack};
 ghost use Rattle.dw_lists_read_back.specs.Laws.{RangeItemsAreOne, RangeListsAreOne};
@@ -22,4 +23,12 @@ pub fn location_lists_are_one()
     ensures item { LocationItemsAreOne }
     ensures list { LocationListsAreOne }
     ensures table { LocationTablesAreReadBack }
+{}
+
+/// A theorem of the entries that tables of lists have in version 5 (DWARF 5, 7.28 and 7.29): the
+/// place that the entry of a number tells is the one that `UnitRef::ranges_offset` or
+/// `UnitRef::locations_offset` of `dw_read_units` finds by it, from the same base. The function
+/// does nothing.
+pub fn list_entries_are_one()
+    ensures { EntriesAreOne }
 {}

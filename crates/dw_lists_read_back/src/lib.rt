@@ -8,5 +8,5 @@
 mod laws;
 mod read_lists;
 
-pub use laws::{location_lists_are_one, range_lists_are_one};
+pub use laws::{list_entries_are_one, location_lists_are_one, range_lists_are_one};
 pub use read_lists::{all_locations, all_ranges};
