@@ -7,6 +7,8 @@
 
 mod laws;
 mod read_lists;
+#[cfg(test)]
+mod tests;
 
 pub use laws::{list_entries_are_one, location_lists_are_one, range_lists_are_one};
 pub use read_lists::{all_locations, all_ranges};
