@@ -1,0 +1,6 @@
+mod OperandReading
+mod InstructionReading
+mod AdvanceReading
+mod ProgramReading
+mod PointerReading
+mod HeadReading

@@ -1,0 +1,4 @@
+pub mod Instructions
+pub mod Programs
+pub mod Pointers
+pub mod Heads

@@ -1,0 +1,14 @@
+//! What the writer of call frames writes, the reader of call frames reads back: laws between what
+//! the two are defined to write and to read (DWARF 5, 6.4). Each function here does nothing; its
+//! clauses are the laws.
+#![tactic(auto)]
+
+mod heads;
+mod instructions;
+mod pointers;
+mod programs;
+
+pub use heads::owners_are_one;
+pub use instructions::{advance_reads_back, instruction_reads_back};
+pub use pointers::pointers_are_one;
+pub use programs::{first_instructions_read_back, programs_read_back};
