@@ -4,3 +4,7 @@ mod AdvanceReading
 mod ProgramReading
 mod PointerReading
 mod HeadReading
+mod Widths
+mod AugmentationReading
+mod CieReading
+mod FdeReading

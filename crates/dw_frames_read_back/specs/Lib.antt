@@ -2,3 +2,4 @@ pub mod Instructions
 pub mod Programs
 pub mod Pointers
 pub mod Heads
+pub mod Entries

@@ -3,11 +3,13 @@
 //! clauses are the laws.
 #![tactic(auto)]
 
+mod entries;
 mod heads;
 mod instructions;
 mod pointers;
 mod programs;
 
+pub use entries::{cies_read_back, fdes_read_back};
 pub use heads::owners_are_one;
 pub use instructions::{advance_reads_back, instruction_reads_back};
 pub use pointers::pointers_are_one;
