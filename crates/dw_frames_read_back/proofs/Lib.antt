@@ -8,3 +8,4 @@ mod Widths
 mod AugmentationReading
 mod CieReading
 mod FdeReading
+mod SectionReading

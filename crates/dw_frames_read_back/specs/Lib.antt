@@ -3,3 +3,4 @@ pub mod Programs
 pub mod Pointers
 pub mod Heads
 pub mod Entries
+pub mod Sections

@@ -8,9 +8,11 @@ mod heads;
 mod instructions;
 mod pointers;
 mod programs;
+mod sections;
 
 pub use entries::{cies_read_back, fdes_read_back};
 pub use heads::owners_are_one;
 pub use instructions::{advance_reads_back, instruction_reads_back};
 pub use pointers::pointers_are_one;
 pub use programs::{first_instructions_read_back, programs_read_back};
+pub use sections::sections_read_back;

@@ -1,0 +1,43 @@
+-- Whole sections of call frames that are written, and what they are read as (DWARF 5, 6.4.1).
+use Rattle.std.specs.Prelude.{◌≡◌, ℕ, ◌+◌, ◌^◌, ◌<◌, Bool, List, [], ◌∷◌, ◌++◌, length, Option, Some, None, slice_get}
+use Rattle.dw_base.specs.declared.ids.CieId.{CieId}
+use Rattle.dw_frame.specs.declared.cie.CommonInformationEntry.{CommonInformationEntry}
+use Rattle.dw_frame.specs.declared.fde.FrameDescriptionEntry.{FrameDescriptionEntry}
+use Rattle.dw_frame.specs.declared.kind.FrameKind.{FrameKind}
+use Rattle.dw_frame.specs.ReadCies.{place_of}
+use Rattle.dw_frame.specs.Reading.{at_zero, AreTold}
+use Rattle.dw_frame.specs.Tables.{Places, no_places, with_place, place_at, frames_part}
+use Rattle.dw_frames_read_back.specs.Entries.{KnowsSize, ReadsCieBack, ReadsFdeBack}
+
+-- these bytes are read as a CIE that has no place yet; where it has one, there are none
+abbrev pub IsNewCieBack : FrameKind → Bool → ℕ → CommonInformationEntry → Option ℕ → ℕ → List ℕ → Type 0
+IsNewCieBack kind big size c None at bytes = ReadsCieBack kind big c size at bytes
+IsNewCieBack kind big size c (Some p) at bytes = bytes ≡ []
+
+-- Bytes at a place begin with an FDE of a table, right behind the CIE that it was built with where that has no place yet. It is read
+-- as the FDE, and leads to the place of that CIE.
+pub record ReadsFrameBack (kind : FrameKind) (big : Bool) (size : ℕ) (cies : List CommonInformationEntry) (places : Places) (x : CieId × FrameDescriptionEntry) (at : ℕ) (bytes rest : List ℕ) : Type 0 where
+  pub cie : CommonInformationEntry
+  pub built : slice_get cies x.0.0 ≡ Some cie
+  pub common : List ℕ
+  pub own : List ℕ
+  pub whole : bytes ≡ common ++ (own ++ rest)
+  pub new : IsNewCieBack kind big size cie (places x.0.0) at common
+  pub fde : ReadsFdeBack kind big cie x.1 (place_at (places x.0.0) at) (at + length common) own
+
+-- bytes at a place are the FDEs of a table, where some CIEs have places already, and nothing else
+module _ (kind : FrameKind) (big : Bool) (size : ℕ) (cies : List CommonInformationEntry) where
+  abbrev pub ReadsFramesBack : Places → List (CieId × FrameDescriptionEntry) → ℕ → List ℕ → Type 0
+  ReadsFramesBack places [] at bytes = bytes ≡ []
+  ReadsFramesBack places (x ∷ xs) at bytes =
+      (rest : List ℕ) × ReadsFrameBack kind big size cies places x at bytes rest × ReadsFramesBack (with_place x.0.0 (place_at (places x.0.0) at) places) xs (place_of at bytes rest) rest
+
+-- what a reader knows of the CIEs of a table, whose columns have the width of their type
+abbrev pub AreKnown : ℕ → List CommonInformationEntry → Type 0
+AreKnown size cies = (i : ℕ) (c : CommonInformationEntry) → slice_get cies i ≡ Some c → KnowsSize size c × (c.return_address_register.0 < 2 ^ 16)
+
+-- a section that is written is read to its last byte as the entries of its table, in their order
+abbrev pub SectionReadsBack : FrameKind → List CommonInformationEntry → List (CieId × FrameDescriptionEntry) → Type 0
+SectionReadsBack kind cies fdes =
+    (big : Bool) (size : ℕ) (bytes : List ℕ) → AreTold kind cies no_places fdes 0 → AreKnown size cies → (frames_part kind cies fdes 0).piece.text big at_zero ≡ Some bytes →
+    ReadsFramesBack kind big size cies no_places fdes 0 bytes
