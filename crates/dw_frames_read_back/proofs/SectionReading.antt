@@ -14,8 +14,10 @@ use Rattle.dw_frame.specs.Tables.{Places, no_places, with_place, place_at, new_c
 use Rattle.dw_frame.proofs.TableReading.{some_cie}
 use Rattle.dw_frame.proofs.TableSteps.{place_before, before_more, none_before}
 use Rattle.dw_frame.proofs.TextParts.{IsText, turned, turn_size}
+use Rattle.dw_read_frames.specs.Entries.{Entry, Cie, Fde}
+use Rattle.dw_frames_read_back.specs.Heads.{is_eh}
 use Rattle.dw_frames_read_back.specs.Entries.{KnowsSize, ReadsFdeBack}
-use Rattle.dw_frames_read_back.specs.Sections.{IsNewCieBack, ReadsFrameBack, ReadsFramesBack, AreKnown, SectionReadsBack}
+use Rattle.dw_frames_read_back.specs.Sections.{IsNewCieBack, ReadsFrameBack, ReadsFramesBack, AreKnown, SectionReadsBack, ReadsEntries, SectionIsWalked}
 use Rattle.dw_frames_read_back.proofs.CieReading.{cie_back}
 use Rattle.dw_frames_read_back.proofs.FdeReading.{fde_back}
 
@@ -65,3 +67,34 @@ module _ (kind : FrameKind) (big : Bool) (target : ℕ) (cies : List CommonInfor
 
 pub section_back : (kind : FrameKind) (cies : List CommonInformationEntry) (fdes : List (CieId × FrameDescriptionEntry)) → SectionReadsBack kind cies fdes
 section_back kind cies fdes big size bytes told known text = frames_back kind big size cies known fdes no_places 0 bytes (none_before 0) told text
+
+module _ (kind : FrameKind) (big : Bool) (size : ℕ) (cies : List CommonInformationEntry) where
+  abbrev Walked : ℕ → List ℕ → Type 0
+  Walked at bytes = (entries : List Entry) × ReadsEntries (is_eh kind) big size at entries bytes
+
+  -- an FDE, and a CIE before it where that has no place yet
+  walk_own : (c : CommonInformationEntry) (f : FrameDescriptionEntry) (cie at : ℕ) (own rest : List ℕ) → ReadsFdeBack kind big c f cie at own → Walked (at + length own) rest → Walked at (own ++ rest)
+  walk_own c f cie at own rest b more =
+      let there : place_of at (own ++ rest) rest ≡ at + length own = omega (arith, length-append own rest) in
+      (Fde c.encoding.format cie b.body ∷ more.0, (rest, b.entry size rest, subst (λ n. ReadsEntries (is_eh kind) big size n more.0 rest) (sym there) more.1))
+
+  walk_new : (c : CommonInformationEntry) (place : Option ℕ) (at : ℕ) (common rest : List ℕ) → IsNewCieBack kind big size c place at common → Walked (at + length common) rest → Walked at (common ++ rest)
+  walk_new c None at common rest b more =
+      let there : place_of at (common ++ rest) rest ≡ at + length common = omega (arith, length-append common rest) in
+      (Cie b.fields b.instructions ∷ more.0, (rest, b.read rest, subst (λ n. ReadsEntries (is_eh kind) big size n more.0 rest) (sym there) more.1))
+  walk_new c (Some p) at common rest none more =
+      let here : Walked (at + 0) rest = subst (λ ys. Walked (at + length ys) rest) none more in
+      subst (λ ys. Walked at (ys ++ rest)) (sym none) (subst (λ n. Walked n rest) (omega arith) here)
+
+  walk : (fdes : List (CieId × FrameDescriptionEntry)) (places : Places) (at : ℕ) (bytes : List ℕ) → ReadsFramesBack kind big size cies places fdes at bytes → Walked at bytes
+  walk [] places at bytes h = ([], h)
+  walk (x ∷ xs) places at bytes h =
+      let rest = h.0 in
+      let f = h.1 in
+      let more = walk xs (with_place x.0.0 (place_at (places x.0.0) at) places) (place_of at bytes rest) rest h.2 in
+      let there : place_of at bytes rest ≡ at + length f.common + length f.own = omega (arith, ap length f.whole, length-append f.common (f.own ++ rest), length-append f.own rest) in
+      let own = walk_own f.cie x.1 (place_at (places x.0.0) at) (at + length f.common) f.own rest f.fde (subst (λ n. Walked n rest) there more) in
+      subst (Walked at) (sym f.whole) (walk_new f.cie (places x.0.0) at f.common (f.own ++ rest) f.new own)
+
+pub section_walked : (kind : FrameKind) (cies : List CommonInformationEntry) (fdes : List (CieId × FrameDescriptionEntry)) → SectionIsWalked kind cies fdes
+section_walked kind cies fdes big size bytes told known text = walk kind big size cies fdes no_places 0 bytes (section_back kind cies fdes big size bytes told known text)

@@ -7,6 +7,8 @@ use Rattle.dw_frame.specs.declared.kind.FrameKind.{FrameKind}
 use Rattle.dw_frame.specs.ReadCies.{place_of}
 use Rattle.dw_frame.specs.Reading.{at_zero, AreTold}
 use Rattle.dw_frame.specs.Tables.{Places, no_places, with_place, place_at, frames_part}
+use Rattle.dw_read_frames.specs.Entries.{Entry, entry_at}
+use Rattle.dw_frames_read_back.specs.Heads.{is_eh}
 use Rattle.dw_frames_read_back.specs.Entries.{KnowsSize, ReadsCieBack, ReadsFdeBack}
 
 -- these bytes are read as a CIE that has no place yet; where it has one, there are none
@@ -41,3 +43,15 @@ abbrev pub SectionReadsBack : FrameKind → List CommonInformationEntry → List
 SectionReadsBack kind cies fdes =
     (big : Bool) (size : ℕ) (bytes : List ℕ) → AreTold kind cies no_places fdes 0 → AreKnown size cies → (frames_part kind cies fdes 0).piece.text big at_zero ≡ Some bytes →
     ReadsFramesBack kind big size cies no_places fdes 0 bytes
+
+-- the reader's entries stand one right behind another from a place on, and the last ends with the bytes
+module _ (eh big : Bool) (size : ℕ) where
+  abbrev pub ReadsEntries : ℕ → List Entry → List ℕ → Type 0
+  ReadsEntries at [] bytes = bytes ≡ []
+  ReadsEntries at (x ∷ xs) bytes = (rest : List ℕ) × (entry_at eh big size at bytes ≡ Some (Some x, rest)) × ReadsEntries (place_of at bytes rest) xs rest
+
+-- a reader that goes from entry to entry comes to the end of a section that is written
+abbrev pub SectionIsWalked : FrameKind → List CommonInformationEntry → List (CieId × FrameDescriptionEntry) → Type 0
+SectionIsWalked kind cies fdes =
+    (big : Bool) (size : ℕ) (bytes : List ℕ) → AreTold kind cies no_places fdes 0 → AreKnown size cies → (frames_part kind cies fdes 0).piece.text big at_zero ≡ Some bytes →
+    (entries : List Entry) × ReadsEntries (is_eh kind) big size 0 entries bytes

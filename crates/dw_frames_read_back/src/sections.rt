@@ -5,12 +5,15 @@ ghost use Rattle.dw_base.specs.declared.ids.CieId.{CieId};
 ghost use Rattle.dw_frame.specs.declared.cie.CommonInformationEntry.{CommonInformationEntry};
 ghost use Rattle.dw_frame.specs.declared.fde.FrameDescriptionEntry.{FrameDescriptionEntry};
 ghost use Rattle.dw_frame.specs.declared.kind.FrameKind.{FrameKind};
-ghost use Rattle.dw_frames_read_back.specs.Sections.{SectionReadsBack};
+ghost use Rattle.dw_frames_read_back.specs.Sections.{SectionIsWalked, SectionReadsBack};
 
-/// A section that holds a table and nothing else is read by the reader's grammar to its last byte as
-/// the entries of the table, one right behind another: each function's entry leads to the place
+/// A section that holds a table and nothing else is read by the reader's grammar to its last byte
+/// as the entries of the table, one right behind another: each function's entry leads to the place
 /// where its common one was read, and is read by the fields of that.
 pub fn sections_read_back()
-    ensures { (kind : FrameKind) → (cies : List CommonInformationEntry) →
+    ensures frames { (kind : FrameKind) → (cies : List CommonInformationEntry) →
         (fdes : List (CieId × FrameDescriptionEntry)) → SectionReadsBack kind cies fdes }
+    // A reader that goes from entry to entry comes to its end.
+    ensures walked { (kind : FrameKind) → (cies : List CommonInformationEntry) →
+        (fdes : List (CieId × FrameDescriptionEntry)) → SectionIsWalked kind cies fdes }
 {}

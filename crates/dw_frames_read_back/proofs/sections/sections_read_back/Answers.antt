@@ -1,5 +1,8 @@
-use Rattle.dw_frames_read_back.proofs.SectionReading.{section_back}
+use Rattle.dw_frames_read_back.proofs.SectionReading.{section_back, section_walked}
 use Rattle.dw_frames_read_back.proofs.sections.sections_read_back.Goals as goal
 
-pub returns : goal.returns
-returns c = section_back
+pub returns-clause-frames : goal.returns-clause-frames
+returns-clause-frames c = section_back
+
+pub returns-clause-walked : goal.returns-clause-walked
+returns-clause-walked c = section_walked
