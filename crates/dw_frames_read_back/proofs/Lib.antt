@@ -9,3 +9,4 @@ mod AugmentationReading
 mod CieReading
 mod FdeReading
 mod SectionReading
+mod SectionFinding

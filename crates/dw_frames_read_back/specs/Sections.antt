@@ -1,5 +1,5 @@
 -- Whole sections of call frames that are written, and what they are read as (DWARF 5, 6.4.1).
-use Rattle.std.specs.Prelude.{◌≡◌, ℕ, ◌+◌, ◌^◌, ◌<◌, Bool, List, [], ◌∷◌, ◌++◌, length, Option, Some, None, slice_get}
+use Rattle.std.specs.Prelude.{◌≡◌, ℕ, ◌+◌, ◌^◌, ◌<◌, Bool, All, List, [], ◌∷◌, ◌++◌, length, Option, Some, None, Ok, slice_get}
 use Rattle.dw_base.specs.declared.ids.CieId.{CieId}
 use Rattle.dw_frame.specs.declared.cie.CommonInformationEntry.{CommonInformationEntry}
 use Rattle.dw_frame.specs.declared.fde.FrameDescriptionEntry.{FrameDescriptionEntry}
@@ -7,9 +7,10 @@ use Rattle.dw_frame.specs.declared.kind.FrameKind.{FrameKind}
 use Rattle.dw_frame.specs.ReadCies.{place_of}
 use Rattle.dw_frame.specs.Reading.{at_zero, AreTold}
 use Rattle.dw_frame.specs.Tables.{Places, no_places, with_place, place_at, frames_part}
-use Rattle.dw_read_frames.specs.Entries.{Entry, entry_at}
+use Rattle.dw_read_frames.specs.Entries.{Entry, entry_at, cie_at_read}
+use Rattle.dw_read_frames.specs.declared.cie.CieFields.{CieFields}
 use Rattle.dw_frames_read_back.specs.Heads.{is_eh}
-use Rattle.dw_frames_read_back.specs.Entries.{KnowsSize, ReadsCieBack, ReadsFdeBack}
+use Rattle.dw_frames_read_back.specs.Entries.{AreFields, KnowsSize, ReadsCieBack, ReadsFdeBack}
 
 -- these bytes are read as a CIE that has no place yet; where it has one, there are none
 abbrev pub IsNewCieBack : FrameKind → Bool → ℕ → CommonInformationEntry → Option ℕ → ℕ → List ℕ → Type 0
@@ -55,3 +56,25 @@ abbrev pub SectionIsWalked : FrameKind → List CommonInformationEntry → List 
 SectionIsWalked kind cies fdes =
     (big : Bool) (size : ℕ) (bytes : List ℕ) → AreTold kind cies no_places fdes 0 → AreKnown size cies → (frames_part kind cies fdes 0).piece.text big at_zero ≡ Some bytes →
     (entries : List Entry) × ReadsEntries (is_eh kind) big size 0 entries bytes
+
+-- An FDE of a table is read at some place of a section, and leads to where a reader of the section finds the CIE that it was built
+-- with.
+pub record FindsFrame (kind : FrameKind) (big : Bool) (size : ℕ) (cies : List CommonInformationEntry) (bytes : List ℕ) (x : CieId × FrameDescriptionEntry) : Type 0 where
+  pub cie : CommonInformationEntry
+  pub built : slice_get cies x.0.0 ≡ Some cie
+  pub cie_at : ℕ
+  pub fields : CieFields
+  pub instructions : List ℕ
+  pub found : cie_at_read (is_eh kind) big size 0 cie_at bytes ≡ Ok (fields, instructions)
+  pub are : AreFields cie fields
+  pub before : List ℕ
+  pub own : List ℕ
+  pub rest : List ℕ
+  pub whole : bytes ≡ before ++ (own ++ rest)
+  pub fde : ReadsFdeBack kind big cie x.1 cie_at (length before) own
+
+-- so is each FDE of a section that is written
+abbrev pub SectionFindsAll : FrameKind → List CommonInformationEntry → List (CieId × FrameDescriptionEntry) → Type 0
+SectionFindsAll kind cies fdes =
+    (big : Bool) (size : ℕ) (bytes : List ℕ) → AreTold kind cies no_places fdes 0 → AreKnown size cies → (frames_part kind cies fdes 0).piece.text big at_zero ≡ Some bytes →
+    All (FindsFrame kind big size cies bytes) fdes

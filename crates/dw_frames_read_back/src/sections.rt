@@ -5,7 +5,7 @@ ghost use Rattle.dw_base.specs.declared.ids.CieId.{CieId};
 ghost use Rattle.dw_frame.specs.declared.cie.CommonInformationEntry.{CommonInformationEntry};
 ghost use Rattle.dw_frame.specs.declared.fde.FrameDescriptionEntry.{FrameDescriptionEntry};
 ghost use Rattle.dw_frame.specs.declared.kind.FrameKind.{FrameKind};
-ghost use Rattle.dw_frames_read_back.specs.Sections.{SectionIsWalked, SectionReadsBack};
+ghost use Rattle.dw_frames_read_back.specs.Sections.{SectionFindsAll, SectionIsWalked, SectionReadsBack};
 
 /// A section that holds a table and nothing else is read by the reader's grammar to its last byte
 /// as the entries of the table, one right behind another: each function's entry leads to the place
@@ -16,4 +16,7 @@ pub fn sections_read_back()
     // A reader that goes from entry to entry comes to its end.
     ensures walked { (kind : FrameKind) → (cies : List CommonInformationEntry) →
         (fdes : List (CieId × FrameDescriptionEntry)) → SectionIsWalked kind cies fdes }
+    // At the place that an FDE leads to, it finds the CIE.
+    ensures found { (kind : FrameKind) → (cies : List CommonInformationEntry) →
+        (fdes : List (CieId × FrameDescriptionEntry)) → SectionFindsAll kind cies fdes }
 {}
