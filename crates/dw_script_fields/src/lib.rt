@@ -1,4 +1,4 @@
-//! The fields of a build script's lines, from any bytes at all to values: numbers, addresses, names,
+//! The fields of a build script's lines, from any bytes to values: numbers, addresses, names,
 //! expressions, values of attributes and items of lists. What each means is said in `specs/`.
 #![tactic(auto)]
 
