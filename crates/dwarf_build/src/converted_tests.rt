@@ -60,6 +60,11 @@ fn push_section(text: &mut String, name: &str, digits: &str) -> Result<(), Alloc
     text.push('\n')
 }
 
+/// Whether two listings have the same `.debug_info`.
+fn have_same_units(printed: &str, read: &str) -> bool {
+    told_of(printed, ".debug_info").unwrap_or("") == told_of(read, ".debug_info").unwrap_or("")
+}
+
 /// Only at their ends units end.
 #[test]
 fn refuses_units_that_end_early(rt: HostRuntime) -> Result<(), Fail> {
@@ -67,9 +72,8 @@ fn refuses_units_that_end_early(rt: HostRuntime) -> Result<(), Fail> {
         let listing = cut(rt.alloc(), ".debug_info", size)?;
         let (status, text) = run_over(rt.alloc(), "convert", listing.as_bytes())?;
         if matches!(size, 0 | 88 | 111) {
-            let told = told_of(text.as_str(), ".debug_info").unwrap_or("");
-            let read = told_of(listing.as_str(), ".debug_info").unwrap_or("");
-            assert_eq!(rt; (size, status, told), (size, 0, read));
+            assert_eq!(rt; (size, status), (size, 0));
+            assert!(rt; have_same_units(text.as_str(), listing.as_str()), "{size}");
         } else {
             assert_eq!(rt;
                 (size, status, text.as_str()),
@@ -161,8 +165,9 @@ fn converts_a_long_chain(rt: HostRuntime) -> Result<(), Fail> {
 #[test]
 fn converts_a_long_circle(rt: HostRuntime) -> Result<(), Fail> {
     let mut info = String::from_str(rt.alloc(), "0007a12a000501080000000001")?;
-    for number in 1..100_000 {
-        let place = 13 + 5 * number;
+    let mut place = 13_u32;
+    for _ in 1..100_000 {
+        place = place.wrapping_add(5);
         write!(info, "02{place:08x}")?;
     }
     info.push_str("020000000d00")?;
