@@ -5,12 +5,4 @@
 #[cfg(test)]
 mod file_tests;
 #[cfg(test)]
-mod operation_tests;
-#[cfg(test)]
-mod round;
-#[cfg(test)]
 mod tests;
-#[cfg(test)]
-mod unit_tests;
-#[cfg(test)]
-mod value_tests;
