@@ -14,7 +14,10 @@ mod Growing
 mod Planning
 mod Passing
 mod Walking
+mod Cursor
 mod Worked
 pub mod Ready
 mod Rooted
+mod Readability
+mod SectionSteps
 mod UnitSteps

@@ -6,7 +6,7 @@ use Rattle.std.proofs.lemmas.List.{append-nil}
 use Rattle.dw_base.specs.Entries.{ReadEntry, Mark, Open, Null, Row}
 use Rattle.dw_entry_ids.specs.Ids.{is_entry, entry_count, later_or}
 use Rattle.dw_entry_ids.proofs.Steps.{later_later}
-use Rattle.dw_dwarf.specs.Plans.{Plan, counted, last_at, last_or_root, or_root, parent_behind, plan_of, plans_behind, plans_of}
+use Rattle.dw_dwarf.specs.Plans.{Plan, counted, last_at, last_or_root, opened, or_root, parent_behind, plan_of, plans_behind, plans_of}
 
 later_none : {A : Type 0} (o : Option A) → later_or o None ≡ o
 later_none None = refl
@@ -63,11 +63,7 @@ parent_below front (suc depth) = go (last_at depth 0 front) (last_before depth 0
     go None h = inl refl
     go (Some m) h = inr (omega (arith, h))
 
--- ---- the open lists of children, outermost first
-abbrev pub opened : List Row → ℕ → List ℕ
-opened front zero = []
-opened front (suc depth) = opened front depth ++ or_root (last_at depth 0 front) ∷ []
-
+-- ---- the open lists of children
 last_behind : (xs : List ℕ) (n : ℕ) → last_or_root (xs ++ n ∷ []) ≡ n
 last_behind [] n = refl
 last_behind (x ∷ []) n = refl

@@ -35,10 +35,10 @@ use Rattle.dw_convert.specs.AttributeLists.{AreConverted, RefusesAttribute}
 use Rattle.dw_convert.specs.Tables.{Tables}
 use Rattle.dw_dwarf.proofs.Growing.{AreNumbered, AreBelow, unconverted_from, numbered_more, below_more, grown as entries_grown, grown_count, length-built}
 use Rattle.dw_dwarf.proofs.Passing.{attributes_seen, tag_passes}
-use Rattle.dw_dwarf.proofs.Planning.{opened, under_last, opened_above, opened_entry, opened_null, parent_below, plans_one, plans_none, plans_around, count_more}
+use Rattle.dw_dwarf.proofs.Planning.{under_last, opened_above, opened_entry, opened_null, parent_below, plans_one, plans_none, plans_around, count_more}
 use Rattle.dw_dwarf.specs.ConvertedEntries.{Values, built_entries, seen_in, EntryConverts, EntriesConvert}
 use Rattle.dw_dwarf.specs.Placed.{unconverted, with_converted}
-use Rattle.dw_dwarf.specs.Plans.{Plan, last_at, last_or_root, or_root, parent_behind, plans_of, plans_behind}
+use Rattle.dw_dwarf.specs.Plans.{Plan, last_at, last_or_root, opened, or_root, parent_behind, plans_of, plans_behind}
 use Rattle.dw_dwarf.specs.ConvertSteps.{CanConvert, BecomesEntry, ConvertsEntries, RefusesEntry}
 
 -- ---- lists
@@ -85,7 +85,7 @@ pub numbers_more : (b : Bool) (xs ys : List UnitEntryId) (i : UnitEntryId) (n : 
 numbers_more true xs ys i n e h = ap numbers_of h ∙ map-append (λ (j : UnitEntryId). j.0) xs (i ∷ []) ∙ ap (λ (k : ℕ). numbers_of xs ++ k ∷ []) e
 numbers_more false xs ys i n e h = ap numbers_of h
 
-closed : (front : List Row) (lists n : ℕ) (xs ys : List UnitEntryId) → numbers_of xs ≡ opened front lists → n ≡ length xs → ys ≡ take (n - 1) xs → numbers_of ys ≡ opened front (lists - 1)
+pub closed : (front : List Row) (lists n : ℕ) (xs ys : List UnitEntryId) → numbers_of xs ≡ opened front lists → n ≡ length xs → ys ≡ take (n - 1) xs → numbers_of ys ≡ opened front (lists - 1)
 closed front lists n xs ys h l e =
     ap numbers_of e ∙ sym (take-map (λ (i : UnitEntryId). i.0) (n - 1) xs) ∙ ap (take (n - 1)) h ∙ go lists (l ∙ sym (length-map xs (λ (i : UnitEntryId). i.0)) ∙ ap length h)
   where
@@ -109,9 +109,17 @@ pub last_is : (o : Option UnitEntryId) (xs : List UnitEntryId) (d : UnitEntryId)
 last_is o xs d e z = ap (λ (p : Option UnitEntryId). (unwrap_or p d).0) e ∙ last_at_end xs d z
 
 -- as deep as lists are counted
-deeper_more : (b : Bool) (n : ℕ) → n + 1 < 2 ^ 64 → deeper b n ≡ (if b then suc n else n)
+pub deeper_more : (b : Bool) (n : ℕ) → n + 1 < 2 ^ 64 → deeper b n ≡ (if b then suc n else n)
 deeper_more true n l = let e : min (n + 1) (2 ^ 64 - 1) ≡ suc n = omega arith in e
 deeper_more false n l = refl
+
+-- a row takes a byte at least
+pub further : {R E : Type 0} (reading : R → Reading) (now next : EntriesRaw R E) (mark : Mark ReadEntry) → IsReading (reading now.input) → IsReading (reading next.input) → PassesRow reading now next mark → (reading now.input).place < (reading next.input).place
+further reading now next mark i j s =
+    let passed : length (left (reading next.input)) + s.took.count ≡ length (left (reading now.input)) = shorter s.took.count (reading now.input) (reading next.input) i j s.took.passes in
+    let less : length (left (reading next.input)) < length (left (reading now.input)) = row_shorter reading now next mark s in
+    let place : (reading next.input).place ≡ (reading now.input).place + s.took.count = ap (λ (r : Reading). r.place) s.took.passes.is in
+    omega arith
 
 -- ---- the rows of a unit
 module _ {R E : Type 0} (reading : R → Reading) (answers : ℕ → Option Address → Type 0) (entries : ℕ → Option UnitEntryId) (infos : ℕ → Option DebugInfoRef) (u : UnitRef R E) (files : List FileId) (before : UnitValue) (old : Tables) where
@@ -226,21 +234,13 @@ module _ {R E : Type 0} (reading : R → Reading) (answers : ℕ → Option Addr
         ∙ ap (λ ls. record before { entries = unit.entries; ranges = old.ranges; locations = ls }) (sym locations);
   }
 
-  -- a row takes a byte at least
-  further : (now next : EntriesRaw R E) (mark : Mark ReadEntry) → IsReading (reading now.input) → IsReading (reading next.input) → PassesRow reading now next mark → (reading now.input).place < (reading next.input).place
-  further now next mark i j s =
-      let passed : length (left (reading next.input)) + s.took.count ≡ length (left (reading now.input)) = shorter s.took.count (reading now.input) (reading next.input) i j s.took.passes in
-      let less : length (left (reading next.input)) < length (left (reading now.input)) = row_shorter reading now next mark s in
-      let place : (reading next.input).place ≡ (reading now.input).place + s.took.count = ap (λ (r : Reading). r.place) s.took.passes.is in
-      omega arith
-
   -- a null entry closes a list of children
   pub converted_null : (now next : EntriesRaw R E) (count n : ℕ) (xs ys : List UnitEntryId) (unit : UnitValue) (t : Tables) → IsReading (reading now.input) → IsReading (reading next.input) → ConvertedHere now count (numbers_of xs) unit t → PassesRow reading now next Null → n ≡ length xs → ys ≡ take (n - 1) xs → ConvertedHere next count (numbers_of ys) unit t
   converted_null now next count n xs ys unit t i j w s l e =
       let row = row_here reading u.unit.now.header u.unit.now.abbreviations now next Null in
       let same : plans_of (w.front ++ row ∷ []) ≡ plans_of w.front = plans_one w.front row ∙ append-nil (plans_of w.front) in
       let one : entry_count (w.front ++ row ∷ []) ≡ entry_count w.front + 0 = count_one w.front row in
-      let more : (reading now.input).place < (reading next.input).place = further now next Null i j s in
+      let more : (reading now.input).place < (reading next.input).place = further reading now next Null i j s in
       let few : count ≤ (reading now.input).place = w.few in
       let counted : count ≡ entry_count w.front = w.counted in
       record {
@@ -285,7 +285,7 @@ module _ {R E : Type 0} (reading : R → Reading) (answers : ℕ → Option Addr
 
     pub can_count : count + 1 < 2 ^ 64
     can_count =
-        let more : (reading now.input).place < (reading next.input).place = further now next (Open entry) i j s in
+        let more : (reading now.input).place < (reading next.input).place = further reading now next (Open entry) i j s in
         let few : count ≤ (reading now.input).place = w.few in
         let place : (reading next.input).place ≤ (reading next.input).end = j.place in
         let small : (reading next.input).end < 2 ^ 64 = j.small in
@@ -347,7 +347,7 @@ module _ {R E : Type 0} (reading : R → Reading) (answers : ℕ → Option Addr
 
       parents_next : (ys : List ℕ) → ys ≡ (if entry.has_children then parents ++ count ∷ [] else parents) → ys ≡ opened (w.front ++ row ∷ []) next.open_lists
       parents_next ys e =
-          let more : (reading now.input).place < (reading next.input).place = further now next (Open entry) i j s in
+          let more : (reading now.input).place < (reading next.input).place = further reading now next (Open entry) i j s in
           let place : (reading next.input).place ≤ (reading next.input).end = j.place in
           let small : (reading next.input).end < 2 ^ 64 = j.small in
           let deep : now.open_lists ≤ (reading now.input).place = w.walked.deep in
@@ -363,7 +363,7 @@ module _ {R E : Type 0} (reading : R → Reading) (answers : ℕ → Option Addr
           let b = subst (λ (n : ℕ). BecomesEntry reading answers entries infos u files attributes (record { number = n; parent = parent; entry = entry }) unit t after end) same begun in
           let n : ℕ = before.reserved in
           let plans : List Plan = plans_of w.front in
-          let more : (reading now.input).place < (reading next.input).place = further now next (Open entry) i j s in
+          let more : (reading now.input).place < (reading next.input).place = further reading now next (Open entry) i j s in
           let few : count ≤ (reading now.input).place = w.few in
           let counted : count ≡ entry_count w.front = w.counted in
           let one : entry_count (w.front ++ row ∷ []) ≡ entry_count w.front + 1 = one_more in

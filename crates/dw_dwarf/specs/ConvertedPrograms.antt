@@ -17,15 +17,15 @@ use Rattle.dw_convert_lines.specs.EntryNames.{Tables}
 use Rattle.dw_convert_lines.specs.ReadPrograms.{LinesOutcome}
 use Rattle.dw_convert_lines.specs.Views.{texts_of}
 
-module _ {R E : Type 0} (reading : R → Reading) (answers : ℕ → Option Address → Type 0) (u : UnitRef R E) where
-  -- the header that stands at a place, or the reason why none does
-  abbrev pub header_at : DebugLineOffset → Result ReadLines ReadError
-  header_at offset = lines_at_place (reading u.dwarf.now.debug_line).is_big u.unit.now.header.fields.encoding.address_size offset.0 (left (reading u.dwarf.now.debug_line))
+-- the header that stands at a place, or the reason why none does
+abbrev pub header_at : {R E : Type 0} → (R → Reading) → UnitRef R E → DebugLineOffset → Result ReadLines ReadError
+header_at reading u offset = lines_at_place (reading u.dwarf.now.debug_line).is_big u.unit.now.header.fields.encoding.address_size offset.0 (left (reading u.dwarf.now.debug_line))
 
+module _ {R E : Type 0} (reading : R → Reading) (answers : ℕ → Option Address → Type 0) (u : UnitRef R E) where
   -- the program at a place, as it is converted in its own encoding and with its own parameters
   pub record ProgramBecomes (offset : DebugLineOffset) (old : Tables) (r : Result (Converting FileId) ConvertError) : Type 0 where
     pub program : IncompleteLineProgram R E
-    pub stands : header_at offset ≡ Ok (lines_of reading program.header)
+    pub stands : header_at reading u offset ≡ Ok (lines_of reading program.header)
     pub becomes : LinesOutcome reading answers program (texts_of reading u.dwarf.now) None None old r
 
   -- a unit without a line program has none, and no files
@@ -39,7 +39,7 @@ module _ {R E : Type 0} (reading : R → Reading) (answers : ℕ → Option Addr
   -- no header can be read at the program's place, or the program becomes nothing
   abbrev pub ProgramRefuses : Option DebugLineOffset → Tables → ConvertError → Type 0
   ProgramRefuses None old e = ⊥
-  ProgramRefuses (Some offset) old e = ((y : ReadError) × (header_at offset ≡ Err y) × (e ≡ from_read y)) ⊎ ProgramBecomes offset old (Err e)
+  ProgramRefuses (Some offset) old e = ((y : ReadError) × (header_at reading u offset ≡ Err y) × (e ≡ from_read y)) ⊎ ProgramBecomes offset old (Err e)
 
   abbrev pub RefusesProgram : Tables → ConvertError → Type 0
   RefusesProgram old e = ProgramRefuses u.unit.now.line_program old e

@@ -31,6 +31,12 @@ pub record IsRead {R E : Type 0} (reading : R → Reading) (d : Dwarf R E) (held
   pub unit : ReadUnit
   pub numbered : IsNumbered reading d held unit
 
+-- the units can't be read, for this reason
+pub record CannotRead {R E : Type 0} (reading : R → Reading) (d : Dwarf R E) (e : ConvertError) : Type 0 where
+  pub reason : ReadError
+  pub read : units_reading reading d ≡ Err reason
+  pub is : e ≡ from_read reason
+
 module _ {R E : Type 0} (reading : R → Reading) (answers : ℕ → Option Address → Type 0) (d : Dwarf R E) where
   module _ (entries : ℕ → Option UnitEntryId) (infos : ℕ → Option DebugInfoRef) (held : NumberedUnit R E) where
     -- a unit that was read becomes this one, where these are the entries that it may name
@@ -84,11 +90,5 @@ module _ {R E : Type 0} (reading : R → Reading) (answers : ℕ → Option Addr
     pub read : NumbersUnits reading d found
     pub refused : RefusesOne reading answers d found.ids (length before) found.units.items old e
 
-  -- the units can't be read, for this reason
-  pub record CannotRead (e : ConvertError) : Type 0 where
-    pub reason : ReadError
-    pub read : units_reading reading d ≡ Err reason
-    pub is : e ≡ from_read reason
-
   abbrev pub RefusesUnits : List UnitValue → Tables → ConvertError → Type 0
-  RefusesUnits before old e = CannotRead e ⊎ RefusesAny before old e
+  RefusesUnits before old e = CannotRead reading d e ⊎ RefusesAny before old e

@@ -14,3 +14,12 @@ pub mod EntryRefs
 pub mod NewUnits
 pub mod ConvertedUnits
 pub mod ConvertedDwarf
+pub mod UnitCursor
+pub mod UnitWalk
+pub mod Readable
+pub mod FoundUnits
+pub mod UnitEntries
+pub mod Converters
+pub mod UnitPrograms
+pub mod WholeUnits
+pub mod UnitSections

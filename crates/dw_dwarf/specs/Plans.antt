@@ -24,6 +24,11 @@ abbrev pub parent_behind : List Row → ℕ → ℕ
 parent_behind front zero = 0
 parent_behind front (suc depth) = or_root (last_at depth 0 front)
 
+-- the numbers of the entries whose lists of children are open at a depth behind these rows, the outermost first
+abbrev pub opened : List Row → ℕ → List ℕ
+opened front zero = []
+opened front (suc depth) = opened front depth ++ or_root (last_at depth 0 front) ∷ []
+
 -- the last of numbers, or the root's
 abbrev pub last_or_root : List ℕ → ℕ
 last_or_root [] = 0

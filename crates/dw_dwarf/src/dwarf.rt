@@ -15,13 +15,15 @@ ghost use Rattle.dw_convert_lines.specs.HeaderImages.{IsWritable};
 ghost use Rattle.dw_convert_lines.specs.ReadPrograms.{ProgramOutcome};
 ghost use Rattle.dw_convert_lines.specs.Views.{texts_of, tables, converting};
 ghost use Rattle.dw_dwarf.specs.ConvertedDwarf.{IsConverted, CannotConvert};
+ghost use Rattle.dw_dwarf.specs.ConvertedUnits.{CannotRead};
 ghost use Rattle.dw_dwarf.specs.DwarfValue.{dwarf_in};
 ghost use Rattle.dw_dwarf.specs.Left.{IsLeft};
 ghost use Rattle.dw_dwarf.specs.LineNames.{IsThere, bytes_of};
+ghost use Rattle.dw_dwarf.specs.UnitSections.{BeginsUnits};
 ghost use Rattle.dw_dwarf.specs.Valid.{AreUnwritten, IsValid, IsValidAt, DwarfRefused, extra_fails, found_in};
 ghost use Rattle.dw_dwarf.specs.Written.{AreNewPlain, AreNew, HoldsDwarf, ResolvesTo, AddsLines, AddsStrings, KeepsOthers};
 
-use crate::convert::convert_units;
+use crate::convert::{ConvertUnitSection, FoundUnits, convert_units};
 use crate::line_string::line_string_bytes;
 use crate::rest::write_rest;
 use dw_base::{Address, Encoding, LineEncoding, Result};
@@ -231,6 +233,41 @@ impl Dwarf {
             convert_address,
         )?;
         Ok(dwarf)
+    }
+
+    /// Begins to convert a file that was read unit by unit. All units of `.debug_info` are read
+    /// once, to its end, and for each a new unit is added behind those that are there: in its
+    /// encoding, with its root alone, and with an id for each of its entries, so that units may
+    /// name entries of others before those are converted.
+    ///
+    /// Refused as `Read` where a unit or one of its entries can't be read, and as `NoMemory`. After
+    /// an error some new units may have been added.
+    ///
+    /// ```
+    /// let mut section = dwarf.convert(&read)?;
+    /// let next = section.read_unit()?;
+    /// ```
+    pub fn convert<'a, R: Reader>(
+        &'a mut self,
+        dwarf: &'a ReadDwarf<R>,
+    ) -> ConvertResult<ConvertUnitSection<'a, R>>
+        ensures ok { IfOk result (BeginsUnits R.reading dwarf.now (dwarf_in self.old)) }
+        ensures same { IfOk result (λ s. s.dwarf.ghost_name ≡ self.entry.ghost_name) }
+        ensures err { IfErr result (λ e. (e ≡ refused.NoMemory)
+            ⊎ CannotRead R.reading dwarf.now e) }
+    {
+        let alloc = *self.line_programs.allocator();
+        let found = FoundUnits::read(alloc, dwarf)?;
+        let first = self.units.count();
+        found.add_new(alloc, &mut self.units)?;
+        Ok(ConvertUnitSection {
+            alloc,
+            read: dwarf,
+            found,
+            dwarf: self,
+            first,
+            next: 0,
+        })
     }
 
     /// Begins to convert a line program that was read, by its parameters, directories and files, so

@@ -8,7 +8,9 @@ mod dwarf_unit;
 mod line_string;
 mod rest;
 
-pub use convert::{convert_entries, convert_units};
+pub use convert::{
+    ConvertUnit, ConvertUnitEntry, ConvertUnitSection, convert_entries, convert_units,
+};
 pub use dw_base::{
     Address, BigEndian, DebugInfoRef, DirectoryId, DwAt, DwAte, DwForm, DwLang, DwTag, Encoding,
     Endianity, Error, FileId, Format, LineEncoding, LineStringId, LittleEndian, LocationListId,

@@ -84,14 +84,14 @@ pub fn convert_entries<R: Reader, C: ConvertDebugInfoRef, F: Fn(u64) -> Option<A
 }
 
 /// The last of the entries whose lists of children are open, or the root, which is above all.
-fn last_or_root(parents: &[UnitEntryId]) -> UnitEntryId
+pub(crate) fn last_or_root(parents: &[UnitEntryId]) -> UnitEntryId
     ensures { result.0 ≡ last_or_root (map (λ i. i.0) parents.now) }
 {
     parents.last().copied().unwrap_or(UnitEntryId::new(0))
 }
 
 /// Opens an entry's list of children behind the others, if it has one.
-fn open_list(
+pub(crate) fn open_list(
     parents: &mut Vec<UnitEntryId>,
     has_children: bool,
     id: UnitEntryId,

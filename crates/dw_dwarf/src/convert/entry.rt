@@ -154,7 +154,7 @@ fn fill(
 }
 
 /// Whether an entry names the place past its children.
-fn names_sibling<R: Reader>(entry: &DebuggingInformationEntry<R>) -> bool
+pub(crate) fn names_sibling<R: Reader>(entry: &DebuggingInformationEntry<R>) -> bool
     ensures { (code : ℕ) → result ≡ names_sibling (entry_of R.reading code entry.now) }
 {
     entry

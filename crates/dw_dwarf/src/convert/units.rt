@@ -108,7 +108,7 @@ fn convert_numbered<R: Reader, F: Fn(u64) -> Option<Address>>(
 }
 
 /// A unit of its root alone, with so many ids.
-fn new_unit(alloc: Global, encoding: Encoding, count: usize) -> ConvertResult<Unit>
+pub(crate) fn new_unit(alloc: Global, encoding: Encoding, count: usize) -> ConvertResult<Unit>
     requires { 1 ≤ count }
     ensures ok { IfOk result (λ u. u ≡ unit_with encoding count) }
     ensures err { IfErr result (λ e. e ≡ NoMemory) }

@@ -1,0 +1,58 @@
+use Rattle.std.proofs.Common.{◌≡◌, ◌∙◌, ap, subst, ◌+◌, ◌^◌, ◌<◌, List, length, Bool, true, Ok, ⊎_elim, refl, arith}
+use Rattle.dw_base.specs.declared.ids.UnitEntryId.{UnitEntryId}
+use Rattle.dw_read.specs.Reading.{left}
+use Rattle.dw_read.specs.Rows.{ReadsRow, PassesEntry}
+use Rattle.dw_read_units.proofs.RowWalk.{row_shorter}
+use Rattle.dw_sources.specs.ConvertErrors.{from_read}
+use Rattle.dw_dwarf.proofs.Cursor.{passed_none, passed_more, hands_row, hands_none, never_refused, can_number}
+use Rattle.dw_dwarf.proofs.Passing.{null_passes}
+use Rattle.dw_dwarf.proofs.Setting.{is_err}
+use Rattle.dw_dwarf.proofs.Walking.{numbers_of, numbers_more}
+use Rattle.dw_dwarf.specs.Plans.{last_or_root}
+use Rattle.dw_dwarf.specs.declared.convert.unit_rows.UnitRows.{UnitRows}
+use Rattle.dw_dwarf.proofs.convert.unit_rows.UnitRows.next.Goals as goal
+
+pub rows-init : goal.rows-init
+rows-init g c = (λ u front rest s. passed_none g.R.Reader.reading u c.args.self.now front rest s, c.if-self.false)
+
+pub returns-in_err-read_entry-clause-walks : goal.returns-in_err-read_entry-clause-walks
+returns-in_err-read_entry-clause-walks g c =
+    let reading = g.R.Reader.reading in
+    let more : length (left (reading c.rows.self.rows.input)) ≡ 0 → ⊥ = λ z. let t : c.is_empty.result ≡ true = c.is_empty.ensures.1 z in cc in
+    λ u front rest s.
+    rw (is_err _ _ c.from_residual.ensures)
+    (⊎_elim (λ n. ap from_read n) (λ r. absurd (never_refused reading u c.rows.self c.read_entry.new.self front rest _ (c.rows.invariant.0 u front rest s) more r.reason)) c.in_err-read_entry.ensures.1)
+
+pub rows-smaller : goal.rows-smaller
+rows-smaller g c =
+    let reading = g.R.Reader.reading in
+    let e = subst (λ (b : Bool). ReadsRow reading c.rows.self.rows c.read_entry.new.self c.rows.entry c.read_entry.new.entry (Ok b)) c.if-not-branch.true c.in_ok-read_entry.ensures in
+    row_shorter reading c.rows.self.rows c.read_entry.new.self _ (null_passes reading c.rows.self.rows c.read_entry.new.self e.0)
+
+pub rows-preserved : goal.rows-preserved
+rows-preserved g c =
+    let reading = g.R.Reader.reading in
+    let now = c.rows.self in
+    let next = c.read_entry.new.self in
+    let e = subst (λ (b : Bool). ReadsRow reading now.rows next c.rows.entry c.read_entry.new.entry (Ok b)) c.if-not-branch.true c.in_ok-read_entry.ensures in
+    (λ u front rest s. passed_more reading u now (record { rows = next; count = now.count; parents = c.pop.new.self; is_ended = now.is_ended }) front rest (g.met.R.Reader.is_reading now.rows.input) (g.met.R.Reader.is_reading next.input) (c.rows.invariant.0 u front rest s) now.parents.len (null_passes reading now.rows next e.0) refl refl now.parents.ok.0 c.pop.ensures.rest, c.rows.invariant.1)
+
+pub returns-in-rows-clause-walks : goal.returns-in-rows-clause-walks
+returns-in-rows-clause-walks g c =
+    let reading = g.R.Reader.reading in
+    let now = c.rows.self in
+    let next = c.read_entry.new.self in
+    let new : UnitRows _ _ = record { rows = next; count = c.saturating_add-self.result; parents = c.open_list.new.parents; is_ended = now.is_ended } in
+    let e : PassesEntry reading now.rows next c.rows.entry c.read_entry.new.entry = subst (λ (b : Bool). ReadsRow reading now.rows next c.rows.entry c.read_entry.new.entry (Ok b)) c.if-not-branch.false c.in_ok-read_entry.ensures in
+    let above = c.last_or_root-parent.ensures ∙ ap (λ (xs : List UnitEntryId). last_or_root (numbers_of xs)) c.deref.ensures.value in
+    let parents = numbers_more c.read_entry.new.entry.has_children now.parents.items c.open_list.new.parents.items c.new-id.result now.count c.new-id.ensures c.in_ok-open_list.ensures.ok in
+    λ u front rest s.
+    let w = c.rows.invariant.0 u front rest s in
+    let i = g.met.R.Reader.is_reading now.rows.input in
+    let j = g.met.R.Reader.is_reading next.input in
+    let room : now.count + 1 < 2 ^ 64 = can_number reading u now new front rest i j w c.rows.entry c.read_entry.new.entry e in
+    let count : c.saturating_add-self.result ≡ now.count + 1 = omega (arith, room, c.saturating_add-self.ensures) in
+    hands_row reading u now new front rest i j w c.rows.entry c.read_entry.new.entry c.new-id.result.0 c.last_or_root-parent.result.0 e count refl parents c.new-id.ensures above
+
+pub returns-clause-walks : goal.returns-clause-walks
+returns-clause-walks g c = λ u front rest s. hands_none g.R.Reader.reading u c.rows.self front rest (c.rows.invariant.0 u front rest s) (c.is_empty.ensures.0 c.rows-test.false)

@@ -1,0 +1,15 @@
+use Rattle.std.proofs.Common.{◌≡◌, List, length, false}
+use Rattle.dw_base.specs.Entries.{Row}
+use Rattle.dw_read.specs.Reading.{left}
+use Rattle.dw_read_units.specs.declared.dwarf.Unit.{Unit as UnitFields}
+use Rattle.dw_dwarf.specs.UnitCursor.{StandsBetween}
+use Rattle.dw_dwarf.proofs.Cursor.{PassedNulls}
+use Rattle.dw_dwarf.proofs.convert.unit_rows.UnitRows.next.Given as goal
+
+abbrev pub invariant-rows : goal.invariant-rows
+invariant-rows g l =
+    ((u : UnitFields g.row.R.Denot g.row.R-Endian.Denot) (front rest : List Row) → StandsBetween g.R.Reader.reading u l.initial.self front rest → PassedNulls g.R.Reader.reading u l.self front rest)
+    × (l.self.is_ended ≡ false)
+
+abbrev pub decreases-rows : goal.decreases-rows
+decreases-rows g l = length (left (g.R.Reader.reading l.self.rows.input))

@@ -1,0 +1,55 @@
+use Rattle.std.proofs.Common.{◌≡◌, ◌∙◌, ◌+◌, sym, ap, subst, Some, []}
+use Rattle.std.specs.Prelude.{slice_get}
+use Rattle.dw_dwarf.proofs.SectionSteps.{root_read}
+use Rattle.dw_dwarf.proofs.Setting.{is_err}
+use Rattle.dw_dwarf.specs.Converters.{held}
+use Rattle.dw_dwarf.specs.FoundUnits.{IsGiven}
+use Rattle.dw_dwarf.specs.Readable.{rows_held}
+use Rattle.dw_dwarf.specs.UnitCursor.{StandsBetween}
+use Rattle.dw_dwarf.proofs.convert.unit_section.ConvertUnitSection.read_unit.Goals as goal
+
+pub returns-in_err-read_entry : goal.returns-in_err-read_entry
+returns-in_err-read_entry g c =
+    let reading = g.R.Reader.reading in
+    let stands = subst (λ h. StandsBetween reading h.read.unit.now c.of-converter.result.rows [] (rows_held reading h.read.unit.now)) (sym c.of-converter.ensures.given) c.of-converter.ensures.rows in
+    rw (is_err _ _ c.from_residual.ensures) (c.in_err-read_entry.ensures.reads [] (rows_held reading (held c.of-converter.result)) stands)
+
+pub returns : goal.returns
+returns g c =
+    let reading = g.R.Reader.reading in
+    let s = c.args.self.now in
+    let new = c.read_entry.new.self in
+    let of = c.of-converter.ensures in
+    let held_of = c.of-converter.result.rows in
+    let p = c.in-Some.ensures in
+    let same = c.read_entry.ensures.others in
+    let given : new.given ≡ c.give-given.result = ap (λ x. x.given) same ∙ of.given in
+    let stands =
+    subst (λ a. StandsBetween reading a.read.unit.now held_of [] (rows_held reading (held new))) (sym of.given)
+    (subst (λ b. StandsBetween reading c.give-given.result.read.unit.now held_of [] (rows_held reading b.read.unit.now)) (sym given) of.rows) in
+    let root = root_read reading new c.read_entry.new.entry new.given.entries c.in_ok-read_entry.field-0 new.given.readable (c.in_ok-read_entry.ensures.reads [] (rows_held reading (held new)) stands) in
+    record {
+      left = p.1;
+      given =
+          subst (λ h. IsGiven s.found s.read.now s.next s.first h) (sym given)
+          (subst (λ n. IsGiven s.found s.read.now n s.first c.give-given.result) p.0
+          (subst (λ n. IsGiven s.found s.read.now c.in-Some.index n c.give-given.result) (c.new.ensures ∙ ap (λ x. x.first) p.3)
+          (subst (λ x. IsGiven x.found x.read.now c.in-Some.index c.new.result.0 c.give-given.result) p.3 c.give-given.ensures)));
+      read_unit = ap (λ x. x.read_unit) same ∙ of.read_unit ∙ sym (ap (λ h. h.read) given);
+      skeleton = ap (λ x. x.read_skeleton_unit) same ∙ of.skeleton;
+      id = ap (λ x. x.id.0) same ∙ ap (λ i. i.0) of.id ∙ p.2;
+      unit =
+          ap (λ x. slice_get x.dwarf.now.units (s.first + s.next)) (sym p.3)
+          ∙ ap (λ n. slice_get c.pass.new.self.dwarf.now.units n) (sym p.2)
+          ∙ c.get_mut-unit.ensures.value
+          ∙ ap (λ u. Some u) (sym (ap (λ x. x.unit.now) same ∙ of.unit_now));
+      strings = ap (λ x. x.strings.now) same ∙ of.strings_now ∙ ap (λ x. x.dwarf.now.strings) p.3;
+      line_strings = ap (λ x. x.line_strings.now) same ∙ of.line_strings_now ∙ ap (λ x. x.dwarf.now.line_strings) p.3;
+      files = ap (λ x. x.files.items) same ∙ of.files;
+      as_read = root.as_read;
+      parent = root.parent;
+      row = root.row;
+      less = root.less;
+      under = root.under;
+      root_unit = root.read_unit;
+    }

@@ -1,0 +1,56 @@
+-- Where the rows of a unit are read while it is converted.
+use Rattle.std.specs.Prelude.{◌≡◌, ℕ, ◌-◌, ◌≤◌, List, [], ◌∷◌, ◌++◌, All, length, map, Ok, false}
+use Rattle.dw_base.specs.Entries.{Row, Open}
+use Rattle.dw_base.specs.declared.ids.UnitEntryId.{UnitEntryId}
+use Rattle.dw_read.specs.Orders.{attribute_order, IsInOrder}
+use Rattle.dw_read.specs.Reading.{Reading, left}
+use Rattle.dw_read.specs.Rows.{entry_of, shown_depth}
+use Rattle.dw_read.specs.declared.entry.DebuggingInformationEntry.{DebuggingInformationEntry}
+use Rattle.dw_read_units.specs.Passes.{rows_reading}
+use Rattle.dw_read_units.specs.Walks.{rows_read}
+use Rattle.dw_read_units.specs.declared.dwarf.Unit.{Unit as UnitFields}
+use Rattle.dw_entry_ids.specs.Ids.{entry_count}
+use Rattle.dw_dwarf.specs.Plans.{opened, parent_behind}
+use Rattle.dw_dwarf.specs.declared.convert.unit_rows.UnitRows.{UnitRows}
+
+module _ {R E : Type 0} (reading : R → Reading) (u : UnitFields R E) where
+  -- A cursor stands behind some of a unit's rows, and those that are read from there are the others. It has counted the entries
+  -- among those before it, and keeps which of them have lists of children that are open.
+  pub record StandsBetween (c : UnitRows R E) (front rest : List Row) : Type 0 where
+    pub all : rows_reading reading u.header u.abbreviations ≡ Ok (front ++ rest)
+    pub fuel : ℕ
+    pub enough : length (left (reading c.rows.input)) ≤ fuel
+    pub reads : rows_read fuel (reading u.header.body).is_big u.header.fields.encoding u.abbreviations ((reading c.rows.input).place - u.header.offset.0) c.rows.open_lists (left (reading c.rows.input)) ≡ Ok rest
+    pub declarations : c.rows.abbreviations.now ≡ u.abbreviations
+    pub fields : c.rows.fields.now ≡ u.header.fields
+    pub start : c.rows.start ≡ u.header.offset.0
+    pub order : (reading c.rows.input).is_big ≡ (reading u.header.body).is_big
+    pub began : u.header.offset.0 ≤ (reading c.rows.input).place
+    pub deep : c.rows.open_lists ≤ (reading c.rows.input).place
+    pub counted : c.count ≡ entry_count front
+    pub few : c.count ≤ (reading c.rows.input).place
+    pub parents : map (λ (i : UnitEntryId). i.0) c.parents.items ≡ opened front c.rows.open_lists
+    pub going : c.is_ended ≡ false
+
+  -- The next of the entries that are left, behind null entries. It has the next number, and the entry under which it stands that of
+  -- its own parent.
+  pub record HandsOutRow (front rest : List Row) (new : UnitRows R E) (entry : DebuggingInformationEntry R E) (id parent : ℕ) : Type 0 where
+    pub nulls : List Row
+    pub row : Row
+    pub back : List Row
+    pub is : rest ≡ nulls ++ row ∷ back
+    pub none : entry_count nulls ≡ 0
+    pub code : ℕ
+    pub mark : row.mark ≡ Open (entry_of reading code entry)
+    pub encoded : All (λ a. a.encoding ≡ u.header.fields.encoding) entry.attrs.items
+    pub in_order : All (λ a. IsInOrder (reading u.header.body).is_big (attribute_order reading a)) entry.attrs.items
+    pub offset : entry.offset.0 ≡ row.from
+    pub depth : entry.depth ≡ shown_depth row.depth
+    pub id_is : id ≡ entry_count front
+    pub parent_is : parent ≡ parent_behind (front ++ nulls) row.depth
+    pub stands : StandsBetween new ((front ++ nulls) ++ row ∷ []) back
+
+  -- no entry is left
+  pub record HandsOutNone (front rest : List Row) (new : UnitRows R E) : Type 0 where
+    pub none : entry_count rest ≡ 0
+    pub stands : StandsBetween new (front ++ rest) []

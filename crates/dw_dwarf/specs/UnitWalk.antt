@@ -1,0 +1,18 @@
+-- What reading the next entry of a unit answers.
+use Rattle.std.specs.Prelude.{◌≡◌, List, Option, Some, None, Result, Ok, Err}
+use Rattle.dw_base.specs.Entries.{Row}
+use Rattle.dw_base.specs.declared.ids.UnitEntryId.{UnitEntryId}
+use Rattle.dw_read.specs.Reading.{Reading}
+use Rattle.dw_read.specs.declared.entry.DebuggingInformationEntry.{DebuggingInformationEntry}
+use Rattle.dw_read_units.specs.declared.dwarf.Unit.{Unit as UnitFields}
+use Rattle.dw_sources.specs.declared.convert_error.ConvertError.{ConvertError}
+use Rattle.dw_sources.specs.declared.convert_error.ConvertError.TheVariants.{NoMemory}
+use Rattle.dw_dwarf.specs.UnitCursor.{HandsOutRow, HandsOutNone}
+use Rattle.dw_dwarf.specs.declared.convert.unit_rows.UnitRows.{UnitRows}
+
+-- from between these rows, the next entry is read, with its id and its parent's, or none is left; rows that were read before can be
+-- read again
+abbrev pub WalksOn : {R E : Type 0} → (R → Reading) → UnitFields R E → List Row → List Row → UnitRows R E → DebuggingInformationEntry R E → Result (Option (UnitEntryId × UnitEntryId)) ConvertError → Type 0
+WalksOn reading u front rest new entry (Ok (Some x)) = HandsOutRow reading u front rest new entry x.0.0 x.1.0
+WalksOn reading u front rest new entry (Ok None) = HandsOutNone reading u front rest new
+WalksOn reading u front rest new entry (Err e) = e ≡ NoMemory

@@ -1,0 +1,66 @@
+//! Reading all units of a file, and giving one of them.
+
+ghost use Rattle.std.specs.Prelude.{◌≡◌, ◌⊎◌, ◌<◌, ◌++◌, length, map, OnOk, IfOk, IfErr};
+ghost use Rattle.dw_entry_ids.specs.Units.{NumbersUnits};
+ghost use Rattle.dw_sources.specs.declared.convert_error.ConvertError.TheVariants.{NoMemory};
+ghost use Rattle.dw_dwarf.specs.ConvertedUnits.{CannotRead};
+ghost use Rattle.dw_dwarf.specs.FoundUnits.{IsGiven};
+ghost use Rattle.dw_dwarf.specs.NewUnits.{unit_for};
+
+use crate::convert::found::{FoundUnits, GivenUnit};
+use crate::convert::refs::UnitRefs;
+use crate::convert::units::new_unit;
+use dw_base::UnitId;
+use dw_entry_ids::number_units;
+use dw_read::Reader;
+use dw_read_units::{Dwarf, UnitRef};
+use dw_sources::{ConvertError, ConvertResult};
+use dw_unit::UnitTable;
+use std::alloc::Global;
+
+impl<R: Reader> FoundUnits<R> {
+    /// Reads all units, and numbers their entries.
+    pub(crate) fn read(alloc: Global, dwarf: &Dwarf<R>) -> ConvertResult<FoundUnits<R>>
+        ensures ok { IfOk result (λ f. NumbersUnits R.reading dwarf.now f.found) }
+        ensures err { IfErr result (λ e. (e ≡ NoMemory) ⊎ CannotRead R.reading dwarf.now e) }
+    {
+        let found = number_units(alloc, dwarf)?;
+        Ok(FoundUnits { found })
+    }
+
+    /// The unit of an index in its file, where the first of all becomes that of an id.
+    pub(crate) fn give<'a>(
+        &'a self,
+        dwarf: &'a Dwarf<R>,
+        index: usize,
+        first: UnitId,
+    ) -> GivenUnit<'a, R>
+        requires { index < length self.now.found.units.items }
+        ensures { IsGiven self.now dwarf.now index first.0 result }
+    {
+        let numbered = &self.found.units[index];
+        let start = numbered.unit.header.offset();
+        GivenUnit {
+            read: UnitRef {
+                dwarf,
+                unit: &numbered.unit,
+            },
+            refs: UnitRefs::new(&self.found.ids, UnitId::new(index), start, first),
+            entries: numbered.entries,
+        }
+    }
+
+    /// Adds a new unit for each of them behind those of the table: in its encoding, with its root
+    /// alone, and with an id for each of its entries.
+    pub(crate) fn add_new(&self, alloc: Global, units: &mut UnitTable) -> ConvertResult<()>
+        ensures ok { OnOk result
+            (units.new ≡ units.old ++ map unit_for self.now.found.units.items) }
+        ensures err { IfErr result (λ e. e ≡ NoMemory) }
+    {
+        'units: for numbered in &self.found.units {
+            let unit = new_unit(alloc, numbered.unit.header.encoding(), numbered.entries)?;
+            units.add(unit).map_err(|_| ConvertError::NoMemory)?;
+        }
+        Ok(())
+    }
+}

@@ -1,0 +1,79 @@
+//! The rows of a unit that is converted.
+
+ghost use Rattle.std.specs.Prelude.{◌≡◌, ◌≤◌, List, [], true, Ok, None};
+ghost use Rattle.dw_base.specs.Entries.{Row};
+ghost use Rattle.dw_read_units.specs.Passes.{rows_reading};
+ghost use Rattle.dw_read_units.specs.declared.dwarf.Unit.{Unit as UnitFields};
+ghost use Rattle.dw_dwarf.specs.UnitCursor.{StandsBetween};
+ghost use Rattle.dw_dwarf.specs.UnitWalk.{WalksOn};
+
+use crate::convert::entries::{last_or_root, open_list};
+use dw_base::UnitEntryId;
+use dw_read::{DebuggingInformationEntry, EntriesRaw, Reader};
+use dw_read_units::Unit;
+use dw_sources::ConvertResult;
+use std::alloc::Global;
+
+/// Where the rows of a unit are read, with what is known of the entries before that.
+#[derive(Drop)]
+pub(crate) struct UnitRows<'a, R: Reader> {
+    pub(crate) rows: EntriesRaw<'a, R>,
+    /// How many entries were read, so the number of the next.
+    pub(crate) count: usize,
+    /// Those whose lists of children are open, the outermost first.
+    pub(crate) parents: Vec<UnitEntryId>,
+    /// All of them were converted at once, so that none is left.
+    pub(crate) is_ended: bool,
+}
+
+impl<'a, R: Reader> UnitRows<'a, R> {
+    /// The rows of a unit, from the first on.
+    pub(crate) fn new(alloc: Global, unit: &'a Unit<R>) -> UnitRows<'a, R>
+        ensures { (all : List Row) →
+            rows_reading R.reading unit.now.header unit.now.abbreviations ≡ Ok all →
+            unit.now.header.offset.0 ≤ (R.reading unit.now.header.body).place →
+            StandsBetween R.reading unit.now result [] all }
+    {
+        UnitRows {
+            rows: EntriesRaw::new(&unit.header, &unit.abbreviations),
+            count: 0,
+            parents: Vec::new(alloc),
+            is_ended: false,
+        }
+    }
+
+    /// Reads the next entry, and answers its id and that of its parent. Null entries are passed. It
+    /// is None where no entry is left.
+    pub(crate) fn next(
+        &mut self,
+        entry: &mut DebuggingInformationEntry<R>,
+    ) -> ConvertResult<Option<(UnitEntryId, UnitEntryId)>>
+        ensures walks { (u : UnitFields R R.Endian) (front rest : List Row) →
+            StandsBetween R.reading u self.old front rest →
+            WalksOn R.reading u front rest self.new entry.new result }
+        ensures ended { self.old.is_ended ≡ true → result ≡ Ok None }
+    {
+        if self.is_ended {
+            return Ok(None);
+        }
+        'rows: while !self.rows.is_empty() {
+            if !self.rows.read_entry(entry)? {
+                self.parents.pop();
+                continue;
+            }
+            let id = UnitEntryId::new(self.count);
+            let parent = last_or_root(&self.parents);
+            open_list(&mut self.parents, entry.has_children, id)?;
+            self.count = self.count.saturating_add(1);
+            return Ok(Some((id, parent)));
+        }
+        Ok(None)
+    }
+
+    /// Leaves no entry to be read.
+    pub(crate) fn end(&mut self)
+        ensures { self.new ≡ record self.old { is_ended = true } }
+    {
+        self.is_ended = true;
+    }
+}

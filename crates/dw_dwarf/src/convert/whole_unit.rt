@@ -1,0 +1,69 @@
+//! Converting all of a unit.
+
+ghost use Rattle.std.specs.Prelude.{◌≡◌, ◌⊎◌, true, OnOk, IfErr};
+ghost use Rattle.dw_sources.specs.declared.convert_error.ConvertError.TheVariants.{NoMemory};
+ghost use Rattle.dw_convert_lines.specs.Views.{tables};
+ghost use Rattle.dw_dwarf.specs.Converters.{IsFresh, IsSameConverter, entries_in, infos_in};
+ghost use Rattle.dw_dwarf.specs.WholeUnits.{ConvertsWhole, RefusesWhole};
+
+use crate::convert::convert_unit::ConvertUnit;
+use crate::convert::entries::convert_entries;
+use crate::convert::program::convert_program;
+use crate::convert::unit_entry::ConvertUnitEntry;
+use dw_base::Address;
+use dw_read::Reader;
+use dw_sources::ConvertResult;
+
+impl<'a, R: Reader> ConvertUnit<'a, R> {
+    /// Converts all of the unit: its line program, and its entries with their attributes, each
+    /// under the image of its own parent, as `Dwarf::from` does. `root_entry` is the root that came
+    /// with the unit; what it held is read again from the unit. `convert_address` says what an
+    /// address of the read file becomes. No entry is left to be read afterwards.
+    ///
+    /// It is refused as `Dwarf::from` is. After an error the unit and the strings may have what was
+    /// converted before it.
+    ///
+    /// ```
+    /// if let Some((mut unit, root)) = section.read_unit()? {
+    ///     unit.convert(root, &|address| Some(Address::Constant(address)))?;
+    /// }
+    /// ```
+    pub fn convert<F: Fn(u64) -> Option<Address>>(
+        &mut self,
+        root_entry: ConvertUnitEntry<'a, R>,
+        convert_address: &F,
+    ) -> ConvertResult<()>
+        requires callable { F.IsAlwaysCallable convert_address.now }
+        requires fresh { IsFresh self.old }
+        ensures ok { OnOk result
+            (ConvertsWhole R.reading (F.post convert_address.now) self.old self.new) }
+        ensures ended { OnOk result (self.new.rows.is_ended ≡ true) }
+        ensures err { IfErr result (λ e. (e ≡ NoMemory)
+            ⊎ RefusesWhole R.reading (F.post convert_address.now) self.old e) }
+        ensures same { IsSameConverter self.old self.new }
+    {
+        drop(root_entry);
+        let read = self.given.read;
+        let refs = self.given.refs;
+        let (program, files) = convert_program(
+            self.alloc,
+            read,
+            self.line_strings,
+            self.strings,
+            convert_address,
+        )?;
+        self.set_line_program(program, files);
+        convert_entries(
+            self.alloc,
+            read,
+            self.files.as_slice(),
+            self.unit,
+            self.strings,
+            self.line_strings,
+            convert_address,
+            &refs,
+        )?;
+        self.rows.end();
+        Ok(())
+    }
+}
