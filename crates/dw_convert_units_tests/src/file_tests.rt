@@ -10,7 +10,7 @@ use std::test::Fail;
 
 /// The sections of a file that units and line programs are in.
 #[derive(Clone, Copy)]
-struct File {
+pub(crate) struct File {
     abbrev: &'static [u8],
     strings: &'static [u8],
     line_strings: &'static [u8],
@@ -19,11 +19,11 @@ struct File {
 }
 
 /// A file that is read, whether a unit of version 5 was added before its own, and what is written.
-struct Case {
-    name: &'static str,
-    read: File,
-    is_behind_another: bool,
-    written: File,
+pub(crate) struct Case {
+    pub(crate) name: &'static str,
+    pub(crate) read: File,
+    pub(crate) is_behind_another: bool,
+    pub(crate) written: File,
 }
 
 /// Declarations in one table: 1, a root with children and its name in `.debug_str`; 2, a variable
@@ -36,7 +36,7 @@ const TYPED: &[u8] = b"\x01\x11\x01\x03\x0e\x00\x00\
 
 /// Two units, the second at 27. The first has a variable, whose type is the base type at 44, which
 /// is at 17 in the second unit and the type of a variable there, too.
-const TWO_UNITS: File = File {
+pub(crate) const TWO_UNITS: File = File {
     abbrev: TYPED,
     strings: b"a\x00b\x00",
     line_strings: b"",
@@ -67,7 +67,7 @@ const NOTHING: File = File {
     info: b"",
 };
 
-const CASES: &[Case] = &[
+pub(crate) const CASES: &[Case] = &[
     Case {
         name: "no units",
         read: NOTHING,
@@ -161,7 +161,7 @@ fn reader(bytes: &[u8]) -> EndianSlice<'_, LittleEndian> {
     EndianSlice::new(bytes, LittleEndian)
 }
 
-fn sections(file: File) -> ReadDwarf<EndianSlice<'static, LittleEndian>> {
+pub(crate) fn sections(file: File) -> ReadDwarf<EndianSlice<'static, LittleEndian>> {
     ReadDwarf {
         debug_abbrev: reader(file.abbrev),
         debug_str: reader(file.strings),
@@ -178,7 +178,7 @@ fn sections(file: File) -> ReadDwarf<EndianSlice<'static, LittleEndian>> {
 }
 
 /// A `Dwarf` that has no unit or one of version 5.
-fn new_dwarf(alloc: Global, has_unit: bool) -> dw_base::Result<Dwarf> {
+pub(crate) fn new_dwarf(alloc: Global, has_unit: bool) -> dw_base::Result<Dwarf> {
     let mut dwarf = Dwarf::new(alloc);
     if has_unit {
         let encoding = Encoding {
@@ -204,7 +204,7 @@ fn convert_into(alloc: Global, dwarf: &mut Dwarf, file: File) -> ConvertResult<(
 }
 
 /// Tells that the `Dwarf` writes exactly this.
-fn is_written(alloc: Global, dwarf: &mut Dwarf, file: &File) -> dw_base::Result<bool> {
+pub(crate) fn is_written(alloc: Global, dwarf: &mut Dwarf, file: &File) -> dw_base::Result<bool> {
     let mut sections = Sections::new(alloc, EndianVec::new(alloc, LittleEndian))?;
     dwarf.write(&mut sections)?;
     Ok(

@@ -5,4 +5,6 @@
 #[cfg(test)]
 mod file_tests;
 #[cfg(test)]
+mod section_tests;
+#[cfg(test)]
 mod tests;
