@@ -56,15 +56,11 @@ module _ {R E : Type 0} {RG : Reader.Ghosts R E} {EG : Endianity.Ghosts E} where
   abbrev pub tables_of : ConvertUnit R E RG EG → Tables
   tables_of c = tables_in c.strings.now c.line_strings.now c.unit.now
 
-  -- the same unit, read and written, with the same strings
-  pub record IsSameConverter (old new : ConvertUnit R E RG EG) : Type 0 where
+  -- it still has the loans of the unit that is written and of the strings
+  pub record KeepsLoans (old new : ConvertUnit R E RG EG) : Type 0 where
     pub unit : new.unit.ghost_name ≡ old.unit.ghost_name
     pub line_strings : new.line_strings.ghost_name ≡ old.line_strings.ghost_name
     pub strings : new.strings.ghost_name ≡ old.strings.ghost_name
-    pub read_unit : new.read_unit ≡ old.read_unit
-    pub skeleton : new.read_skeleton_unit ≡ old.read_skeleton_unit
-    pub given : new.given ≡ old.given
-    pub id : new.id ≡ old.id
 
   -- It is as it was handed out: the root alone was read, and the unit that is written has its root alone, without attributes, lists
   -- and line program, and is neither written nor skipped.

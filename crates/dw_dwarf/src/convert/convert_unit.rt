@@ -7,7 +7,7 @@ ghost use Rattle.dw_entries.specs.Entries.{with_sibling};
 ghost use Rattle.dw_unit.specs.UnitValue.{IsReserved, with_entry};
 ghost use Rattle.dw_sources.specs.declared.convert_error.ConvertError.TheVariants.{NoMemory};
 ghost use Rattle.dw_convert.specs.References.{EntryOutcome, InfoOutcome};
-ghost use Rattle.dw_dwarf.specs.Converters.{IsFresh, StandsAt, ReadsEntry, IsSameConverter};
+ghost use Rattle.dw_dwarf.specs.Converters.{IsFresh, StandsAt, ReadsEntry};
 ghost use Rattle.dw_dwarf.specs.Converters.{entries_in, infos_in, parent_of, added_under, id_or_next};
 
 use crate::convert::found::GivenUnit;
@@ -130,10 +130,8 @@ impl<'a, R: Reader> ConvertUnit<'a, R> {
             (id_or_next id self.old.unit.now) (with_sibling entry.now.sibling)) }
         ensures err { IfErr result (λ e. e ≡ NoMemory) }
         ensures kept { OnErr result (self.new.unit.now ≡ self.old.unit.now) }
-        ensures same { IsSameConverter self.old self.new }
-        ensures rows { self.new.rows ≡ self.old.rows }
-        ensures strings { self.new.strings.now ≡ self.old.strings.now }
-        ensures line_strings { self.new.line_strings.now ≡ self.old.line_strings.now }
+        ensures same_unit { self.new.unit.ghost_name ≡ self.old.unit.ghost_name }
+        ensures others { self.new ≡ record self.old { unit = self.new.unit } }
     {
         let unit = &mut *self.unit;
         let parent = entry.parent.unwrap_or(unit.root());
@@ -152,10 +150,9 @@ impl<'a, R: Reader> ConvertUnit<'a, R> {
         ensures unit { self.new.unit.now
             ≡ record self.old.unit.now { line_program = line_program } }
         ensures files { self.new.files ≡ line_program_files }
-        ensures same { IsSameConverter self.old self.new }
-        ensures rows { self.new.rows ≡ self.old.rows }
-        ensures strings { self.new.strings.now ≡ self.old.strings.now }
-        ensures line_strings { self.new.line_strings.now ≡ self.old.line_strings.now }
+        ensures same_unit { self.new.unit.ghost_name ≡ self.old.unit.ghost_name }
+        ensures others { self.new
+            ≡ record self.old { unit = self.new.unit; files = self.new.files } }
     {
         let unit = &mut *self.unit;
         unit.line_program = line_program;

@@ -4,7 +4,7 @@ ghost use Rattle.std.specs.Prelude.{◌≡◌, ◌⊎◌, Some, None, IfOk, IfEr
 ghost use Rattle.dw_sources.specs.declared.convert_error.ConvertError.TheVariants.{NoMemory};
 ghost use Rattle.dw_convert_lines.specs.HeaderImages.{IsWritable};
 ghost use Rattle.dw_convert_lines.specs.Views.{tables, converting};
-ghost use Rattle.dw_dwarf.specs.Converters.{IsSameConverter};
+ghost use Rattle.dw_dwarf.specs.Converters.{KeepsLoans};
 ghost use Rattle.dw_dwarf.specs.UnitPrograms.{BeginsLines, HasNoLines, RefusesLines, unit_of_lines};
 
 use crate::convert::convert_unit::ConvertUnit;
@@ -46,10 +46,9 @@ impl<'a, R: Reader> ConvertUnit<'a, R> {
         ensures err { IfErr result (λ e. (e ≡ NoMemory) ⊎ RefusesLines R.reading
             (unit_of_lines self.old.read_skeleton_unit self.old.read_unit) encoding line_encoding
             (tables self.old.strings.now self.old.line_strings.now) e) }
-        ensures same { IsSameConverter self.old self.new }
-        ensures rows { self.new.rows ≡ self.old.rows }
-        ensures files { self.new.files ≡ self.old.files }
-        ensures unit { self.new.unit.now ≡ self.old.unit.now }
+        ensures same { KeepsLoans self.old self.new }
+        ensures others { self.new ≡ record self.old
+            { strings = self.new.strings; line_strings = self.new.line_strings } }
     {
         let read_unit = self.read_skeleton_unit.unwrap_or(self.read_unit);
         let Some(offset) = read_unit.unit.line_program else {

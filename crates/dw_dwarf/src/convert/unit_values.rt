@@ -9,7 +9,7 @@ ghost use Rattle.dw_convert.specs.Files.{file_image};
 ghost use Rattle.dw_convert.specs.LocationLists.{IsLocationList, RefusesLocationList};
 ghost use Rattle.dw_convert.specs.Lookups.{addresses_in};
 ghost use Rattle.dw_convert.specs.RangeLists.{IsRangeList, RefusesRangeList};
-ghost use Rattle.dw_dwarf.specs.Converters.{IsSameConverter, entries_in, infos_in, tables_of};
+ghost use Rattle.dw_dwarf.specs.Converters.{KeepsLoans, entries_in, infos_in, tables_of};
 
 use crate::convert::convert_unit::ConvertUnit;
 use dw_base::{Address, FileId, LocationListsOffset, RangeListsOffset};
@@ -41,9 +41,12 @@ impl<'a, R: Reader> ConvertUnit<'a, R> {
             (F.post convert_address.now) (entries_in self.old) (infos_in self.old)
             read_unit.entry self.old.files.items (seen R.reading attr.now) e) }
         ensures kept { OnErr result (tables_of self.new ≡ tables_of self.old) }
-        ensures same { IsSameConverter self.old self.new }
-        ensures rows { self.new.rows ≡ self.old.rows }
-        ensures files { self.new.files ≡ self.old.files }
+        ensures same { KeepsLoans self.old self.new }
+        ensures others { self.new ≡ record self.old {
+          unit = self.new.unit;
+          strings = self.new.strings;
+          line_strings = self.new.line_strings;
+        } }
         // Of the unit that is written only the lists change.
         ensures unit { self.new.unit.now ≡ record self.old.unit.now {
           ranges = self.new.unit.now.ranges;

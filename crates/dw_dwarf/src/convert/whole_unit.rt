@@ -3,7 +3,7 @@
 ghost use Rattle.std.specs.Prelude.{◌≡◌, ◌⊎◌, true, OnOk, IfErr};
 ghost use Rattle.dw_sources.specs.declared.convert_error.ConvertError.TheVariants.{NoMemory};
 ghost use Rattle.dw_convert_lines.specs.Views.{tables};
-ghost use Rattle.dw_dwarf.specs.Converters.{IsFresh, IsSameConverter, entries_in, infos_in};
+ghost use Rattle.dw_dwarf.specs.Converters.{IsFresh, KeepsLoans, entries_in, infos_in};
 ghost use Rattle.dw_dwarf.specs.WholeUnits.{ConvertsWhole, RefusesWhole};
 
 use crate::convert::convert_unit::ConvertUnit;
@@ -40,7 +40,14 @@ impl<'a, R: Reader> ConvertUnit<'a, R> {
         ensures ended { OnOk result (self.new.rows.is_ended ≡ true) }
         ensures err { IfErr result (λ e. (e ≡ NoMemory)
             ⊎ RefusesWhole R.reading (F.post convert_address.now) self.old e) }
-        ensures same { IsSameConverter self.old self.new }
+        ensures same { KeepsLoans self.old self.new }
+        ensures others { self.new ≡ record self.old {
+          unit = self.new.unit;
+          strings = self.new.strings;
+          line_strings = self.new.line_strings;
+          files = self.new.files;
+          rows = self.new.rows;
+        } }
     {
         drop(root_entry);
         let read = self.given.read;
