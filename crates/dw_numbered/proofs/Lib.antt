@@ -1,0 +1,9 @@
+pub mod Drafts
+pub mod Addresses
+pub mod Expressions
+pub mod Lists
+pub mod Lines
+pub mod Values
+pub mod Trees
+pub mod There
+pub mod LinesThere
