@@ -5,5 +5,9 @@ pub mod Lists
 pub mod Lines
 pub mod Values
 pub mod Trees
+pub mod Sizes
+pub mod Units
 pub mod There
 pub mod LinesThere
+pub mod Moved
+pub mod ValuesThere
