@@ -11,3 +11,7 @@ pub mod There
 pub mod LinesThere
 pub mod Moved
 pub mod ValuesThere
+pub mod Bounds
+pub mod UnitsThere
+pub mod Alike
+pub mod MovedUnits
