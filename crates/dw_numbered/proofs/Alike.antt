@@ -1,6 +1,6 @@
 -- Units of one tree are as long, and leave the same references open, whatever their operands lead to elsewhere.
-use Rattle.std.specs.Prelude.{◌≡◌, ◌+◌, ◌++◌, List, [], ◌∷◌, map, ℕ, refl}
-use Rattle.std.proofs.Common.{ap, ap₂, subst}
+use Rattle.std.specs.Prelude.{◌≡◌, ◌+◌, ◌++◌, List, [], ◌∷◌, ℕ, refl}
+use Rattle.std.proofs.Common.{ap₂, subst}
 use Rattle.dw_base.specs.Abbreviations.{Shape}
 use Rattle.dw_base.specs.Entries.{Mark, Open, Null}
 use Rattle.dw_base.specs.Spelling.{header_size}
@@ -15,7 +15,7 @@ use Rattle.dw_entries.specs.declared.attribute.Attribute.{Attribute}
 use Rattle.dw_unit.specs.Coded.{code_at}
 use Rattle.dw_unit.specs.Pending.{Kept, draft_of}
 use Rattle.dw_unit.specs.Places.{Placement, targets_of}
-use Rattle.dw_unit.specs.UnitText.{attributes_draft, sibling_draft, code_draft, entry_draft, coded_draft, marks_draft, tree_draft, header_text}
+use Rattle.dw_unit.specs.UnitText.{attributes_draft, sibling_draft, code_draft, coded_draft, marks_draft, tree_draft, header_text}
 use Rattle.dw_unit.specs.Whole.{tree_shapes}
 
 -- two drafts are as long, and leave the same references open

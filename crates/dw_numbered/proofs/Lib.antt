@@ -1,3 +1,4 @@
+mod Worked
 pub mod Drafts
 pub mod Addresses
 pub mod Expressions
@@ -15,3 +16,5 @@ pub mod Bounds
 pub mod UnitsThere
 pub mod Alike
 pub mod MovedUnits
+pub mod Rows
+pub mod Dwarfs

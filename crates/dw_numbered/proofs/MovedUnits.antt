@@ -1,7 +1,7 @@
 -- Units whose own parts of other sections start later: what their operands lead to, and where they stand in a row.
 use Rattle.std.specs.Prelude.{◌≡◌, ℕ, zero, suc, ◌+◌, ◌*◌, ◌==◌, nat_lt, Bool, true, false, List, [], ◌∷◌, length, map, Option, Some, None, slice_get, refl, if◌then◌else◌}
 use Rattle.std.specs.Option.{option_map}
-use Rattle.std.proofs.Common.{sym, ◌∙◌, ap, ap₂, subst, arith}
+use Rattle.std.proofs.Common.{sym, ◌∙◌, ap, ap₂, arith}
 use Rattle.std.proofs.Math.Path.{fun_ext}
 use Rattle.dw_base.specs.Numbers.{◌>>=◌, when, word_of}
 use Rattle.dw_base.specs.declared.common.Encoding.{Encoding}
@@ -14,11 +14,11 @@ use Rattle.dw_lists.specs.Parts.{Part}
 use Rattle.dw_lists.specs.Tables.{base_from, offsets_by, no_place, ranges_in, locations_in}
 use Rattle.dw_lists.specs.Texts.{list_draft, places_from}
 use Rattle.dw_strings.specs.Strings.{string_place}
-use Rattle.dw_unit.specs.Built.{Numbered, Starts, numbered_from, table_size}
+use Rattle.dw_unit.specs.Built.{Numbered, Starts, numbered_from}
 use Rattle.dw_unit.specs.Elsewhere.{Elsewhere, string_there, unit_tables, past_parts, ranges_at, locations_at}
 use Rattle.dw_unit.specs.Locations.{entry_places}
 use Rattle.dw_unit.specs.Pending.{Kept, AreInRow, draft_at, past_kept, units_draft, kept_at, kept_offsets, info_of}
-use Rattle.dw_unit.specs.Places.{Placement, Offsets, found, in_info, info_from}
+use Rattle.dw_unit.specs.Places.{Placement, Offsets, in_info}
 use Rattle.dw_unit.specs.UnitValue.{UnitValue}
 use Rattle.dw_unit.specs.Whole.{settled, lines_in_use, IsTreePlacement}
 use Rattle.dw_unit.proofs.OnePlacement.{one_placement, placement-same}
@@ -179,5 +179,31 @@ module _ (starts : SectionId → ℕ) where
 
   -- Places in .debug_info
 
-  moved_offsets : Offsets → Offsets
+  abbrev moved_offsets : Offsets → Offsets
   moved_offsets o = record o { start = o.start + starts DebugInfo }
+
+  offsets_moved_at : (m : ℕ) (t joined : Elsewhere) (us : List UnitValue) (ks : List Kept) (n : ℕ) →
+      kept_at (numbered_from m joined us) (map (moved_kept starts) ks) n ≡ option_map moved_offsets (kept_at (numbered_from m t us) ks n)
+  offsets_moved_at m t joined [] ks n = refl
+  offsets_moved_at m t joined (u ∷ us) [] n = refl
+  offsets_moved_at m t joined (u ∷ us) (k ∷ ks) n = by (m == n) (offsets_moved_at (suc m) (past_parts t u) (past_parts joined u) us ks n)
+    where
+      by : (b : Bool) → kept_at (numbered_from (suc m) (past_parts joined u) us) (map (moved_kept starts) ks) n ≡ option_map moved_offsets (kept_at (numbered_from (suc m) (past_parts t u) us) ks n) →
+          ◌≡◌ {A = Option Offsets} (if b then Some (kept_offsets (moved_kept starts k)) else kept_at (numbered_from (suc m) (past_parts joined u) us) (map (moved_kept starts) ks) n)
+          (option_map moved_offsets (if b then Some (kept_offsets k) else kept_at (numbered_from (suc m) (past_parts t u) us) ks n))
+      by true h = refl
+      by false h = h
+
+  place_moved : (at : ℕ) (o : Option ℕ) → option_map (λ n. n + starts DebugInfo) (option_map (λ n. at + n) o) ≡ option_map (λ n. n + 0) (option_map (λ n. at + starts DebugInfo + n) o)
+  place_moved at None = refl
+  place_moved at (Some n) = ap Some (let sum : at + n + starts DebugInfo ≡ at + starts DebugInfo + n + 0 = omega arith in sum)
+
+  entry_moved : (o : Option Offsets) (i : ℕ) → option_map (λ n. n + starts DebugInfo) (o >>= λ x. in_info x i) ≡ option_map (λ n. n + 0) (option_map moved_offsets o >>= λ x. in_info x i)
+  entry_moved None i = refl
+  entry_moved (Some x) i = place_moved x.start (x.place i)
+
+  -- so the places of entries are the same, counted from the section's begin
+  pub info_moved : (m : ℕ) (t joined : Elsewhere) (us : List UnitValue) (ks : List Kept) →
+      started (starts DebugInfo) (info_of (numbered_from m t us) ks) ≡ started 0 (info_of (numbered_from m joined us) (map (moved_kept starts) ks))
+  info_moved m t joined us ks =
+      fun_ext (λ n. fun_ext (λ i. entry_moved (kept_at (numbered_from m t us) ks n) i ∙ ap (λ o. option_map (λ k. k + 0) (o >>= λ x. in_info x i)) (sym (offsets_moved_at m t joined us ks n))))

@@ -7,9 +7,7 @@ use Rattle.dw_base.specs.declared.common.Format.TheVariants.{Dwarf32, Dwarf64}
 use Rattle.dw_writer.specs.Texts.{Text, num_text, followed}
 use Rattle.dw_writer.proofs.Laws.{followed-somes}
 use Rattle.dw_writer.proofs.Plain.{num-shown}
-
-abbrev pub IsThere : Text → Type 0
-IsThere t = (xs : List ℕ) × (t ≡ Some xs)
+pub use Rattle.dw_unit.specs.Pending.{IsThere}
 
 pub itself_there : (xs : List ℕ) → IsThere (Some xs)
 itself_there xs = (xs, refl)

@@ -2,7 +2,7 @@
 -- start.
 use Rattle.std.specs.Prelude.{◌≡◌, ℕ, ◌+◌, ◌==◌, Bool, true, false, not, List, [], ◌∷◌, ◌++◌, length as len, Option, Some, None, refl, IsTrue, IsFalse, if◌then◌else◌}
 use Rattle.std.specs.List.{list_all}
-use Rattle.std.proofs.Common.{sym, ap, subst, arith}
+use Rattle.std.proofs.Common.{subst, arith}
 use Rattle.std.proofs.lemmas.Bool.{and_parts, or_parts}
 use Rattle.std.proofs.lemmas.Bool.Decides.{nat_tests}
 use Rattle.std.proofs.lemmas.Option.{none-some, same_Some}
@@ -36,7 +36,7 @@ use Rattle.dw_unit.proofs.UnitSteps.{length_text-fits}
 use Rattle.dw_numbered.specs.Starts.{StartsAt}
 use Rattle.dw_numbered.specs.Values.{value_fits, is_macro, mark_passes, tree_passes, has_no_macros}
 use Rattle.dw_numbered.proofs.Moved.{IsMoved}
-use Rattle.dw_numbered.proofs.There.{IsThere, itself_there, followed_there, number_there, not_false, word_wide}
+use Rattle.dw_numbered.proofs.There.{IsThere, itself_there, followed_there, number_there, word_wide}
 use Rattle.dw_numbered.proofs.ValuesThere.{value_joined}
 
 -- places of references that stand one behind another

@@ -3,6 +3,8 @@ pub mod Lists
 pub mod Lines
 pub mod Entries
 pub mod Units
+pub mod Dwarfs
 pub mod LineStrings
 pub mod Starts
 pub mod Values
+pub mod Joined
