@@ -1,87 +1,26 @@
 -- Expressions, once symbols have values.
-use Rattle.std.specs.Prelude.{◌≡◌, ℕ, ◌+◌, Bool, true, false, List, [], ◌∷◌, ◌++◌, length, map, Option, Some, None, refl, if◌then◌else◌, nat_lt, ◌==◌}
+use Rattle.std.specs.Prelude.{◌≡◌, ℕ, ◌+◌, Bool, List, [], ◌∷◌, length, map, Option, Some, None, refl}
 use Rattle.std.proofs.Common.{sym, ◌∙◌, ap, ap₂, subst}
-use Rattle.std.proofs.lemmas.List.{map-append}
 use Rattle.dw_base.specs.Leb128.{uleb}
 use Rattle.dw_base.specs.declared.address.DebugInfoRef.{DebugInfoRef as InfoRef}
 use Rattle.dw_base.specs.declared.address.DebugInfoRef.TheVariants as refs
 use Rattle.dw_base.specs.declared.common.Encoding.{Encoding}
-use Rattle.dw_base.specs.declared.constants.DwOp.{DwOp}
-use Rattle.dw_base.specs.declared.constants.TheConstants.{DW_OP_convert, DW_OP_GNU_convert, DW_OP_reinterpret, DW_OP_GNU_reinterpret}
-use Rattle.dw_base.specs.declared.ids.UnitEntryId.{UnitEntryId}
 use Rattle.dw_writer.specs.Layout.{Layout}
 use Rattle.dw_writer.specs.Texts.{followed}
 use Rattle.dw_writer.specs.SectionTexts.{bytes_text}
 use Rattle.dw_writer.specs.Drafts.{Draft, no_draft, then_draft}
 use Rattle.dw_writer.proofs.Laws.{followed-somes}
 use Rattle.dw_expr.specs.Trees.{Plain, Node, Tree, plain, entry_value, nothing, before}
-use Rattle.dw_expr.specs.Trees as trees
-use Rattle.dw_expr.specs.Operands.{Operand, Nothing, Byte, Bytes, Uleb, Sleb, Count, Target, Base, Place, Info, Distance, code_by, short_or, base_or_generic, operands, entry_value_code}
+use Rattle.dw_expr.specs.Operands.{Operand, Nothing, Byte, Bytes, Uleb, Sleb, Count, Target, Base, Place, Info, Distance, operands, entry_value_code}
 use Rattle.dw_expr.specs.Places.{place_by}
 use Rattle.dw_expr.specs.Spelling.{bytes, place_draft, info_draft, Part, parts_size, starts_from, parts_draft, expression, nested, operand_draft, operands_draft, operands_size, part, nested_part, node_part, tree_parts, parts_of, expression_size}
 use Rattle.dw_frame.specs.Operands.{nowhere, expression_piece}
 use Rattle.dw_frame.specs.Reading.{at_zero}
 use Rattle.dw_frame.proofs.TextParts.{split}
-use Rattle.dw_link_frames.specs.Numbered.{numbered, numbered_plain, numbered_node, numbered_tree, numbered_nodes}
+pub use Rattle.dw_numbered.proofs.Expressions.{numbered_operand, operands_same}
+use Rattle.dw_link_frames.specs.Numbered.{numbered_plain, numbered_node, numbered_tree, numbered_nodes}
 use Rattle.dw_link_frames.proofs.Turning.{Turns}
 use Rattle.dw_link_frames.proofs.Pointing.{address_moves}
-
-module _ (symbols : List ℕ) where
-  -- an operand; only an address hangs on symbols
-  abbrev pub numbered_operand : Operand → Operand
-  numbered_operand (Target a) = Target (numbered symbols a)
-  numbered_operand o = o
-
-  if_same : (b : Bool) (xs ys zs ws : List Operand) → xs ≡ map numbered_operand zs → ys ≡ map numbered_operand ws → (if b then xs else ys) ≡ map numbered_operand (if b then zs else ws)
-  if_same true xs ys zs ws h k = h
-  if_same false xs ys zs ws h k = k
-
-  short_same : (a b : DwOp) (n : ℕ) → short_or a b n ≡ map numbered_operand (short_or a b n)
-  short_same a b n = if_same (nat_lt n 32) _ _ _ _ refl refl
-
-  then_same : (xs : List Operand) (o : Operand) → xs ≡ map numbered_operand xs → o ≡ numbered_operand o → xs ++ o ∷ [] ≡ map numbered_operand (xs ++ o ∷ [])
-  then_same xs o h e = ap₂ (λ ys p. ys ++ p ∷ []) h e ∙ sym (map-append numbered_operand xs (o ∷ []))
-
-  short_then : (b : Bool) (xs ys : List Operand) (o : Operand) → xs ≡ map numbered_operand xs → ys ≡ map numbered_operand ys → o ≡ numbered_operand o →
-      (if b then xs else ys) ++ o ∷ [] ≡ map numbered_operand ((if b then xs else ys) ++ o ∷ [])
-  short_then true xs ys o h k e = then_same xs o h e
-  short_then false xs ys o h k e = then_same ys o k e
-
-  base_same : (o : Option UnitEntryId) → base_or_generic o ≡ numbered_operand (base_or_generic o)
-  base_same None = refl
-  base_same (Some i) = refl
-
-  pub operands_same : (e : Encoding) (p : Plain) → operands e (numbered_plain symbols p) ≡ map numbered_operand (operands e p)
-  operands_same e (trees.Raw bytes) = refl
-  operands_same e (trees.Simple code) = refl
-  operands_same e (trees.Address a) = refl
-  operands_same e (trees.UnsignedConstant n) = short_same _ _ n
-  operands_same e (trees.SignedConstant z) = refl
-  operands_same e (trees.ConstantType base bytes) = refl
-  operands_same e (trees.FrameOffset z) = refl
-  operands_same e (trees.RegisterOffset r z) = short_then (nat_lt r.0 32) _ _ _ refl refl refl
-  operands_same e (trees.RegisterType r base) = refl
-  operands_same e (trees.Pick n) = if_same (n == 0) _ _ _ _ refl (if_same (n == 1) _ _ _ _ refl refl)
-  operands_same e (trees.Deref space) = refl
-  operands_same e (trees.DerefSize space size) = refl
-  operands_same e (trees.DerefType space size base) = refl
-  operands_same e (trees.PlusConstant n) = refl
-  operands_same e (trees.Skip target) = refl
-  operands_same e (trees.Branch target) = refl
-  operands_same e (trees.Call entry) = refl
-  operands_same e (trees.CallRef r) = refl
-  operands_same e (trees.VariableValue r) = refl
-  operands_same e (trees.Convert base) = ap (λ o. Byte (code_by e DW_OP_convert DW_OP_GNU_convert) ∷ o ∷ []) (base_same base)
-  operands_same e (trees.Reinterpret base) = ap (λ o. Byte (code_by e DW_OP_reinterpret DW_OP_GNU_reinterpret) ∷ o ∷ []) (base_same base)
-  operands_same e (trees.Register r) = short_same _ _ r.0
-  operands_same e (trees.ImplicitValue bytes) = refl
-  operands_same e (trees.ImplicitPointer r z) = refl
-  operands_same e (trees.Piece n) = refl
-  operands_same e (trees.BitPiece n m) = refl
-  operands_same e (trees.ParameterRef entry) = refl
-  operands_same e (trees.WasmLocal n) = refl
-  operands_same e (trees.WasmGlobal n) = refl
-  operands_same e (trees.WasmStack n) = refl
 
 module _ (big : Bool) (l : Layout) (e : Encoding) where
   abbrev pub no_place : ℕ → Option ℕ

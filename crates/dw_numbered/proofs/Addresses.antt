@@ -7,7 +7,8 @@ use Rattle.dw_base.specs.declared.address.Address.TheVariants.{Constant, Symbol}
 use Rattle.dw_writer.specs.Layout.{Layout}
 use Rattle.dw_writer.specs.Texts.{Text, int_text}
 use Rattle.dw_writer.specs.SectionTexts.{address_text}
-use Rattle.dw_numbered.specs.Addresses.{in_64_bits, symbol_sum, constant_or, numbered_address}
+use Rattle.dw_writer.specs.Pointers.{address_of}
+use Rattle.dw_numbered.specs.Addresses.{known_or, value_at, numbered_address}
 
 -- a symbol that has a value, and what it comes to with an addend
 pub record IsValued (symbols : List ℕ) (s : ℕ) (addend : ℤ) : Type 0 where
@@ -18,7 +19,7 @@ pub record IsValued (symbols : List ℕ) (s : ℕ) (addend : ℤ) : Type 0 where
   pub is : numbered_address symbols (Symbol s addend) ≡ Constant number
 
 -- a number of 64 bits
-fitting_number : (z : ℤ) (n : ℕ) → in_64_bits z ≡ Some n → z ≡ pos n
+fitting_number : (z : ℤ) (n : ℕ) → address_of z ≡ Some n → z ≡ pos n
 fitting_number (pos m) n h = by (nat_lt m (2 ^ 64)) h
   where
     by : (b : Bool) → when b (Some m) ≡ Some n → pos m ≡ pos n
@@ -27,19 +28,19 @@ fitting_number (pos m) n h = by (nat_lt m (2 ^ 64)) h
 fitting_number (negsuc m) n h = absurd cc
 
 module _ (symbols : List ℕ) (s : ℕ) (addend : ℤ) where
-  cases_by : (o : Option ℕ) (r : Option ℕ) → slice_get symbols s ≡ o → (o >>= λ v. in_64_bits (addend +ℤ pos v)) ≡ r → (constant_or (Symbol s addend) r ≡ Symbol s addend) ⊎ ((v n : ℕ) × (r ≡ Some n) × (o ≡ Some v) × (addend +ℤ pos v ≡ pos n))
+  cases_by : (o : Option ℕ) (r : Option ℕ) → slice_get symbols s ≡ o → (o >>= λ v. address_of (addend +ℤ pos v)) ≡ r → (known_or r (Symbol s addend) ≡ Symbol s addend) ⊎ ((v n : ℕ) × (r ≡ Some n) × (o ≡ Some v) × (addend +ℤ pos v ≡ pos n))
   cases_by o None at is = inl refl
   cases_by None (Some n) at is = absurd cc
   cases_by (Some v) (Some n) at is = inr (v, n, refl, refl, fitting_number (addend +ℤ pos v) n is)
 
   -- a symbol's address stays, or it has a number
   pub symbol_cases : (numbered_address symbols (Symbol s addend) ≡ Symbol s addend) ⊎ IsValued symbols s addend
-  symbol_cases = by (cases_by (slice_get symbols s) (symbol_sum symbols s addend) refl refl)
+  symbol_cases = by (cases_by (slice_get symbols s) (value_at symbols (Symbol s addend)) refl refl)
     where
-      by : (constant_or (Symbol s addend) (symbol_sum symbols s addend) ≡ Symbol s addend) ⊎ ((v n : ℕ) × (symbol_sum symbols s addend ≡ Some n) × (slice_get symbols s ≡ Some v) × (addend +ℤ pos v ≡ pos n)) →
+      by : (known_or (value_at symbols (Symbol s addend)) (Symbol s addend) ≡ Symbol s addend) ⊎ ((v n : ℕ) × (value_at symbols (Symbol s addend) ≡ Some n) × (slice_get symbols s ≡ Some v) × (addend +ℤ pos v ≡ pos n)) →
           (numbered_address symbols (Symbol s addend) ≡ Symbol s addend) ⊎ IsValued symbols s addend
       by (inl h) = inl h
-      by (inr h) = inr (record { value = h.0; number = h.1; at = h.3; sum = h.4; is = ap (constant_or (Symbol s addend)) h.2 })
+      by (inr h) = inr (record { value = h.0; number = h.1; at = h.3; sum = h.4; is = ap (λ o. known_or o (Symbol s addend)) h.2 })
 
 -- the text of an address is that of its number
 pub address_same : (w : ℕ) (a : Address) (big : Bool) (l : Layout) → address_text w a big l ≡ address_text w (numbered_address l.symbols a) big l

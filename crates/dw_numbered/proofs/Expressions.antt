@@ -16,7 +16,7 @@ use Rattle.dw_numbered.proofs.Addresses.{address_same}
 use Rattle.dw_numbered.proofs.Drafts.{IsSameDraft, draft_itself, whole_same, then_same, all_same}
 
 -- an operand in which symbols have values
-abbrev numbered_operand : List ℕ → Operand → Operand
+abbrev pub numbered_operand : List ℕ → Operand → Operand
 numbered_operand symbols (Target a) = Target (numbered_address symbols a)
 numbered_operand symbols o = o
 
@@ -25,7 +25,7 @@ abbrev picks : ℕ → Bool → Bool → List Operand
 picks n a b = if a then Byte DW_OP_dup.0 ∷ [] else if b then Byte DW_OP_over.0 ∷ [] else Byte DW_OP_pick.0 ∷ Byte n ∷ []
 
 module _ (symbols : List ℕ) where
-  abbrev numbered_operands : List Operand → List Operand
+  abbrev pub numbered_operands : List Operand → List Operand
   numbered_operands os = map (numbered_operand symbols) os
 
   short_same : (short long : DwOp) (n : ℕ) → numbered_operands (short_or short long n) ≡ short_or short long n
@@ -48,7 +48,7 @@ module _ (symbols : List ℕ) where
       by false false = refl
 
   -- only an address is another operand
-  operands_same : (e : Encoding) (p : Plain) → operands e (numbered_plain symbols p) ≡ numbered_operands (operands e p)
+  pub operands_same : (e : Encoding) (p : Plain) → operands e (numbered_plain symbols p) ≡ numbered_operands (operands e p)
   operands_same e (operations.UnsignedConstant n) = sym (short_same _ _ n)
   operands_same e (operations.RegisterOffset r z) = sym (numbered_append (short_or DW_OP_breg0 DW_OP_bregx r.0) (Sleb z ∷ []) ∙ ap (λ os. os ++ Sleb z ∷ []) (short_same _ _ r.0))
   operands_same e (operations.Register r) = sym (short_same _ _ r.0)

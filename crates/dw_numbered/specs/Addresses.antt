@@ -1,31 +1,28 @@
 -- Addresses and expressions in which symbols have values: each symbol address is replaced by the constant that it comes to,
 -- the symbol's value plus the addend. One whose symbol has no value, or whose sum is no number of 64 bits, stays what it is; a
 -- plain writer refuses it.
-use Rattle.std.specs.Prelude.{ℕ, ◌^◌, ◌+ℤ◌, nat_lt, List, map, Option, Some, None, ℤ, pos, negsuc, slice_get}
-use Rattle.dw_base.specs.Numbers.{◌>>=◌, when}
+use Rattle.std.specs.Prelude.{ℕ, ◌+ℤ◌, List, map, Option, Some, None, pos, slice_get}
+use Rattle.dw_base.specs.Numbers.{◌>>=◌}
 use Rattle.dw_base.specs.declared.address.Address.{Address}
 use Rattle.dw_base.specs.declared.address.Address.TheVariants.{Constant, Symbol}
+use Rattle.dw_writer.specs.Pointers.{address_of}
 use Rattle.dw_expr.specs.Trees.{Plain, Node, Tree, plain, entry_value, nothing, before}
 use Rattle.dw_expr.specs.Trees as operations
 
--- a whole number, where it is one of 64 bits
-abbrev pub in_64_bits : ℤ → Option ℕ
-in_64_bits (pos n) = when (nat_lt n (2 ^ 64)) (Some n)
-in_64_bits (negsuc n) = None
-
--- what a symbol and an addend come to, where symbols have these values
-abbrev pub symbol_sum : List ℕ → ℕ → ℤ → Option ℕ
-symbol_sum symbols s addend = slice_get symbols s >>= λ v. in_64_bits (addend +ℤ pos v)
-
-abbrev pub constant_or : Address → Option ℕ → Address
-constant_or a None = a
-constant_or a (Some n) = Constant n
+-- a number as an address; where there is none, another address
+abbrev pub known_or : Option ℕ → Address → Address
+known_or None a = a
+known_or (Some n) a = Constant n
 
 -- where symbols have these values
 module _ (symbols : List ℕ) where
+  -- the value of a symbol plus an addend, where the symbol has one and the sum is an address of 64 bits
+  abbrev pub value_at : Address → Option ℕ
+  value_at (Constant n) = Some n
+  value_at (Symbol s addend) = slice_get symbols s >>= λ v. address_of (addend +ℤ pos v)
+
   abbrev pub numbered_address : Address → Address
-  numbered_address (Constant n) = Constant n
-  numbered_address (Symbol s addend) = constant_or (Symbol s addend) (symbol_sum symbols s addend)
+  numbered_address a = known_or (value_at a) a
 
   -- Expressions
 
