@@ -1,7 +1,10 @@
--- Addresses by hand.
-use Rattle.std.specs.Prelude.{◌≡◌, List, [], ◌∷◌, ℕ, pos, negsuc, refl}
+-- Addresses by hand, and what a Dwarf is that stands behind nothing.
+use Rattle.std.specs.Prelude.{◌≡◌, true, List, [], ◌∷◌, ℕ, pos, negsuc, refl}
 use Rattle.dw_base.specs.declared.address.Address.TheVariants.{Constant, Symbol}
+use Rattle.dw_dwarf.specs.DwarfValue.{DwarfValue}
+use Rattle.dw_dwarf.specs.Valid.{IsValid}
 use Rattle.dw_numbered.specs.Addresses.{numbered_address}
+use Rattle.dw_numbered.specs.Joined.{IsValidBehind}
 
 -- two symbols
 abbrev values : List ℕ
@@ -27,3 +30,7 @@ unknown = refl
 -- a constant is what it was
 constant : numbered_address values (Constant 7) ≡ Constant 7
 constant = refl
+
+-- where all sections begin at 0, it is one that is valid for plain writers
+alone : (d : DwarfValue) → IsValidBehind (λ s. 0) d → IsValid true d
+alone d h = h.valid

@@ -1,11 +1,11 @@
 -- Where what an input builds is valid and nothing fails, it is listed; what is generated is written.
 use Rattle.std.proofs.Common.{◌≡◌, ◌∙◌, sym, ap, subst, ℕ, List, [], ◌∷◌, refl, arith, inl, inr}
-use Rattle.std.specs.Prelude.{◌⊎◌, true, false, Option, Some, None, Result, Ok, Err, IsTrue}
+use Rattle.std.specs.Prelude.{◌⊎◌, true, false, All, Option, Some, None, Result, Ok, Err, IsTrue}
 use Rattle.std.specs.Option.{is_some}
 use Rattle.dw_base.specs.declared.endianity.RunTimeEndian.{RunTimeEndian}
 use Rattle.dw_sources.specs.declared.convert_error.ConvertError.{ConvertError}
 use Rattle.dw_dwarf.specs.DwarfValue.{DwarfValue}
-use Rattle.dw_dwarf.specs.Valid.{IsValid}
+use Rattle.dw_dwarf.specs.Valid.{AreUnwritten, IsValid}
 use Rattle.dw_base.specs.Faults.{HasRisen}
 use Rattle.dw_ends.specs.Ends.{Intake}
 use Rattle.dw_ends.specs.Sections.{ListingValue, sections_of}
@@ -14,17 +14,19 @@ use Rattle.dw_build.specs.ScriptValue.{ScriptValue}
 use Rattle.dw_build.specs.Sets.{sets}
 use Rattle.dw_build.specs.SetsValue.{SetsValue}
 use Rattle.dw_build.specs.declared.script.Refusal.{Refusal}
+use Rattle.dw_build.proofs.SetUnits.{sets_open}
 use Rattle.dwarf_build.specs.Answers.{DoRead, IsShort, Says, SaysAsked, SaysBuilt, SaysOf, SaysOfBytes, SaysOfInput, SaysOfSets, SaysRead, Prints, code_of, made_of}
 use Rattle.dwarf_build.specs.Commands.{reading_of}
 use Rattle.dwarf_build.specs.Converted.{Becomes, BecomesNone, SaysOfListing, listing_read, with_refusal}
 use Rattle.dwarf_build.specs.Listed.{SaysOfDwarf}
-use Rattle.dwarf_build.specs.Linked.{AreValidSets, Fit}
+use Rattle.dwarf_build.specs.Linked.{AreValidSets, AreValidJoined}
 use Rattle.dwarf_build.specs.declared.command.Reading.{Reading}
 use Rattle.dwarf_build.specs.declared.command.Reading.TheVariants.{Build, Convert, Link}
 use Rattle.dwarf_build.specs.declared.status.Status.{Status}
 use Rattle.dwarf_build.specs.declared.status.Status.TheVariants.{Listed, Usage, ScriptRefused, WriteRefused, SourceFailed, SinkFailed, NoMemory, TooLong}
 use Rattle.dwarf_build.proofs.Faulty.{valid_faultless}
-use Rattle.dwarf_build.proofs.SetFaults.{valid_at, fit_linked}
+use Rattle.dwarf_build.proofs.SetFaults.{valid_at, joined_linked}
+use Rattle.dwarf_build.proofs.SetsSaid.{sets_unwritten}
 
 same_value : {T E : Type 0} (a b : T) (r : Result T E) → r ≡ Ok a → r ≡ Ok b → a ≡ b
 same_value {T} {E} a b r p q = let e : ◌≡◌ {A = Result T E} (Ok a) (Ok b) = sym p ∙ q in cc
@@ -110,21 +112,22 @@ module _ (v : ListingValue) (able : (e : ConvertError) → BecomesNone v e → �
   pub convert_only : (bytes : List ℕ) → sections_of bytes ≡ Ok v → (status : Status) (text : List ℕ) → SaysOfBytes Convert bytes status text → status ≡ Listed
   convert_only bytes said status text h = built_only listing_read SaysOfListing v converted_listed bytes status text (ap with_refusal said) h
 
--- so are sets that are valid and fit
-sets_listed : (s : SetsValue) → AreValidSets s.dwarfs → Fit s → (status : Status) (text : List ℕ) → SaysOfSets s status text → status ≡ Listed
-sets_listed s valid fit Listed text h = refl
-sets_listed s valid fit WriteRefused text (inl h) =
+-- so are sets that are valid, each and where they are joined
+sets_listed : (s : SetsValue) → All AreUnwritten s.dwarfs → AreValidSets s.dwarfs → AreValidJoined s → (status : Status) (text : List ℕ) → SaysOfSets s status text → status ≡ Listed
+sets_listed s unwritten valid joined Listed text h = refl
+sets_listed s unwritten valid joined WriteRefused text (inl h) =
     absurd (valid_faultless false h.first.dwarf h.error (valid_at s.dwarfs h.first.number h.first.dwarf valid h.first.at) h.first.cause)
-sets_listed s valid fit WriteRefused text (inr h) = absurd (fit_linked s h.sets h.error h.left fit h.first)
-sets_listed s valid fit Usage text h = absurd h
-sets_listed s valid fit ScriptRefused text h = absurd h
-sets_listed s valid fit SourceFailed text h = absurd h
-sets_listed s valid fit SinkFailed text h = absurd h
-sets_listed s valid fit NoMemory text h = absurd h
-sets_listed s valid fit TooLong text h = absurd h
+sets_listed s unwritten valid joined WriteRefused text (inr h) = absurd (joined_linked s h.sets h.error unwritten h.left joined h.first)
+sets_listed s unwritten valid joined Usage text h = absurd h
+sets_listed s unwritten valid joined ScriptRefused text h = absurd h
+sets_listed s unwritten valid joined SourceFailed text h = absurd h
+sets_listed s unwritten valid joined SinkFailed text h = absurd h
+sets_listed s unwritten valid joined NoMemory text h = absurd h
+sets_listed s unwritten valid joined TooLong text h = absurd h
 
-pub link_only : (bytes : List ℕ) (s : SetsValue) → sets bytes ≡ Ok s → AreValidSets s.dwarfs → Fit s → (status : Status) (text : List ℕ) → SaysOfBytes Link bytes status text → status ≡ Listed
-link_only bytes s accepted valid fit status text h = built_only sets SaysOfSets s (sets_listed s valid fit) bytes status text accepted h
+pub link_only : (bytes : List ℕ) (s : SetsValue) → sets bytes ≡ Ok s → AreValidSets s.dwarfs → AreValidJoined s → (status : Status) (text : List ℕ) → SaysOfBytes Link bytes status text → status ≡ Listed
+link_only bytes s accepted valid joined status text h =
+    built_only sets SaysOfSets s (sets_listed s (sets_unwritten s.dwarfs (sets_open bytes s accepted)) valid joined) bytes status text accepted h
 
 -- the words can't ask for reading and for a number
 named_alone : (words : List (List ℕ)) (n : ℕ) → made_of words ≡ Some n → reading_of words ≡ None

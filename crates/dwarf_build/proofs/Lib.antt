@@ -7,6 +7,7 @@ pub mod Converted
 pub mod SetLaws
 pub mod SetParts
 pub mod NewSets
+pub mod SetsFit
 pub mod SetFaults
 pub mod SetsWritten
 pub mod SetsJoined

@@ -1,7 +1,6 @@
--- Sets whose texts are all there in their places are joined.
-use Rattle.std.specs.Prelude.{◌≡◌, ℕ, zero, suc, Bool, List, [], ◌∷◌, map, Option, Some, None, refl, IsTrue, slice_get}
+-- Sets that are valid where they are joined have no faulty relocation.
+use Rattle.std.specs.Prelude.{◌≡◌, ℕ, zero, suc, Bool, List, [], ◌∷◌, All, map, Option, Some, None, refl, IsTrue, slice_get}
 use Rattle.std.proofs.Common.{◌∙◌, subst}
-use Rattle.std.proofs.lemmas.Option.{slice_get_within, get_or_from_slice_get}
 use Rattle.dw_base.specs.Numbers.{◌>>=◌}
 use Rattle.dw_base.specs.Order.{is_big_of}
 use Rattle.dw_base.specs.declared.section_id.SectionId.{SectionId}
@@ -11,6 +10,7 @@ use Rattle.dw_writer.specs.Meaning.{Meaning}
 use Rattle.dw_writer.specs.Resolved.{resolved}
 use Rattle.dw_writer.specs.Visits.{written_ids}
 use Rattle.dw_dwarf.specs.DwarfValue.{DwarfValue}
+use Rattle.dw_dwarf.specs.Valid.{AreUnwritten}
 use Rattle.dw_link.specs.Outcome.{IsFirstFault, part_fault, fault_at}
 use Rattle.dw_link.specs.Sets.{Parts, start_in, layout_in}
 use Rattle.dw_link.specs.Steps.{is_below}
@@ -19,13 +19,14 @@ use Rattle.dw_link.specs.declared.fault.Fault.{Fault}
 use Rattle.dw_link.proofs.Faultless.{opened}
 use Rattle.dw_link.proofs.JoinedSections.{far, part_joined, part_faultless}
 use Rattle.dw_build.specs.SetsValue.{SetsValue}
-use Rattle.dwarf_build.specs.Linked.{IsValidSet, AreValidSets, Fit}
-use Rattle.dwarf_build.specs.SetParts.{Part, Placed, part_of, StartsAs, AllFit, IsHeld, HoldsPart, AreSets}
+use Rattle.dwarf_build.specs.Linked.{IsValidSet, AreValidSets, AreValidJoined}
+use Rattle.dwarf_build.specs.SetParts.{Part, Placed, part_of, IsHeld, HoldsPart, AreSets}
 use Rattle.dwarf_build.proofs.SetLaws.{HoldSets, placed_sets, start_same}
+use Rattle.dwarf_build.proofs.SetsFit.{StartsAs, AllFit, of_one, joined_fit}
 
 -- one of valid sets is valid
 pub valid_at : (ds : List DwarfValue) (n : ℕ) (d : DwarfValue) → AreValidSets ds → slice_get ds n ≡ Some d → IsValidSet d
-valid_at ds n d all at = subst IsValidSet (get_or_from_slice_get ds n d d at) (all n d (slice_get_within ds n d at))
+valid_at ds n d all at = of_one IsValidSet ds n d all at
 
 -- a set that is there, and the Dwarf that it holds
 record Found (big : Bool) (ps : List Placed) (n : ℕ) (set : Parts) : Type 0 where
@@ -113,9 +114,9 @@ module _ (big : Bool) (sets : List Parts) (ps : List Placed) (all : HoldSets big
       in
       part_faultless l (start_in sets n) b.value k f text.0 refl (q.holds.resolves l ∙ text.1) (part_joined (start_in sets n) (start_in sets n s) symbols b.value moved) b.leads
 
--- so no relocation of theirs is the first that is faulty
-pub fit_linked : (s : SetsValue) (sets : List Parts) (error : LinkError) → AreSets (is_big_of s.endian) sets s.dwarfs → Fit s → IsFirstFault sets s.symbols error → ⊥
-fit_linked s sets error left fit first =
+-- so no relocation of sets that are valid where they are joined is the first that is faulty
+pub joined_linked : (s : SetsValue) (sets : List Parts) (error : LinkError) → All AreUnwritten s.dwarfs → AreSets (is_big_of s.endian) sets s.dwarfs → AreValidJoined s → IsFirstFault sets s.symbols error → ⊥
+joined_linked s sets error unwritten left valid first =
     let big = is_big_of s.endian in
     let p = placed_sets big sets s.dwarfs left in
-    no_fault big sets p.placed p.hold s.symbols (fit p.placed p.are) first.set first.section first.index first.fault first.stands
+    no_fault big sets p.placed p.hold s.symbols (joined_fit s valid unwritten p.placed p.are big) first.set first.section first.index first.fault first.stands

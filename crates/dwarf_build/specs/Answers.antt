@@ -16,7 +16,7 @@ use Rattle.dw_build.specs.SetsValue.{SetsValue}
 use Rattle.dwarf_build.specs.Commands.{reading_of}
 use Rattle.dwarf_build.specs.Converted.{Becomes, BecomesNone, SaysOfListing, listing_read}
 use Rattle.dwarf_build.specs.Listed.{SaysOfDwarf}
-use Rattle.dwarf_build.specs.Linked.{AreValidSets, Fit, ListsSets, IsSetRefusal, IsLinkRefusal}
+use Rattle.dwarf_build.specs.Linked.{AreValidSets, AreValidJoined, ListsSets, IsSetRefusal, IsLinkRefusal}
 use Rattle.dwarf_build.specs.declared.command.Reading.{Reading}
 use Rattle.dwarf_build.specs.declared.command.Reading.TheVariants.{Build, Convert, Link}
 use Rattle.dwarf_build.specs.Texts.{usage_text, too_long_text, refusal_text, summary_text}
@@ -203,11 +203,11 @@ ListsValid words source_old source_new sink_old sink_new code =
     reading_of words ≡ Some Build → (bytes : List ℕ) → source_old.left ≡ Some bytes → IsShort bytes →
     (s : ScriptValue) → script bytes ≡ Ok s → IsValid true s.dwarf → IsDoneUnless source_old source_new sink_old sink_new code
 
--- So were sets that are each valid where symbols may be written, and whose texts are all there in their places.
+-- So were sets that are each valid where symbols may be written, and valid with the values of symbols where their parts are joined.
 abbrev pub LinksValid : List (List ℕ) → Input → Input → Intake → Intake → ℕ → Type 0
 LinksValid words source_old source_new sink_old sink_new code =
     reading_of words ≡ Some Link → (bytes : List ℕ) → source_old.left ≡ Some bytes → IsShort bytes →
-    (s : SetsValue) → sets bytes ≡ Ok s → AreValidSets s.dwarfs → Fit s → IsDoneUnless source_old source_new sink_old sink_new code
+    (s : SetsValue) → sets bytes ≡ Ok s → AreValidSets s.dwarfs → AreValidJoined s → IsDoneUnless source_old source_new sink_old sink_new code
 
 -- So was a listing of sections that can be converted, and only to what is valid.
 abbrev pub ConvertsValid : List (List ℕ) → Input → Input → Intake → Intake → ℕ → Type 0

@@ -14,8 +14,10 @@ use Rattle.dw_link.specs.Outcome.{IsFirstFault}
 use Rattle.dw_link.specs.Sets.{Parts}
 use Rattle.dw_link.specs.declared.error.LinkError.{LinkError}
 use Rattle.dw_build.specs.SetsValue.{SetsValue}
+use Rattle.dw_numbered.specs.Dwarfs.{numbered_dwarf}
+use Rattle.dw_numbered.specs.Joined.{IsValidBehind}
 use Rattle.dwarf_build.specs.Faults.{HasFault}
-use Rattle.dwarf_build.specs.SetParts.{Placed, ArePlaced, AllFit, AreSets, files_behind, section_text, set_layout}
+use Rattle.dwarf_build.specs.SetParts.{Placed, ArePlaced, AreSets, files_behind, section_size, section_text, set_layout}
 use Rattle.dwarf_build.specs.Texts.{refused_text, link_refused_text, sections_text, texts_read}
 
 -- each can be written by writers that record relocations, which take symbols
@@ -80,6 +82,8 @@ pub record IsLinkRefusal (s : SetsValue) (text : List ℕ) : Type 0 where
   pub first : IsFirstFault sets s.symbols error
   pub says : text ≡ link_refused_text error
 
--- wherever its units stand, every text of a set is there where its parts are joined
-abbrev pub Fit : SetsValue → Type 0
-Fit s = (placed : List Placed) → ArePlaced s.dwarfs placed → AllFit placed s.symbols (is_big_of s.endian)
+-- Each Dwarf, with the constants that its symbols come to, is valid where its set's parts come to stand in the joined sections.
+abbrev pub AreValidJoined : SetsValue → Type 0
+AreValidJoined s =
+    (placed : List Placed) → ArePlaced s.dwarfs placed →
+    (n : ℕ) (p : Placed) → slice_get placed n ≡ Some p → IsValidBehind (section_size (take n placed)) (numbered_dwarf s.symbols p.dwarf)

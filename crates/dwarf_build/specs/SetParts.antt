@@ -1,10 +1,10 @@
 -- What a Dwarf leaves in the sections of a set, and where that comes to stand once sets are linked.
-use Rattle.std.specs.Prelude.{◌≡◌, ℕ, ◌+◌, Bool, true, false, List, [], ◌∷◌, length, take, map, Option, Some, None, IsTrue, slice_get}
+use Rattle.std.specs.Prelude.{◌≡◌, ℕ, ◌+◌, Bool, true, false, List, [], ◌∷◌, length, take, map, Option, Some, None}
 use Rattle.dw_base.specs.Numbers.{◌>>=◌}
 use Rattle.dw_base.specs.declared.section_id.SectionId.{SectionId}
 use Rattle.dw_base.specs.declared.section_id.SectionId.TheVariants.{DebugAbbrev, DebugStr, DebugLineStr, DebugLine, DebugRanges, DebugRngLists, DebugLoc, DebugLocLists, DebugInfo, DebugFrame, EhFrame}
 use Rattle.dw_writer.specs.Drafts.{Draft, filled_text}
-use Rattle.dw_writer.specs.Layout.{Layout, start_of}
+use Rattle.dw_writer.specs.Layout.{Layout}
 use Rattle.dw_writer.specs.Meaning.{Meaning, Model, spelled_text}
 use Rattle.dw_writer.specs.Resolved.{resolved}
 use Rattle.dw_writer.specs.Texts.{Text, followed}
@@ -14,12 +14,11 @@ use Rattle.dw_line.specs.LinePrograms.{line_program_size}
 use Rattle.dw_line.specs.Parts.{sizes}
 use Rattle.dw_unit.specs.Built.{File, at_begin}
 use Rattle.dw_unit.specs.Elsewhere.{line_size, range_size}
-use Rattle.dw_unit.specs.Pending.{Kept, AreInRow, IsThere, info_of, units_draft, tables_of, locations_draft}
+use Rattle.dw_unit.specs.Pending.{Kept, AreInRow, info_of, units_draft, tables_of, locations_draft}
 use Rattle.dw_dwarf.specs.DwarfValue.{DwarfValue}
 use Rattle.dw_dwarf.specs.Left.{units_of}
 use Rattle.dw_dwarf.specs.Written.{dwarf_lines, dwarf_ranges}
 use Rattle.dw_link.specs.Sets.{Parts}
-use Rattle.dw_link.specs.Steps.{is_below}
 
 -- so many bytes, and their text in a layout
 pub record Part : Type 0 where
@@ -93,19 +92,6 @@ ArePlaced [] [] = Unit {0}
 ArePlaced [] (p ∷ ps) = ⊥
 ArePlaced (d ∷ ds) [] = ⊥
 ArePlaced (d ∷ ds) (p ∷ ps) = (p.dwarf ≡ d) × AreInRow at_begin (units_of d) p.kept × ArePlaced ds ps
-
--- Every text is there in its place: symbols have values, each number fits its bytes, and none counts from a section that isn't
--- joined, as the text is there wherever such a section starts.
-
--- a layout in which the joined sections start where the parts of set n do
-pub record StartsAs (ps : List Placed) (symbols : List ℕ) (n : ℕ) (s : SectionId) (l : Layout) : Type 0 where
-  pub own : l.own_start ≡ section_size (take n ps) s
-  pub values : l.symbols ≡ symbols
-  pub starts : (t : SectionId) → IsTrue (is_below 11 t) → start_of l t ≡ section_size (take n ps) t
-
-abbrev pub AllFit : List Placed → List ℕ → Bool → Type 0
-AllFit ps symbols big =
-    (n : ℕ) (p : Placed) (s : SectionId) (q : Part) (l : Layout) → slice_get ps n ≡ Some p → part_of p s ≡ Some q → StartsAs ps symbols n s l → IsThere (q.text big l)
 
 -- What writers hold
 
