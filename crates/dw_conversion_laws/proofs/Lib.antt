@@ -1,0 +1,6 @@
+pub mod Results
+pub mod Shorter
+pub mod Expressions
+pub mod Lists
+pub mod Values
+pub mod Attributes
