@@ -4,3 +4,5 @@ pub mod Expressions
 pub mod Lists
 pub mod Values
 pub mod Attributes
+pub mod Walks
+pub mod Headers

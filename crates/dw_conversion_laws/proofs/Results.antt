@@ -34,6 +34,25 @@ module _ {A B : Type 0} (rest more : A → Result B ConvertError → Type 0) (sa
     pub then_once : (x y : B) → Then first rest (Ok x) → Then other more (Ok y) → x ≡ y
     then_once x y h k = then_at h.0 k.0 h.1 k.1 x y h.2 k.2
 
+-- the same where the first values are only alike
+module _ {A B : Type 0} (Alike : A → A → Type 0) (rest more : A → Result B ConvertError → Type 0) (Same : B → B → Type 0) (same : (a b : A) → Alike a b → (x y : B) → rest a (Ok x) → more b (Ok y) → Same x y) (first other : Result A ConvertError → Type 0) (once : (a b : A) → first (Ok a) → other (Ok b) → Alike a b) where
+  alike_at : (r s : Result A ConvertError) → first r → other s → (x y : B) → After r rest (Ok x) → After s more (Ok y) → Same x y
+  alike_at (Ok a) (Ok b) f g x y h k = same a b (once a b f g) x y h k
+  alike_at (Err u) s f g x y h k = absurd (no_error x u h)
+  alike_at (Ok a) (Err v) f g x y h k = absurd (no_error y v k)
+
+  pub then_alike : (x y : B) → Then first rest (Ok x) → Then other more (Ok y) → Same x y
+  then_alike x y h k = alike_at h.0 k.0 h.1 k.1 x y h.2 k.2
+
+-- what holds of a value that comes after another
+module _ {A B : Type 0} (Holds : B → Type 0) (rest : A → Result B ConvertError → Type 0) (first : Result A ConvertError → Type 0) (holds : (a : A) (x : B) → first (Ok a) → rest a (Ok x) → Holds x) where
+  holds_at : (r : Result A ConvertError) → first r → (x : B) → After r rest (Ok x) → Holds x
+  holds_at (Ok a) f x h = holds a x f h
+  holds_at (Err u) f x h = absurd (no_error x u h)
+
+  pub then_holds : (x : B) → Then first rest (Ok x) → Holds x
+  then_holds x h = holds_at h.0 h.1 x h.2
+
 -- what is made of a value in one way
 pub made_same : {A B : Type 0} (make : A → B) (a : A) (x y : B) → ◌≡◌ {A = Result B ConvertError} (Ok x) (Ok (make a)) → ◌≡◌ {A = Result B ConvertError} (Ok y) (Ok (make a)) → x ≡ y
 made_same {A} {B} make a x y h k = same_ok {X = ConvertError} (Ok (make a)) x y (sym h) (sym k)
