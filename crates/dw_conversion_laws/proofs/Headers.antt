@@ -146,7 +146,7 @@ is_made {A} a x e = same_ok {X = ConvertError} (Ok a) a x refl e
 image_closed : (refs : Bool) (texts : Texts) (a : Entry) (s t : Converting DirectoryId) → IsClosed s.program → directory_image refs texts a s ≡ Ok t → IsClosed t.program
 image_closed refs texts a s t h e =
     let p = step_parts (listed_image refs texts s.tables a.path) (λ name. Ok (directory_added refs texts s name)) t e in
-    subst (λ (z : Converting DirectoryId). IsClosed z.program) (is_made _ t p.2) (directory_closed s.program.program p.0.0 h)
+    subst (λ (z : Converting DirectoryId). IsClosed z.program) (is_made (directory_added refs texts s p.0) t p.2) (directory_closed s.program.program p.0.0 h)
 
 added_closed : (texts : Texts) (order refs : Bool) (ids : List DirectoryId) (a : Entry) (s t : Converting FileId) → IsClosed s.program → file_image texts order refs ids a s ≡ Ok t → IsClosed t.program
 added_closed texts order refs ids a s t h e =
@@ -154,7 +154,7 @@ added_closed texts order refs ids a s t h e =
     let q = step_parts (number_image a.directory) (λ n. directory_among ids n => λ directory. info_image texts order refs p.0.1 a => λ info. Ok (file_added texts order s p.0.0 directory info)) t p.2 in
     let r = step_parts (directory_among ids q.0) (λ directory. info_image texts order refs p.0.1 a => λ info. Ok (file_added texts order s p.0.0 directory info)) t q.2 in
     let u = step_parts (info_image texts order refs p.0.1 a) (λ info. Ok (file_added texts order s p.0.0 r.0 info)) t r.2 in
-    subst (λ (z : Converting FileId). IsClosed z.program) (is_made _ t u.2) (file_closed s.program.program (with_file p.0.0 r.0 (Some u.0.0)) (λ z. refl) h)
+    subst (λ (z : Converting FileId). IsClosed z.program) (is_made (file_added texts order s p.0.0 r.0 u.0) t u.2) (file_closed s.program.program (with_file p.0.0 r.0 (Some u.0.0)) (λ z. refl) h)
 
 module _ (texts : Texts) (read : Encoding) (big order : Bool) (bytes : List ℕ) (e : Encoding) (parameters : LineEncoding) where
   files_closed : (d : Converting DirectoryId × List ℕ) (x : Converting FileId) → IsClosed d.0.program → FilesOutcome texts read big order bytes e parameters d (Ok x) → IsClosed x.program

@@ -6,3 +6,5 @@ pub mod Values
 pub mod Attributes
 pub mod Walks
 pub mod Headers
+pub mod Sequences
+pub mod Programs
