@@ -8,3 +8,4 @@ pub mod Walks
 pub mod Headers
 pub mod Sequences
 pub mod Programs
+pub mod Units
