@@ -9,3 +9,4 @@ pub mod Headers
 pub mod Sequences
 pub mod Programs
 pub mod Units
+pub mod Converted
