@@ -10,3 +10,4 @@ pub mod Sequences
 pub mod Programs
 pub mod Units
 pub mod Converted
+pub mod Conversions
