@@ -11,3 +11,4 @@ pub mod Programs
 pub mod Units
 pub mod Converted
 pub mod Conversions
+pub mod Validity
