@@ -1,5 +1,5 @@
 -- What the attributes of an entry become is one thing.
-use Rattle.std.proofs.Common.{◌≡◌, ◌∙◌, sym, ap, ap₂, subst, ℕ, List, [], ◌∷◌, Option, refl}
+use Rattle.std.proofs.Common.{◌≡◌, ◌∙◌, sym, ap, subst, ℕ, List, [], ◌∷◌, Option}
 use Rattle.dw_base.specs.declared.address.Address.{Address}
 use Rattle.dw_base.specs.declared.address.DebugInfoRef.{DebugInfoRef}
 use Rattle.dw_base.specs.declared.constants.DwAt.{DwAt}

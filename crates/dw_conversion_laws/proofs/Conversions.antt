@@ -1,10 +1,9 @@
 -- What a file becomes is one thing, but for what is left of the last sequences of line programs.
-use Rattle.std.proofs.Common.{◌≡◌, ◌∙◌, sym, ap, ap₂, subst, ℕ, ◌+◌, List, [], ◌∷◌, ◌++◌, length, map, Option, Some, None, refl}
+use Rattle.std.proofs.Common.{◌≡◌, ◌∙◌, sym, ap, ap₂, subst, ℕ, ◌+◌, List, [], ◌∷◌, length, map, Option, Some, None, refl}
 use Rattle.dw_base.specs.Info.{ReadUnit}
 use Rattle.dw_base.specs.declared.address.Address.{Address}
 use Rattle.dw_base.specs.declared.address.DebugInfoRef.{DebugInfoRef}
 use Rattle.dw_base.specs.declared.ids.UnitEntryId.{UnitEntryId}
-use Rattle.dw_line.specs.LinePrograms.{LineProgramValue}
 use Rattle.dw_read.specs.Reading.{Reading, left}
 use Rattle.dw_read_units.specs.Passes.{units_there}
 use Rattle.dw_read_units.specs.Walks.{units_in}
@@ -17,14 +16,14 @@ use Rattle.dw_unit.specs.UnitValue.{UnitValue}
 use Rattle.dw_convert_lines.specs.EntryNames.{Tables}
 use Rattle.dw_dwarf.specs.ConvertedDwarf.{IsConverted, no_strings}
 use Rattle.dw_dwarf.specs.ConvertedUnit.{ConvertsUnit}
-use Rattle.dw_dwarf.specs.ConvertedUnits.{UnitBecomes, UnitsBecome, ConvertsUnits}
+use Rattle.dw_dwarf.specs.ConvertedUnits.{UnitBecomes, UnitsBecome}
 use Rattle.dw_dwarf.specs.DwarfValue.{DwarfValue}
 use Rattle.dw_dwarf.specs.EntryRefs.{id_at, entry_for, info_for, entry_from, own_entry, sum}
 use Rattle.dw_dwarf.specs.NewUnits.{unit_for, unit_with}
 use Rattle.dw_conversion_laws.proofs.Converted.{AreBuiltAlike, IsClosedUnit, settled_unit, unit_once}
 use Rattle.dw_conversion_laws.proofs.Expressions.{AnswersOnce}
 use Rattle.dw_conversion_laws.proofs.Results.{same_some}
-use Rattle.dw_conversion_laws.proofs.Units.{AreSameSections, AreUnitsAlike, numbered_alike, numbered_encoding}
+use Rattle.dw_conversion_laws.proofs.Units.{AreSameSections, numbered_alike, numbered_encoding}
 
 abbrev pub AreClosed : List UnitValue → Type 0
 AreClosed [] = Unit {0}
@@ -90,8 +89,8 @@ module _ {R E : Type 0} (reading : R → Reading) (answers : ℕ → Option Addr
     units_once k (x ∷ xs) (y ∷ ys) (r ∷ rs) t (u ∷ us) (v ∷ vs) new new_too m n a b =
         let offset : x.unit.header.offset.0 ≡ y.unit.header.offset.0 = sym m.0.from ∙ n.0.from in
         let moved : UnitBecomes reading answers e (entry_for one k x.unit.header.offset.0) (info_for one first) y t v b.0 =
-            subst (λ f. UnitBecomes reading answers e f (info_for one first) y t v b.0) (sym (entries_same one two found k x.unit.header.offset.0 y.unit.header.offset.0 offset))
-            (subst (λ g. UnitBecomes reading answers e (entry_for two k y.unit.header.offset.0) g y t v b.0) (sym (infos_same one two found first)) b.1) in
+        subst (λ f. UnitBecomes reading answers e f (info_for one first) y t v b.0) (sym (entries_same one two found k x.unit.header.offset.0 y.unit.header.offset.0 offset))
+        (subst (λ g. UnitBecomes reading answers e (entry_for two k y.unit.header.offset.0) g y t v b.0) (sym (infos_same one two found first)) b.1) in
         let s = unit_of_once (entry_for one k x.unit.header.offset.0) (info_for one first) x y r m.0 n.0 t u v a.0 b.0 a.1 moved in
         let more = units_once (k + 1) xs ys rs b.0 us vs new new_too m.1 n.1 (subst (λ z. UnitsBecome reading answers d one first (k + 1) xs z us new) s.tables a.2) b.2 in
         record {
@@ -109,7 +108,7 @@ module _ {R E : Type 0} (reading : R → Reading) (answers : ℕ → Option Addr
       let units : k.units.read.units ≡ h.units.read.units = same_some (units_there reading d) k.units.read.units h.units.read.units (there ∙ k.units.read.are) h.units.read.are in
       let found : (p : ℕ) → ids_at h.units.found.ids p ≡ ids_at k.units.found.ids p = λ p. h.units.read.ids p ∙ ap (λ us. id_among 0 us p) (sym units) ∙ sym (k.units.read.ids p) in
       let s = units_once h.units.found.ids k.units.found.ids found 0 0 h.units.found.units.items k.units.found.units.items h.units.read.units no_strings h.units.built k.units.built _ _ h.units.read.numbered
-          (subst (λ us. AreNumbered reading e k.units.found.units.items us) units k.units.read.numbered) h.units.become k.units.become in
+      (subst (λ us. AreNumbered reading e k.units.found.units.items us) units k.units.read.numbered) h.units.become k.units.become in
       record {
         closed = subst AreClosed (sym h.units.added) s.closed;
         closed_too = subst AreClosed (sym k.units.added) s.closed_too;
@@ -124,5 +123,15 @@ pub converted_once : {R E : Type 0} (reading : R → Reading) (answers : ℕ →
     → IsConverted reading answers d one → IsConverted reading answers d two → AreSameDwarfs one two
 converted_once reading answers functional orders d one two h k =
     converted_alike reading answers functional orders d d (record {
-      debug_abbrev = refl; debug_str = refl; debug_line_str = refl; debug_line = refl; debug_ranges = refl; debug_rnglists = refl; debug_loc = refl; debug_loclists = refl; debug_info = refl; debug_addr = refl; debug_str_offsets = refl;
+      debug_abbrev = refl;
+      debug_str = refl;
+      debug_line_str = refl;
+      debug_line = refl;
+      debug_ranges = refl;
+      debug_rnglists = refl;
+      debug_loc = refl;
+      debug_loclists = refl;
+      debug_info = refl;
+      debug_addr = refl;
+      debug_str_offsets = refl;
     }) one two h k

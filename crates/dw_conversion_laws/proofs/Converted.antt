@@ -1,5 +1,5 @@
 -- What a unit becomes is one thing, but for what is left of its line program's last sequence.
-use Rattle.std.proofs.Common.{◌≡◌, ◌∙◌, sym, ap, ap₂, subst, ℕ, List, [], ◌∷◌, map, Bool, Option, Some, None, Result, Ok, Err, refl}
+use Rattle.std.proofs.Common.{◌≡◌, ◌∙◌, sym, ap, subst, ℕ, List, [], ◌∷◌, map, Bool, Option, Some, None, Ok}
 use Rattle.dw_base.specs.Entries.{Row}
 use Rattle.dw_base.specs.declared.address.Address.{Address}
 use Rattle.dw_base.specs.declared.address.DebugInfoRef.{DebugInfoRef}
@@ -7,15 +7,13 @@ use Rattle.dw_base.specs.declared.common.Encoding.{Encoding}
 use Rattle.dw_base.specs.declared.ids.FileId.{FileId}
 use Rattle.dw_base.specs.declared.ids.UnitEntryId.{UnitEntryId}
 use Rattle.dw_base.specs.declared.offsets.DebugLineOffset.{DebugLineOffset}
-use Rattle.dw_line.specs.LinePrograms.{LineProgramValue, is_in_sequence, no_line_program}
+use Rattle.dw_line.specs.LinePrograms.{is_in_sequence}
 use Rattle.dw_read.specs.Reading.{Reading, left}
-use Rattle.dw_read.specs.declared.error.ReadError.{ReadError}
-use Rattle.dw_read_lines.specs.LineHeaders.{ReadLines, lines_at_place}
+use Rattle.dw_read_lines.specs.LineHeaders.{lines_at_place}
 use Rattle.dw_read_lines.specs.LineHeaderViews.{lines_of}
 use Rattle.dw_read_units.specs.Passes.{rows_reading}
 use Rattle.dw_read_units.specs.declared.unit_ref.UnitRef.{UnitRef}
 use Rattle.dw_sources.specs.RawListIters.{encoding_in}
-use Rattle.dw_sources.specs.declared.convert_error.ConvertError.{ConvertError}
 use Rattle.dw_unit.specs.UnitValue.{UnitValue}
 use Rattle.dw_convert.specs.Tables.{Tables as UnitTables}
 use Rattle.dw_convert_lines.specs.EntryImages.{Converting}
@@ -82,9 +80,9 @@ module _ {R E : Type 0} (reading : R → Reading) (answers : ℕ → Option Addr
         let big = (reading u.unit.now.header.body).is_big in
         let e = encoding_in u in
         let moved : EntriesConvert reading answers entries infos v files big e (plans_of h.rows) old k.values n =
-            subst (λ (b : Bool). EntriesConvert reading answers entries infos v files b e (plans_of h.rows) old k.values n) (sym alike.order)
-            (subst (λ (c : Encoding). EntriesConvert reading answers entries infos v files (reading v.unit.now.header.body).is_big c (plans_of h.rows) old k.values n) (sym alike.encoding)
-            (subst (λ (rs : List Row). EntriesConvert reading answers entries infos v files (reading v.unit.now.header.body).is_big (encoding_in v) (plans_of rs) old k.values n) rows k.images)) in
+        subst (λ (b : Bool). EntriesConvert reading answers entries infos v files b e (plans_of h.rows) old k.values n) (sym alike.order)
+        (subst (λ (c : Encoding). EntriesConvert reading answers entries infos v files (reading v.unit.now.header.body).is_big c (plans_of h.rows) old k.values n) (sym alike.encoding)
+        (subst (λ (rs : List Row). EntriesConvert reading answers entries infos v files (reading v.unit.now.header.body).is_big (encoding_in v) (plans_of rs) old k.values n) rows k.images)) in
         let s = entries_once big e (plans_of h.rows) old h.values k.values m n h.images moved in
         let built : (rs : List Row) (z : Both (List Values)) (w : UnitValue) → UnitValue = λ (rs : List Row) (z : Both (List Values)) (w : UnitValue). record w { entries = built_entries (plans_of rs) (plans_of rs) z.0; ranges = z.1.ranges; locations = z.1.locations } in
         let first : settled_unit after ≡ built h.rows (h.values, m) (settled_unit before) = ap settled_unit h.is in
@@ -107,11 +105,11 @@ module _ {R E : Type 0} (reading : R → Reading) (answers : ℕ → Option Addr
   unit_once before after after_too old new new_too h k =
       let p = program_once reading answers functional u v alike orders old (record { program = h.program; ids = h.files; tables = h.between }) (record { program = k.program; ids = k.files; tables = k.between }) h.program_is k.program_is in
       let moved : ConvertsEntries reading answers entries infos v h.files (with_program k.program before) (tables_in h.between.strings h.between.line_strings before) after_too (tables_in new_too.strings new_too.line_strings after_too) =
-          subst (λ (fs : List FileId). ConvertsEntries reading answers entries infos v fs (with_program k.program before) (tables_in h.between.strings h.between.line_strings before) after_too (tables_in new_too.strings new_too.line_strings after_too)) (sym p.ids)
-          (subst (λ (t : Tables). ConvertsEntries reading answers entries infos v k.files (with_program k.program before) (tables_in t.strings t.line_strings before) after_too (tables_in new_too.strings new_too.line_strings after_too)) (sym p.tables) k.tree) in
+      subst (λ (fs : List FileId). ConvertsEntries reading answers entries infos v fs (with_program k.program before) (tables_in h.between.strings h.between.line_strings before) after_too (tables_in new_too.strings new_too.line_strings after_too)) (sym p.ids)
+      (subst (λ (t : Tables). ConvertsEntries reading answers entries infos v k.files (with_program k.program before) (tables_in t.strings t.line_strings before) after_too (tables_in new_too.strings new_too.line_strings after_too)) (sym p.tables) k.tree) in
       let same : settled_unit (with_program h.program before) ≡ settled_unit (with_program k.program before) = λ i. record before { line_program = p.program i } in
       let t = tree_once reading answers functional u v alike entries infos h.files (tables_in h.between.strings h.between.line_strings before) (with_program h.program before) (with_program k.program before) after after_too
-          (tables_in new.strings new.line_strings after) (tables_in new_too.strings new_too.line_strings after_too) same h.tree moved in
+      (tables_in new.strings new.line_strings after) (tables_in new_too.strings new_too.line_strings after_too) same h.tree moved in
       record {
         closed = tree_closed reading answers functional u v alike entries infos h.files _ (with_program h.program before) after _ p.closed h.tree;
         closed_too = ap (λ (w : UnitValue). is_in_sequence w.line_program.program) k.tree.is ∙ p.closed_too;

@@ -1,25 +1,23 @@
 -- What expressions become is one thing.
-use Rattle.std.proofs.Common.{◌≡◌, ◌∙◌, sym, ap, ap₂, subst, ℕ, zero, suc, ◌-◌, ◌<◌, ◌≤◌, List, [], ◌∷◌, length, map, slice_get, Bool, Option, Some, None, Result, Ok, Err, ℤ, pos, ◌+ℤ◌, refl, arith}
-use Rattle.std.specs.List.{AllZip}
+use Rattle.std.proofs.Common.{◌≡◌, ◌∙◌, sym, ap, ap₂, subst, ℕ, zero, suc, ◌-◌, ◌<◌, ◌≤◌, List, [], ◌∷◌, length, map, slice_get, Bool, Option, Some, None, Result, Ok, ℤ, pos, refl, arith}
 use Rattle.dw_base.specs.Numbers.{Parser}
 use Rattle.dw_base.specs.declared.address.Address.{Address}
 use Rattle.dw_base.specs.declared.address.DebugInfoRef.{DebugInfoRef}
 use Rattle.dw_base.specs.declared.common.Encoding.{Encoding}
 use Rattle.dw_base.specs.declared.ids.UnitEntryId.{UnitEntryId}
 use Rattle.dw_expr.specs.Trees.{Plain, Node, plain, entry_value, tree_of}
-use Rattle.dw_expr.specs.Trees as tree
 use Rattle.dw_sources.specs.Operations.{Operation}
 use Rattle.dw_sources.specs.Operations as read
 use Rattle.dw_sources.specs.OperationTable.{operation_at}
 use Rattle.dw_sources.specs.declared.convert_error.ConvertError.{ConvertError}
-use Rattle.dw_convert.specs.Branches.{LeadsTo, TargetOutcome}
+use Rattle.dw_convert.specs.Branches.{TargetOutcome}
 use Rattle.dw_convert.specs.Expressions.{Becomes, AreOperations, OutcomeWithin, ExpressionOutcome}
 use Rattle.dw_convert.specs.Lists.{First}
-use Rattle.dw_convert.specs.Operations.{OperationOutcome, Is, Of, same_code, deref}
-use Rattle.dw_convert.specs.Outcomes.{Then, AddressOutcome, IndexOutcome}
+use Rattle.dw_convert.specs.Operations.{OperationOutcome, Is, Of}
+use Rattle.dw_convert.specs.Outcomes.{AddressOutcome, IndexOutcome}
 use Rattle.dw_convert.specs.References.{EntryOutcome, InfoOutcome, BaseOutcome}
 use Rattle.dw_convert.specs.Steps.{Step, step_of, step_at, AreSteps, begins}
-use Rattle.dw_conversion_laws.proofs.Results.{same_ok, same_some, not_both, no_error, after_once, then_once, made_once}
+use Rattle.dw_conversion_laws.proofs.Results.{same_ok, same_some, not_both, after_once, made_once}
 use Rattle.dw_conversion_laws.proofs.Shorter.{no_operation, operation_less}
 
 -- at most one address is answered for a number

@@ -8,15 +8,14 @@ use Rattle.dw_base.specs.declared.ids.DirectoryId.{DirectoryId}
 use Rattle.dw_base.specs.declared.ids.FileId.{FileId}
 use Rattle.dw_line.specs.LinePrograms.{LineProgramValue, is_in_sequence}
 use Rattle.dw_line.specs.ProgramTexts.{ProgramValue, with_directory, with_file}
+use Rattle.dw_line.specs.declared.line_string.FileInfo.{FileInfo}
 use Rattle.dw_line.specs.declared.line_string.LineString.{LineString}
 use Rattle.dw_line.specs.declared.line_string.LineString.TheVariants.{String}
-use Rattle.dw_read.specs.Reading.{Read}
 use Rattle.dw_read.specs.declared.error.ReadError.{ReadError}
-use Rattle.dw_read_lines.specs.LineEntries.{Entry, Layout, Directories, Files, Described, description_read, next_read}
+use Rattle.dw_read_lines.specs.LineEntries.{Entry, Layout, Directories, Files, Described, next_read}
 use Rattle.dw_sources.specs.declared.convert_error.ConvertError.{ConvertError}
 use Rattle.dw_convert_lines.specs.EntryImages.{Converting, directory_image, directory_added, directory_among, file_image, file_added, info_image, number_image}
 use Rattle.dw_convert_lines.specs.EntryNames.{Texts, Tables, listed_image}
-use Rattle.dw_convert_lines.specs.FormatLists.{IsConvertible}
 use Rattle.dw_convert_lines.specs.HeaderImages.{EntryList, BeginOutcome, Working, first_image, working_image, first_directories, first_files, FilesOutcome, DirectoriesOutcome, HeaderOutcome}
 use Rattle.dw_convert_lines.specs.Results.{◌=>◌, of_read, Then}
 use Rattle.dw_convert_lines.specs.Walks.{WalkOutcome}
@@ -102,7 +101,7 @@ module _ (texts : Texts) (read : Encoding) (big order : Bool) (bytes : List ℕ)
   directories_walked : (layout : Layout) (w v : Working) → AreWorkingAlike layout w v → (x y : Converting DirectoryId × List ℕ) → walk_directories layout w (Ok x) → walk_directories layout v (Ok y) → x ≡ y
   directories_walked layout w v a x y h k =
       let moved : walk_directories layout (record { name = w.name; tables = w.tables; count = v.count; bytes = w.bytes }) (Ok y) =
-          subst (λ z. walk_directories layout z (Ok y)) (λ i. record { name = sym a.name i; tables = sym a.tables i; count = v.count; bytes = sym a.bytes i }) k in
+      subst (λ z. walk_directories layout z (Ok y)) (λ i. record { name = sym a.name i; tables = sym a.tables i; count = v.count; bytes = sym a.bytes i }) k in
       walk_once (next_read big layout) (AreNear layout) (near_same big layout) (near_next layout) (directory_image (nat_le 5 e.version) texts) w.count v.count a.near w.bytes (first_directories e parameters w) x y h moved
 
   directories_once : (l m : EntryList) → l.layout ≡ m.layout → (w v : Working) → AreWorkingAlike l.layout w v → (x y : Converting FileId) → DirectoriesOutcome texts read big order bytes e parameters l w (Ok x) → DirectoriesOutcome texts read big order bytes e parameters m v (Ok y) → x ≡ y
@@ -148,13 +147,16 @@ image_closed refs texts a s t h e =
     let p = step_parts (listed_image refs texts s.tables a.path) (λ name. Ok (directory_added refs texts s name)) t e in
     subst (λ (z : Converting DirectoryId). IsClosed z.program) (is_made (directory_added refs texts s p.0) t p.2) (directory_closed s.program.program p.0.0 h)
 
+made_closed : (texts : Texts) (order : Bool) (s : Converting FileId) (name : LineString) (directory : DirectoryId) (info : FileInfo × Tables) (t : Converting FileId) → IsClosed s.program → ◌≡◌ {A = Result (Converting FileId) ConvertError} (Ok (file_added texts order s name directory info)) (Ok t) → IsClosed t.program
+made_closed texts order s name directory info t h e = subst (λ (z : Converting FileId). IsClosed z.program) (is_made (file_added texts order s name directory info) t e) (file_closed s.program.program (with_file name directory (Some info.0)) (λ z. refl) h)
+
 added_closed : (texts : Texts) (order refs : Bool) (ids : List DirectoryId) (a : Entry) (s t : Converting FileId) → IsClosed s.program → file_image texts order refs ids a s ≡ Ok t → IsClosed t.program
 added_closed texts order refs ids a s t h e =
     let p = step_parts (listed_image refs texts s.tables a.path) (λ name. number_image a.directory => λ n. directory_among ids n => λ directory. info_image texts order refs name.1 a => λ info. Ok (file_added texts order s name.0 directory info)) t e in
     let q = step_parts (number_image a.directory) (λ n. directory_among ids n => λ directory. info_image texts order refs p.0.1 a => λ info. Ok (file_added texts order s p.0.0 directory info)) t p.2 in
     let r = step_parts (directory_among ids q.0) (λ directory. info_image texts order refs p.0.1 a => λ info. Ok (file_added texts order s p.0.0 directory info)) t q.2 in
     let u = step_parts (info_image texts order refs p.0.1 a) (λ info. Ok (file_added texts order s p.0.0 r.0 info)) t r.2 in
-    subst (λ (z : Converting FileId). IsClosed z.program) (is_made (file_added texts order s p.0.0 r.0 u.0) t u.2) (file_closed s.program.program (with_file p.0.0 r.0 (Some u.0.0)) (λ z. refl) h)
+    made_closed texts order s p.0.0 r.0 u.0 t h u.2
 
 module _ (texts : Texts) (read : Encoding) (big order : Bool) (bytes : List ℕ) (e : Encoding) (parameters : LineEncoding) where
   files_closed : (d : Converting DirectoryId × List ℕ) (x : Converting FileId) → IsClosed d.0.program → FilesOutcome texts read big order bytes e parameters d (Ok x) → IsClosed x.program
@@ -162,7 +164,7 @@ module _ (texts : Texts) (read : Encoding) (big order : Bool) (bytes : List ℕ)
       then_holds (λ (z : Converting FileId). IsClosed z.program) _
       (BeginOutcome (nat_le 5 read.version) Files big read d.1)
       (λ f x g p. then_holds (λ (z : Converting FileId). IsClosed z.program) _ (WalkOutcome (next_read big f.layout) (file_image texts order (nat_le 5 e.version) d.0.ids) f.count f.bytes (first_files (nat_le 5 read.version) d.0))
-        (λ w x k q. subst (λ (z : Converting FileId). IsClosed z.program) (sym (is_made x w.0 q)) (walk_keeps (next_read big f.layout) (file_image texts order (nat_le 5 e.version) d.0.ids) (λ (z : Converting FileId). IsClosed z.program) (added_closed texts order (nat_le 5 e.version) d.0.ids) f.count f.bytes (first_files (nat_le 5 read.version) d.0) w closed k)) x p) x h
+      (λ w x k q. subst (λ (z : Converting FileId). IsClosed z.program) (sym (is_made x w.0 q)) (walk_keeps (next_read big f.layout) (file_image texts order (nat_le 5 e.version) d.0.ids) (λ (z : Converting FileId). IsClosed z.program) (added_closed texts order (nat_le 5 e.version) d.0.ids) f.count f.bytes (first_files (nat_le 5 read.version) d.0) w closed k)) x p) x h
 
   directories_closed : (l : EntryList) (w : Working) (x : Converting FileId) → DirectoriesOutcome texts read big order bytes e parameters l w (Ok x) → IsClosed x.program
   directories_closed l w x h =

@@ -1,5 +1,5 @@
 -- What the lists of ranges and of locations become is one thing.
-use Rattle.std.proofs.Common.{◌≡◌, ◌∙◌, sym, ap, ap₂, subst, ℕ, List, [], ◌∷◌, Bool, true, false, ◌||◌, Option, Some, None, Result, Ok, Err, refl}
+use Rattle.std.proofs.Common.{◌≡◌, ◌∙◌, sym, ap, ap₂, subst, ℕ, List, [], ◌∷◌, Bool, ◌||◌, Option, Some, None, Result, Ok, refl}
 use Rattle.dw_base.specs.Numbers.{Parser}
 use Rattle.dw_base.specs.declared.address.Address.{Address}
 use Rattle.dw_expr.specs.Trees.{Node}
@@ -14,7 +14,7 @@ use Rattle.dw_convert.specs.Locations.{SpotOutcome, LocationOutcome, location_at
 use Rattle.dw_convert.specs.Outcomes.{Then, AddressOutcome, IndexOutcome}
 use Rattle.dw_convert.specs.Ranges.{RangeOutcome, pair}
 use Rattle.dw_conversion_laws.proofs.Expressions.{AnswersOnce, address_once, index_once}
-use Rattle.dw_conversion_laws.proofs.Results.{same_ok, not_both, then_once, made_once}
+use Rattle.dw_conversion_laws.proofs.Results.{same_ok, then_once, made_once}
 
 -- Items that are read one after the other up to their close
 

@@ -1,7 +1,6 @@
 -- What a line program becomes is one thing, but for what is left of its last sequence.
-use Rattle.std.proofs.Common.{◌≡◌, ◌∙◌, sym, ap, subst, ℕ, List, Bool, true, false, Option, Some, None, Result, Ok, Err, refl}
+use Rattle.std.proofs.Common.{◌≡◌, ◌∙◌, sym, ap, subst, ℕ, List, Bool, true, false, Option, Some, None, Result, Ok}
 use Rattle.std.specs.Option.{option_map}
-use Rattle.std.specs.Prelude.{unwrap_or}
 use Rattle.dw_base.specs.declared.address.Address.{Address}
 use Rattle.dw_base.specs.declared.common.Encoding.{Encoding}
 use Rattle.dw_base.specs.declared.common.LineEncoding.{LineEncoding}
@@ -107,7 +106,7 @@ module _ {R E : Type 0} (reading : R → Reading) (answers : ℕ → Option Addr
   lines_once p q alike x y h k =
       then_alike (λ a b. (a ≡ b) × IsClosed a.program) (FinishOutcome reading answers p.header) (FinishOutcome reading answers q.header) AreAlikeLines
       (λ c d s x y f g. finish_once answers functional (lines_of reading p.header).machine p.header.encoding.encoding.version (left (reading p.header.program)) c s.1 x y f
-        (subst (λ (l : ReadLines). FinishFrom answers l.machine l.encoding.version l.instructions c y) (sym alike.lines) (subst (λ d. FinishFrom answers (lines_of reading q.header).machine q.header.encoding.encoding.version (left (reading q.header.program)) d y) (sym s.0) g)))
+      (subst (λ (l : ReadLines). FinishFrom answers l.machine l.encoding.version l.instructions c y) (sym alike.lines) (subst (λ d. FinishFrom answers (lines_of reading q.header).machine q.header.encoding.encoding.version (left (reading q.header.program)) d y) (sym s.0) g)))
       (ProgramOutcome reading texts p None None t) (ProgramOutcome reading texts q None None t) first x y h k
     where
       first : (a b : Converting FileId) → ProgramOutcome reading texts p None None t (Ok a) → ProgramOutcome reading texts q None None t (Ok b) → (a ≡ b) × IsClosed a.program
@@ -116,7 +115,7 @@ module _ {R E : Type 0} (reading : R → Reading) (answers : ℕ → Option Addr
           let big = (reading p.header.tables).is_big in
           let order = (reading p.header.parameters.operand_counts).is_big in
           let moved : LinesFrom texts t l big order (Ok b) =
-              subst (λ o. LinesFrom texts t l big o (Ok b)) (sym alike.counts)
-              (subst (λ o. LinesFrom texts t l o (reading q.header.parameters.operand_counts).is_big (Ok b)) (sym alike.tables)
-              (subst (λ m. LinesFrom texts t m (reading q.header.tables).is_big (reading q.header.parameters.operand_counts).is_big (Ok b)) (sym alike.lines) g)) in
+          subst (λ o. LinesFrom texts t l big o (Ok b)) (sym alike.counts)
+          (subst (λ o. LinesFrom texts t l o (reading q.header.parameters.operand_counts).is_big (Ok b)) (sym alike.tables)
+          (subst (λ m. LinesFrom texts t m (reading q.header.tables).is_big (reading q.header.parameters.operand_counts).is_big (Ok b)) (sym alike.lines) g)) in
           (header_from_once texts (parameters_in l) l.machine.opcode_base l.encoding big order l.tables t a b f moved, header_from_closed texts (parameters_in l) l.machine.opcode_base l.encoding big order l.tables t a f)

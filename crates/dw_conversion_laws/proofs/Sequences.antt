@@ -1,24 +1,21 @@
 -- What the instructions of a line program become is one thing.
-use Rattle.std.proofs.Common.{◌≡◌, ◌∙◌, sym, ap, ap₂, subst, ℕ, ◌<◌, List, [], ◌∷◌, ◌++◌, length, map, Bool, true, false, Option, Some, None, Result, Ok, Err, refl, arith}
+use Rattle.std.proofs.Common.{◌≡◌, ◌∙◌, sym, ap, ap₂, subst, ℕ, ◌<◌, List, [], ◌∷◌, ◌++◌, length, map, Bool, true, false, Option, Some, None, Ok, refl, arith}
 use Rattle.std.proofs.lemmas.Bool.{true≢false}
 use Rattle.dw_base.specs.Numbers.{◌>>=◌}
 use Rattle.dw_base.proofs.NumberLaws.{bind_parts}
 use Rattle.dw_base.specs.declared.address.Address.{Address}
 use Rattle.dw_base.specs.declared.ids.FileId.{FileId}
-use Rattle.dw_line.specs.LinePrograms.{LineProgramValue}
 use Rattle.dw_line.specs.LineRows.{last_offset}
 use Rattle.dw_line.specs.ProgramTexts.{ProgramValue, minimum_length}
 use Rattle.dw_line.specs.Programs.{SequenceValue}
 use Rattle.dw_line.specs.RawRows.{base_of}
 use Rattle.dw_line.specs.declared.row.LineRow.{LineRow}
-use Rattle.dw_line_machine.specs.Instructions.{instruction_at}
-use Rattle.dw_line_machine.specs.LineMachine.{LineHeader, Registers, Instruction, Copy, Special, EndSequence, Shown, Row, End, begin, shows, leaves}
-use Rattle.dw_sources.specs.declared.convert_error.ConvertError.{ConvertError}
-use Rattle.dw_convert_lines.specs.ReadRows.{ReadSequence, IsSequence, AreSequences, AreRead, stepped, walk, set_before_rows}
+use Rattle.dw_line_machine.specs.LineMachine.{LineHeader, Registers, Instruction, EndSequence, Shown, Row, End, begin, shows, leaves}
+use Rattle.dw_convert_lines.specs.ReadRows.{ReadSequence, IsSequence, AreSequences, AreRead, stepped, walk}
 use Rattle.dw_convert_lines.specs.RowImages.{AddressImage, row_image, offset_image, AreRowImages, AreSequenceImages, IsSequenceImage}
 use Rattle.dw_convert_lines.specs.RowOutcomes.{AddsSequences}
 use Rattle.dw_conversion_laws.proofs.Expressions.{AnswersOnce}
-use Rattle.dw_conversion_laws.proofs.Results.{same_ok, same_some, not_both}
+use Rattle.dw_conversion_laws.proofs.Results.{same_ok}
 
 -- Instructions that show rows alone end no sequence.
 

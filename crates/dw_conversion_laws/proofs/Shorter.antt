@@ -1,5 +1,5 @@
 -- An operation takes a byte at least.
-use Rattle.std.proofs.Common.{◌≡◌, ◌∙◌, sym, ap, ℕ, ◌-◌, ◌<◌, ◌≤◌, List, [], ◌∷◌, length, take, drop, Bool, true, false, Option, Some, None, Result, Ok, Err, ℤ, refl, arith, length-drop, nat_le}
+use Rattle.std.proofs.Common.{◌≡◌, ◌∙◌, sym, ap, ℕ, ◌-◌, ◌<◌, ◌≤◌, List, [], ◌∷◌, length, take, drop, Bool, true, false, Option, Some, None, Result, Ok, Err, refl, arith, length-drop, nat_le}
 use Rattle.std.specs.Prelude.{◌==◌, if◌then◌else◌}
 use Rattle.std.specs.Result.{result_ok}
 use Rattle.dw_base.specs.Numbers.{when, bytes_at, number_at, value_of, word_of}
@@ -14,7 +14,7 @@ use Rattle.dw_read.proofs.Items.{then_parts, if_so_parts}
 use Rattle.dw_read.proofs.Declared.{uleb_shorter, uleb16_shorter, sleb_shorter}
 use Rattle.dw_sources.specs.Operations.{Operation, Address, AddressIndex, ConstantIndex, UnsignedConstant, SignedConstant, ConstantType, FrameOffset, RegisterOffset, RegisterType, Pick, DerefSize, DerefType, PlusConstant, Skip, Branch, Call, CallRef, VariableValue, Convert, Reinterpret, EntryValue, Register, ImplicitValue, ImplicitPointer, Piece, BitPiece, ParameterRef, WasmLocal, WasmGlobal, WasmStack}
 use Rattle.dw_sources.specs.Operands.{signed_read, signed_of, uleb32_read, base_read, base_of, block_read, short_block_read, info_place_read}
-use Rattle.dw_sources.specs.OperationTable.{Row, among, one, two, piece_read, wasm_of, wasm_read, invalid, plain_of, literals, stack_operations, entry_operations, typed_operations, location_rows, locations, first_of, without_operand, behind, operation_read, operation_at, is_from}
+use Rattle.dw_sources.specs.OperationTable.{one, two, piece_read, wasm_of, wasm_read, invalid, plain_of, literals, stack_operations, entry_operations, typed_operations, location_rows, locations, first_of, without_operand, behind, operation_read, operation_at, is_from}
 
 -- what is read leaves no more bytes than there were
 abbrev pub Shortens : {A : Type 0} → Read A → Type 0

@@ -1,19 +1,15 @@
 -- Units that were read, which stand for the same.
-use Rattle.std.proofs.Common.{◌≡◌, ◌∙◌, sym, ap, ap₂, subst, ℕ, zero, suc, ◌<◌, List, [], ◌∷◌, length, map, Bool, Option, Some, None, Result, Ok, Err, refl, arith}
+use Rattle.std.proofs.Common.{◌≡◌, ◌∙◌, sym, ap, subst, ℕ, zero, suc, ◌<◌, List, [], ◌∷◌, length, map, Bool, Option, Some, None, Result, Ok, refl, arith}
 use Rattle.std.specs.Prelude.{◌==◌, unwrap_or, if◌then◌else◌}
 use Rattle.dw_base.specs.Abbreviations.{Declaration}
 use Rattle.dw_base.specs.Entries.{ReadEntry, Mark, Open, Row, mark_at, next_depth}
 use Rattle.dw_base.specs.Info.{ReadUnit}
-use Rattle.dw_base.specs.Numbers.{Parser}
 use Rattle.dw_base.specs.declared.common.Encoding.{Encoding}
 use Rattle.dw_base.specs.declared.common.Format.{Format}
 use Rattle.dw_base.specs.declared.constants.DwUt.{DwUt}
 use Rattle.dw_base.specs.declared.constants.TheConstants.{DW_UT_compile, DW_UT_split_compile, DW_AT_str_offsets_base, DW_AT_addr_base, DW_AT_loclists_base, DW_AT_rnglists_base, DW_AT_low_pc, DW_AT_GNU_addr_base, DW_AT_GNU_ranges_base}
-use Rattle.dw_base.specs.declared.offsets.DebugLineOffset.{DebugLineOffset}
-use Rattle.dw_read.specs.Fields.{header_of}
 use Rattle.dw_read.specs.FormReasons.{mark_read}
 use Rattle.dw_read.specs.Reading.{Reading, left}
-use Rattle.dw_read.specs.Reasons.{address_at}
 use Rattle.dw_read.specs.Took.{option_of}
 use Rattle.dw_read.specs.Values.{Value}
 use Rattle.dw_read.specs.declared.error.ReadError.{ReadError}
@@ -22,9 +18,8 @@ use Rattle.dw_read.proofs.FormLaws.{mark_law}
 use Rattle.dw_read.proofs.Items.{then_parts}
 use Rattle.dw_read.proofs.Laws.{read_is}
 use Rattle.dw_read.proofs.Shorter.{mark_shorter}
-use Rattle.dw_read_units.specs.Lookups.{StandsAt, bytes_from, indexed}
 use Rattle.dw_read_units.specs.Passes.{rows_reading}
-use Rattle.dw_read_units.specs.RootFields.{IsLowPc, bases_of}
+use Rattle.dw_read_units.specs.RootFields.{IsLowPc}
 use Rattle.dw_read_units.specs.Roots.{base_or, first_part, last_value, named_of, program_in}
 use Rattle.dw_read_units.specs.Walks.{rows_read}
 use Rattle.dw_read_units.specs.declared.dwarf.Dwarf.{Dwarf}

@@ -15,7 +15,7 @@ use Rattle.dw_unit.specs.UnitFaults.{holes_fail}
 use Rattle.dw_unit.specs.UnitValue.{UnitValue}
 use Rattle.dw_unit.specs.Valid.{IsWritableAt, AreWritable, ReferencesLead}
 use Rattle.dw_unit.specs.Written.{past_table}
-use Rattle.dw_writer.specs.Drafts.{Draft, Info, then_draft}
+use Rattle.dw_writer.specs.Drafts.{Draft, then_draft}
 use Rattle.dw_dwarf.specs.DwarfValue.{DwarfValue}
 use Rattle.dw_dwarf.specs.Valid.{IsValid, found_from, empty_ends, settled_units}
 use Rattle.dw_conversion_laws.proofs.Conversions.{AreClosed, AreSameDwarfs, settled_dwarf}

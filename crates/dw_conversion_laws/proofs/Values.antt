@@ -1,5 +1,5 @@
 -- What the value of an attribute becomes is one thing.
-use Rattle.std.proofs.Common.{◌≡◌, ◌∙◌, sym, ap, subst, ℕ, List, Bool, true, false, Option, Some, None, Result, Ok, Err, refl, not}
+use Rattle.std.proofs.Common.{◌≡◌, ◌∙◌, sym, ap, subst, ℕ, List, Bool, true, false, Option, Some, None, Result, Ok, not}
 use Rattle.std.specs.Prelude.{◌==◌, ℤ}
 use Rattle.dw_base.specs.declared.address.Address.{Address}
 use Rattle.dw_base.specs.declared.address.DebugInfoRef.{DebugInfoRef}
@@ -8,8 +8,6 @@ use Rattle.dw_base.specs.declared.constants.TheConstants.{DW_FORM_flag_present, 
 use Rattle.dw_base.specs.declared.ids.FileId.{FileId}
 use Rattle.dw_base.specs.declared.ids.UnitEntryId.{UnitEntryId}
 use Rattle.dw_base.specs.declared.offsets.DebugLineOffset.{DebugLineOffset}
-use Rattle.dw_entries.specs.declared.value.AttributeValue.{AttributeValue}
-use Rattle.dw_entries.specs.declared.value.AttributeValue.TheVariants as built
 use Rattle.dw_expr.specs.Trees.{Node}
 use Rattle.dw_lists.specs.declared.location.Location.{Location}
 use Rattle.dw_lists.specs.declared.range.Range.{Range}
@@ -21,8 +19,7 @@ use Rattle.dw_read_units.specs.declared.unit_ref.UnitRef.{UnitRef}
 use Rattle.dw_sources.specs.RawLists.{range_at, location_at}
 use Rattle.dw_sources.specs.RawListIters.{encoding_in, ranges_section, locations_section}
 use Rattle.dw_sources.specs.declared.convert_error.ConvertError.{ConvertError}
-use Rattle.dw_convert.specs.Attributes.{Seen, NamedOutcome, DeclaredOutcome, PresentOutcome, FormOutcome, AttributeOutcome, number_by, raw_of}
-use Rattle.dw_convert.specs.Constants.{same_value}
+use Rattle.dw_convert.specs.Attributes.{Seen, DeclaredOutcome, PresentOutcome, AttributeOutcome, number_by, raw_of}
 use Rattle.dw_convert.specs.Exprlocs.{SpelledOr, ExprlocOutcome, is_index}
 use Rattle.dw_convert.specs.Expressions.{ExpressionOutcome}
 use Rattle.dw_convert.specs.Files.{file_image, declared_image}
@@ -31,12 +28,12 @@ use Rattle.dw_convert.specs.Lists.{Converted}
 use Rattle.dw_convert.specs.LocationLists.{IsLocationList}
 use Rattle.dw_convert.specs.Locations.{LocationOutcome, is_base_item, kept_locations}
 use Rattle.dw_convert.specs.Lookups.{address_of}
-use Rattle.dw_convert.specs.Outcomes.{After, AddressOutcome, IndexOutcome}
+use Rattle.dw_convert.specs.Outcomes.{AddressOutcome, IndexOutcome}
 use Rattle.dw_convert.specs.RangeLists.{IsRangeList}
 use Rattle.dw_convert.specs.Ranges.{RangeOutcome, is_base, kept}
 use Rattle.dw_convert.specs.References.{EntryOutcome, InfoOutcome}
 use Rattle.dw_convert.specs.Sources.{string_in, line_string_in, string_of, ranges_of, locations_of}
-use Rattle.dw_convert.specs.Values.{Made, MadeOf, RangesOutcome, LocationsOutcome, ValueOutcome, program_image, order_or_little}
+use Rattle.dw_convert.specs.Values.{Made, RangesOutcome, LocationsOutcome, ValueOutcome, program_image, order_or_little}
 use Rattle.dw_conversion_laws.proofs.Expressions.{AnswersOnce, address_once, index_once, expression_once}
 use Rattle.dw_conversion_laws.proofs.Lists.{list_once, range_once, location_once}
 use Rattle.dw_conversion_laws.proofs.Results.{same_ok, same_some, after_once, made_once, result_once}
@@ -63,10 +60,10 @@ module _ {R E : Type 0} (reading : R → Reading) (answers : ℕ → Option Addr
   range_list_once : (p : ℕ) (xs ys : List Range) → IsRangeList reading answers u p xs → IsRangeList reading answers v p ys → xs ≡ ys
   range_list_once p xs ys h k =
       let moved : RangesFrom (address_of reading u) (encoding_in u) u.unit.now.low_pc (ranges_section reading u) p k.images =
-          subst (λ f. RangesFrom f (encoding_in u) u.unit.now.low_pc (ranges_section reading u) p k.images) (sym alike.addresses)
-          (subst (λ e. RangesFrom (address_of reading v) e u.unit.now.low_pc (ranges_section reading u) p k.images) (sym alike.encoding)
-          (subst (λ b. RangesFrom (address_of reading v) (encoding_in v) b (ranges_section reading u) p k.images) (sym alike.base)
-          (subst (λ s. RangesFrom (address_of reading v) (encoding_in v) v.unit.now.low_pc s p k.images) (sym alike.ranges) k.converted))) in
+      subst (λ f. RangesFrom f (encoding_in u) u.unit.now.low_pc (ranges_section reading u) p k.images) (sym alike.addresses)
+      (subst (λ e. RangesFrom (address_of reading v) e u.unit.now.low_pc (ranges_section reading u) p k.images) (sym alike.encoding)
+      (subst (λ b. RangesFrom (address_of reading v) (encoding_in v) b (ranges_section reading u) p k.images) (sym alike.base)
+      (subst (λ s. RangesFrom (address_of reading v) (encoding_in v) v.unit.now.low_pc s p k.images) (sym alike.ranges) k.converted))) in
       let s = list_once (RangeOutcome answers (address_of reading u)) (range_once answers functional (address_of reading u)) is_base (range_at (ranges_section reading u).is_big (encoding_in u)) (not (u.unit.now.low_pc == 0)) (bytes_from p (ranges_section reading u)) h.images k.images h.converted moved in
       h.is ∙ ap kept s ∙ sym k.is
 
@@ -77,15 +74,15 @@ module _ {R E : Type 0} (reading : R → Reading) (answers : ℕ → Option Addr
   location_list_once : (p : ℕ) (xs ys : List Location) → IsLocationList reading answers entries infos u p xs → IsLocationList reading answers entries infos v p ys → xs ≡ ys
   location_list_once p xs ys h k =
       let moved : LocationsFrom (address_of reading u) (encoding_in u) u.unit.now.low_pc (locations_section reading u) p k.images =
-          subst (λ f. LocationsFrom f (encoding_in u) u.unit.now.low_pc (locations_section reading u) p k.images) (sym alike.addresses)
-          (subst (λ e. LocationsFrom (address_of reading v) e u.unit.now.low_pc (locations_section reading u) p k.images) (sym alike.encoding)
-          (subst (λ b. LocationsFrom (address_of reading v) (encoding_in v) b (locations_section reading u) p k.images) (sym alike.base)
-          (subst (λ s. LocationsFrom (address_of reading v) (encoding_in v) v.unit.now.low_pc s p k.images) (sym alike.locations) k.converted))) in
+      subst (λ f. LocationsFrom f (encoding_in u) u.unit.now.low_pc (locations_section reading u) p k.images) (sym alike.addresses)
+      (subst (λ e. LocationsFrom (address_of reading v) e u.unit.now.low_pc (locations_section reading u) p k.images) (sym alike.encoding)
+      (subst (λ b. LocationsFrom (address_of reading v) (encoding_in v) b (locations_section reading u) p k.images) (sym alike.base)
+      (subst (λ s. LocationsFrom (address_of reading v) (encoding_in v) v.unit.now.low_pc s p k.images) (sym alike.locations) k.converted))) in
       let big = (locations_section reading u).is_big in
       let inner = expression_once answers functional (address_of reading u) entries infos (encoding_in u) big in
       let s = list_once (LocationOutcome answers (address_of reading u) (ExpressionOutcome answers (address_of reading u) entries infos big (encoding_in u)))
-          (location_once answers functional (address_of reading u) (ExpressionOutcome answers (address_of reading u) entries infos big (encoding_in u)) inner)
-          is_base_item (location_at big (encoding_in u)) (not (u.unit.now.low_pc == 0)) (bytes_from p (locations_section reading u)) h.images k.images h.converted moved in
+      (location_once answers functional (address_of reading u) (ExpressionOutcome answers (address_of reading u) entries infos big (encoding_in u)) inner)
+      is_base_item (location_at big (encoding_in u)) (not (u.unit.now.low_pc == 0)) (bytes_from p (locations_section reading u)) h.images k.images h.converted moved in
       h.is ∙ ap kept_locations s ∙ sym k.is
 
   made_ranges : (make : List Range → Image) (p : ℕ) (i j : Image) → Made (RangesOutcome reading answers entries infos u p) make (Ok i) → Made (RangesOutcome reading answers entries infos v p) make (Ok j) → i ≡ j

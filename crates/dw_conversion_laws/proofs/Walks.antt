@@ -1,8 +1,8 @@
 -- What the directories and the files of a line program become is one thing.
-use Rattle.std.proofs.Common.{◌≡◌, ◌∙◌, sym, ap, ap₂, subst, ℕ, zero, suc, ◌-◌, List, [], ◌∷◌, Bool, true, false, Option, Some, None, Result, Ok, Err, refl}
+use Rattle.std.proofs.Common.{◌≡◌, ◌∙◌, sym, ap, ap₂, subst, ℕ, ◌-◌, List, [], ◌∷◌, Bool, Option, Some, None, Result, Ok, Err, refl}
 use Rattle.dw_read.specs.Reading.{Read}
 use Rattle.dw_read.specs.declared.error.ReadError.{ReadError}
-use Rattle.dw_read_lines.specs.LineEntries.{Entry, Layout, Directories, Files, Described, next_read}
+use Rattle.dw_read_lines.specs.LineEntries.{Layout, Directories, Files, Described, next_read}
 use Rattle.dw_sources.specs.declared.convert_error.ConvertError.{ConvertError}
 use Rattle.dw_convert_lines.specs.Results.{◌=>◌}
 use Rattle.dw_convert_lines.specs.Walks.{images, First, WalkedOver}
