@@ -58,7 +58,7 @@ module _ (one two : EntryIds) (same : (p : ℕ) → ids_at one p ≡ ids_at two 
   infos_same : (first : ℕ) → info_for one first ≡ info_for two first
   infos_same first = λ i p. ap (entry_from first) (same p) i
 
-module _ {R E : Type 0} (reading : R → Reading) (answers : ℕ → Option Address → Type 0) (functional : AnswersOnce answers) (orders : (r s : R) → (reading r).is_big ≡ (reading s).is_big) (d e : Dwarf R E) (sections : AreSameSections reading d e) where
+module _ {R E : Type 0} (reading : R → Reading) (answers : ℕ → Option Address → Type 0) (functional : AnswersOnce answers) (d e : Dwarf R E) (sections : AreSameSections reading d e) where
   module _ (entries : ℕ → Option UnitEntryId) (infos : ℕ → Option DebugInfoRef) (x y : NumberedUnit R E) (r : ReadUnit) (m : IsNumbered reading d x r) (n : IsNumbered reading e y r) where
     unit_of_once : (old : Tables) (a b : UnitValue) (new new_too : Tables) → UnitBecomes reading answers d entries infos x old a new → UnitBecomes reading answers e entries infos y old b new_too → AreBuiltAlike a b new new_too
     unit_of_once old a b new new_too h k =
@@ -67,12 +67,12 @@ module _ {R E : Type 0} (reading : R → Reading) (answers : ℕ → Option Addr
         let same : AreSameSections reading u.dwarf.now v.dwarf.now = subst (λ f. AreSameSections reading f v.dwarf.now) (sym h.of.file) (subst (λ f. AreSameSections reading d f) (sym k.of.file) sections) in
         let mine : IsNumbered reading u.dwarf.now x r = subst (λ f. IsNumbered reading f x r) (sym h.of.file) m in
         let other : IsNumbered reading v.dwarf.now y r = subst (λ f. IsNumbered reading f y r) (sym k.of.file) n in
-        let order = orders x.unit.header.body y.unit.header.body in
+        let order = m.order ∙ ap (λ (i : Reading). i.is_big) sections.debug_info ∙ sym n.order in
         let alike = numbered_alike reading u v same x y h.of.unit k.of.unit r mine other order in
         let encoding = numbered_encoding reading u v same x y h.of.unit k.of.unit r mine other order in
         let count : x.entries ≡ y.entries = m.count ∙ sym n.count in
         let fresh : unit_for y ≡ unit_for x = λ i. unit_with (sym encoding i) (sym count i) in
-        unit_once reading answers functional orders entries infos u v alike (unit_for x) a b old new new_too h.becomes (subst (λ w. ConvertsUnit reading answers entries infos v w old b new_too) fresh k.becomes)
+        unit_once reading answers functional entries infos u v alike (unit_for x) a b old new new_too h.becomes (subst (λ w. ConvertsUnit reading answers entries infos v w old b new_too) fresh k.becomes)
 
   module _ (one two : EntryIds) (found : (p : ℕ) → ids_at one p ≡ ids_at two p) (first : ℕ) where
     units_once : (k : ℕ) (xs ys : List (NumberedUnit R E)) (rs : List ReadUnit) (t : Tables) (us vs : List UnitValue) (new new_too : Tables) → AreNumbered reading d xs rs → AreNumbered reading e ys rs
@@ -119,10 +119,10 @@ module _ {R E : Type 0} (reading : R → Reading) (answers : ℕ → Option Addr
       }
 
 -- A file that was read becomes one Dwarf.
-pub converted_once : {R E : Type 0} (reading : R → Reading) (answers : ℕ → Option Address → Type 0) (functional : (n : ℕ) (a b : Option Address) → answers n a → answers n b → a ≡ b) (orders : (r s : R) → (reading r).is_big ≡ (reading s).is_big) (d : Dwarf R E) (one two : DwarfValue)
+pub converted_once : {R E : Type 0} (reading : R → Reading) (answers : ℕ → Option Address → Type 0) (functional : (n : ℕ) (a b : Option Address) → answers n a → answers n b → a ≡ b) (d : Dwarf R E) (one two : DwarfValue)
     → IsConverted reading answers d one → IsConverted reading answers d two → AreSameDwarfs one two
-converted_once reading answers functional orders d one two h k =
-    converted_alike reading answers functional orders d d (record {
+converted_once reading answers functional d one two h k =
+    converted_alike reading answers functional d d (record {
       debug_abbrev = refl;
       debug_str = refl;
       debug_line_str = refl;

@@ -40,25 +40,24 @@ abbrev pub IsClosedUnit : UnitValue → Type 0
 IsClosedUnit w = IsClosed w.line_program
 
 module _ {R E : Type 0} (reading : R → Reading) (answers : ℕ → Option Address → Type 0) (functional : AnswersOnce answers) (u v : UnitRef R E) (alike : AreUnitsAlike reading u v) where
-  -- all readers have one byte order
-  module _ (orders : (r s : R) → (reading r).is_big ≡ (reading s).is_big) where
-    program_at_once : (offset : DebugLineOffset) (old : Tables) (x y : Converting FileId) → ProgramBecomes reading answers u offset old (Ok x) → ProgramBecomes reading answers v offset old (Ok y) → AreAlikeLines x y
-    program_at_once offset old x y h k =
-        let s = alike.sections in
-        let there : header_at reading u offset ≡ header_at reading v offset = λ i. lines_at_place (s.debug_line i).is_big (alike.encoding i).address_size offset.0 (left (s.debug_line i)) in
-        let lines : lines_of reading h.program.header ≡ lines_of reading k.program.header = same_ok (header_at reading u offset) (lines_of reading h.program.header) (lines_of reading k.program.header) h.stands (there ∙ k.stands) in
-        let texts : texts_of reading v.dwarf.now ≡ texts_of reading u.dwarf.now = λ i. record { strings = left (sym s.debug_str i); line_strings = left (sym s.debug_line_str i) } in
-        lines_once reading answers functional (texts_of reading u.dwarf.now) old h.program k.program (record { lines = lines; tables = orders h.program.header.tables k.program.header.tables; counts = orders h.program.header.parameters.operand_counts k.program.header.parameters.operand_counts }) x y
-        h.becomes (subst (λ (t : Texts). LinesOutcome reading answers k.program t None None old (Ok y)) texts k.becomes)
+  program_at_once : (offset : DebugLineOffset) (old : Tables) (x y : Converting FileId) → ProgramBecomes reading answers u offset old (Ok x) → ProgramBecomes reading answers v offset old (Ok y) → AreAlikeLines x y
+  program_at_once offset old x y h k =
+      let s = alike.sections in
+      let there : header_at reading u offset ≡ header_at reading v offset = λ i. lines_at_place (s.debug_line i).is_big (alike.encoding i).address_size offset.0 (left (s.debug_line i)) in
+      let lines : lines_of reading h.program.header ≡ lines_of reading k.program.header = same_ok (header_at reading u offset) (lines_of reading h.program.header) (lines_of reading k.program.header) h.stands (there ∙ k.stands) in
+      let order : (reading u.dwarf.now.debug_line).is_big ≡ (reading v.dwarf.now.debug_line).is_big = ap (λ (r : Reading). r.is_big) s.debug_line in
+      let texts : texts_of reading v.dwarf.now ≡ texts_of reading u.dwarf.now = λ i. record { strings = left (sym s.debug_str i); line_strings = left (sym s.debug_line_str i) } in
+      lines_once reading answers functional (texts_of reading u.dwarf.now) old h.program k.program (record { lines = lines; tables = h.order.tables ∙ order ∙ sym k.order.tables; counts = h.order.counts ∙ order ∙ sym k.order.counts }) x y
+      h.becomes (subst (λ (t : Texts). LinesOutcome reading answers k.program t None None old (Ok y)) texts k.becomes)
 
-    program_by_once : (o : Option DebugLineOffset) (old : Tables) (x y : Converting FileId) → ProgramConverts reading answers u o old x → ProgramConverts reading answers v o old y → AreAlikeLines x y
-    program_by_once None old x y h k =
-        let s : x ≡ y = h ∙ sym k in
-        record { closed = ap (λ (z : Converting FileId). is_in_sequence z.program.program) h; closed_too = ap (λ (z : Converting FileId). is_in_sequence z.program.program) k; program = ap (λ (z : Converting FileId). settled_lines z.program) s; ids = ap (λ (z : Converting FileId). z.ids) s; tables = ap (λ (z : Converting FileId). z.tables) s }
-    program_by_once (Some offset) old x y h k = program_at_once offset old x y h k
+  program_by_once : (o : Option DebugLineOffset) (old : Tables) (x y : Converting FileId) → ProgramConverts reading answers u o old x → ProgramConverts reading answers v o old y → AreAlikeLines x y
+  program_by_once None old x y h k =
+      let s : x ≡ y = h ∙ sym k in
+      record { closed = ap (λ (z : Converting FileId). is_in_sequence z.program.program) h; closed_too = ap (λ (z : Converting FileId). is_in_sequence z.program.program) k; program = ap (λ (z : Converting FileId). settled_lines z.program) s; ids = ap (λ (z : Converting FileId). z.ids) s; tables = ap (λ (z : Converting FileId). z.tables) s }
+  program_by_once (Some offset) old x y h k = program_at_once offset old x y h k
 
-    pub program_once : (old : Tables) (x y : Converting FileId) → ProgramConverts reading answers u u.unit.now.line_program old x → ProgramConverts reading answers v v.unit.now.line_program old y → AreAlikeLines x y
-    program_once old x y h k = program_by_once u.unit.now.line_program old x y h (subst (λ o. ProgramConverts reading answers v o old y) (sym alike.program) k)
+  pub program_once : (old : Tables) (x y : Converting FileId) → ProgramConverts reading answers u u.unit.now.line_program old x → ProgramConverts reading answers v v.unit.now.line_program old y → AreAlikeLines x y
+  program_once old x y h k = program_by_once u.unit.now.line_program old x y h (subst (λ o. ProgramConverts reading answers v o old y) (sym alike.program) k)
 
   module _ (entries : ℕ → Option UnitEntryId) (infos : ℕ → Option DebugInfoRef) (files : List FileId) where
     entries_once : (big : Bool) (e : Encoding) (plans : List Plan) (old : UnitTables) (xs ys : List Values) (m n : UnitTables) → EntriesConvert reading answers entries infos u files big e plans old xs m → EntriesConvert reading answers entries infos v files big e plans old ys n → ◌≡◌ {A = Both (List Values)} (xs, m) (ys, n)
@@ -100,10 +99,10 @@ pub record AreBuiltAlike (after after_too : UnitValue) (new new_too : Tables) : 
   pub unit : settled_unit after ≡ settled_unit after_too
   pub tables : new ≡ new_too
 
-module _ {R E : Type 0} (reading : R → Reading) (answers : ℕ → Option Address → Type 0) (functional : AnswersOnce answers) (orders : (r s : R) → (reading r).is_big ≡ (reading s).is_big) (entries : ℕ → Option UnitEntryId) (infos : ℕ → Option DebugInfoRef) (u v : UnitRef R E) (alike : AreUnitsAlike reading u v) where
+module _ {R E : Type 0} (reading : R → Reading) (answers : ℕ → Option Address → Type 0) (functional : AnswersOnce answers) (entries : ℕ → Option UnitEntryId) (infos : ℕ → Option DebugInfoRef) (u v : UnitRef R E) (alike : AreUnitsAlike reading u v) where
   pub unit_once : (before after after_too : UnitValue) (old new new_too : Tables) → ConvertsUnit reading answers entries infos u before old after new → ConvertsUnit reading answers entries infos v before old after_too new_too → AreBuiltAlike after after_too new new_too
   unit_once before after after_too old new new_too h k =
-      let p = program_once reading answers functional u v alike orders old (record { program = h.program; ids = h.files; tables = h.between }) (record { program = k.program; ids = k.files; tables = k.between }) h.program_is k.program_is in
+      let p = program_once reading answers functional u v alike old (record { program = h.program; ids = h.files; tables = h.between }) (record { program = k.program; ids = k.files; tables = k.between }) h.program_is k.program_is in
       let moved : ConvertsEntries reading answers entries infos v h.files (with_program k.program before) (tables_in h.between.strings h.between.line_strings before) after_too (tables_in new_too.strings new_too.line_strings after_too) =
       subst (λ (fs : List FileId). ConvertsEntries reading answers entries infos v fs (with_program k.program before) (tables_in h.between.strings h.between.line_strings before) after_too (tables_in new_too.strings new_too.line_strings after_too)) (sym p.ids)
       (subst (λ (t : Tables). ConvertsEntries reading answers entries infos v k.files (with_program k.program before) (tables_in t.strings t.line_strings before) after_too (tables_in new_too.strings new_too.line_strings after_too)) (sym p.tables) k.tree) in

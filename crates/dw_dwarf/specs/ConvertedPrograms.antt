@@ -7,7 +7,7 @@ use Rattle.dw_line.specs.LinePrograms.{LineProgramValue, no_line_program}
 use Rattle.dw_read.specs.Reading.{Reading, left}
 use Rattle.dw_read.specs.declared.error.ReadError.{ReadError}
 use Rattle.dw_read_lines.specs.LineHeaders.{ReadLines, lines_at_place}
-use Rattle.dw_read_lines.specs.LineHeaderViews.{lines_of}
+use Rattle.dw_read_lines.specs.LineHeaderViews.{lines_of, IsInOrder}
 use Rattle.dw_read_lines.specs.declared.program.IncompleteLineProgram.{IncompleteLineProgram}
 use Rattle.dw_read_units.specs.declared.unit_ref.UnitRef.{UnitRef}
 use Rattle.dw_sources.specs.ConvertErrors.{from_read}
@@ -26,6 +26,7 @@ module _ {R E : Type 0} (reading : R → Reading) (answers : ℕ → Option Addr
   pub record ProgramBecomes (offset : DebugLineOffset) (old : Tables) (r : Result (Converting FileId) ConvertError) : Type 0 where
     pub program : IncompleteLineProgram R E
     pub stands : header_at reading u offset ≡ Ok (lines_of reading program.header)
+    pub order : IsInOrder reading (reading u.dwarf.now.debug_line).is_big program.header
     pub becomes : LinesOutcome reading answers program (texts_of reading u.dwarf.now) None None old r
 
   -- a unit without a line program has none, and no files

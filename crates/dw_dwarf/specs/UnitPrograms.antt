@@ -7,7 +7,7 @@ use Rattle.dw_base.specs.declared.ids.FileId.{FileId}
 use Rattle.dw_base.specs.declared.offsets.DebugLineOffset.{DebugLineOffset}
 use Rattle.dw_read.specs.Reading.{Reading}
 use Rattle.dw_read.specs.declared.error.ReadError.{ReadError}
-use Rattle.dw_read_lines.specs.LineHeaderViews.{lines_of}
+use Rattle.dw_read_lines.specs.LineHeaderViews.{lines_of, IsInOrder}
 use Rattle.dw_read_lines.specs.declared.program.IncompleteLineProgram.{IncompleteLineProgram}
 use Rattle.dw_read_units.specs.declared.unit_ref.UnitRef.{UnitRef}
 use Rattle.dw_sources.specs.ConvertErrors.{from_read}
@@ -31,6 +31,7 @@ module _ {R E : Type 0} (reading : R → Reading) (u : UnitRef R E) (encoding : 
   pub record ProgramBegins (offset : DebugLineOffset) (old : Tables) (r : Result (Converting FileId) ConvertError) : Type 0 where
     pub program : IncompleteLineProgram R E
     pub stands : header_at reading u offset ≡ Ok (lines_of reading program.header)
+    pub order : IsInOrder reading (reading u.dwarf.now.debug_line).is_big program.header
     pub becomes : ProgramOutcome reading (texts_of reading u.dwarf.now) program encoding line_encoding old r
 
   -- its unit has one, and it begins so

@@ -50,10 +50,11 @@ module _ {R E : Type 0} (reading : R → Reading) (d : Dwarf R E) where
     abbrev pub read_unit : ReadUnit
     read_unit = record { from = h.offset.0; header = header_of h.fields; table = u.abbreviations; rows = n.rows }
 
-    is_numbered : h.offset.0 ≤ (reading h.body).place → IsNumbered reading d (record { unit = u; entries = count }) read_unit
-    is_numbered l = record {
+    is_numbered : h.offset.0 ≤ (reading h.body).place → (reading h.body).is_big ≡ (reading d.debug_info).is_big → IsNumbered reading d (record { unit = u; entries = count }) read_unit
+    is_numbered l o = record {
       unit = subst (λ (g : UnitHeader R E). IsUnit reading d g u) (sym i.header) i;
       behind = subst (λ (g : UnitHeader R E). g.offset.0 ≤ (reading g.body).place) (sym i.header) l;
+      order = ap (λ (g : UnitHeader R E). (reading g.body).is_big) i.header ∙ o;
       from = ap (λ (g : UnitHeader R E). g.offset.0) (sym i.header);
       header = ap (λ (g : UnitHeader R E). header_of g.fields) (sym i.header);
       table = refl;
@@ -78,7 +79,7 @@ module _ {R E : Type 0} (reading : R → Reading) (d : Dwarf R E) where
         record {
           front = w.front ++ read_unit ∷ [];
           walked = walked_more reading d old new w.front h read_unit a b c w.walked p (unit_whole reading d h u n.rows i n.is);
-          numbered = are_more held w.front (record { unit = u; entries = count }) read_unit w.numbered (is_numbered l);
+          numbered = are_more held w.front (record { unit = u; entries = count }) read_unit w.numbered (is_numbered l (ap (λ (r : Reading). r.is_big) p.unit.body ∙ w.walked.order));
           kept = λ q. n.kept q
               ∙ ap (λ (g : UnitHeader R E). later_or (with_unit k (number_among g.offset.0 0 n.rows q)) (ids_at before q)) i.header
               ∙ ap (λ (m : ℕ). later_or (with_unit (record { 0 = m }) (number_among h.offset.0 0 n.rows q)) (ids_at before q)) number

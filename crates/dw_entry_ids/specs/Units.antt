@@ -40,6 +40,7 @@ pub record NumbersRows {R E : Type 0} (reading : R → Reading) (h : UnitHeader 
 pub record IsNumbered {R E : Type 0} (reading : R → Reading) (d : Dwarf R E) (held : NumberedUnit R E) (u : ReadUnit) : Type 0 where
   pub unit : IsUnit reading d held.unit.header held.unit
   pub behind : held.unit.header.offset.0 ≤ (reading held.unit.header.body).place
+  pub order : (reading held.unit.header.body).is_big ≡ (reading d.debug_info).is_big
   pub from : u.from ≡ held.unit.header.offset.0
   pub header : u.header ≡ header_of held.unit.header.fields
   pub table : u.table ≡ held.unit.abbreviations

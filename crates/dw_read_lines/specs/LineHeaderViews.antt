@@ -1,5 +1,5 @@
 -- Headers of line programs that were read, as the grammar has them.
-use Rattle.std.specs.Prelude.{ℕ, Bool}
+use Rattle.std.specs.Prelude.{◌≡◌, ℕ, Bool}
 use Rattle.dw_line_machine.specs.LineMachine.{LineHeader}
 use Rattle.dw_read.specs.Reading.{Reading, left}
 use Rattle.dw_read_lines.specs.LineHeaders.{ReadLines}
@@ -21,6 +21,11 @@ module _ {R E : Type 0} (reading : R → Reading) where
 
   abbrev pub parameters_of : Bool → Parameters R E → ℕ × LineHeader
   parameters_of big p = (p.line_encoding.maximum_operations_per_instruction, machine_of big p)
+
+  -- its tables, and the numbers of operands, are read in this byte order
+  pub record IsInOrder (big : Bool) (h : LineProgramHeader R E) : Type 0 where
+    pub tables : (reading h.tables).is_big ≡ big
+    pub counts : (reading h.parameters.operand_counts).is_big ≡ big
 
   abbrev pub lines_of : LineProgramHeader R E → ReadLines
   lines_of h = record {

@@ -25,6 +25,8 @@ pub(crate) fn read_parameters<R: Reader>(input: &mut R, version: u16) -> ReadRes
         (parameters_read (R.reading input.old).is_big version)
         (R.reading input.old) (R.reading input.new)
         (parameters_of R.reading (R.reading input.old).is_big p)) }
+    ensures order { IfOk result (λ p.
+        (R.reading p.operand_counts).is_big ≡ (R.reading input.old).is_big) }
     ensures err { IfErr result (λ e. parameters_read (R.reading input.old).is_big version
         (left (R.reading input.old)) ≡ Err e) }
 {

@@ -3,7 +3,7 @@
 ghost use Rattle.std.specs.Prelude.{◌≡◌, IfOk, IfErr, Ok, Err};
 ghost use Rattle.dw_read.specs.Reading.{left};
 ghost use Rattle.dw_read_lines.specs.LineHeaders.{lines_at_place};
-ghost use Rattle.dw_read_lines.specs.LineHeaderViews.{lines_of};
+ghost use Rattle.dw_read_lines.specs.LineHeaderViews.{lines_of, IsInOrder};
 
 use crate::header::LineProgramHeader;
 use crate::reading::read_header;
@@ -33,6 +33,8 @@ impl<R: Reader> IncompleteLineProgram<R> {
         ensures ok { IfOk result (λ p. lines_at_place
             (R.reading dwarf.now.debug_line).is_big address_size offset.0
             (left (R.reading dwarf.now.debug_line)) ≡ Ok (lines_of R.reading p.header)) }
+        ensures order { IfOk result (λ p.
+            IsInOrder R.reading (R.reading dwarf.now.debug_line).is_big p.header) }
         ensures offset { IfOk result (λ p. p.header.offset ≡ offset) }
         ensures err { IfErr result (λ e. lines_at_place
             (R.reading dwarf.now.debug_line).is_big address_size offset.0

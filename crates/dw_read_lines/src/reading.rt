@@ -6,7 +6,7 @@ ghost use Rattle.dw_line_machine.specs.LineReader.{is_line_version};
 ghost use Rattle.dw_read.specs.Reading.{left};
 ghost use Rattle.dw_read.specs.Took.{Took};
 ghost use Rattle.dw_read_lines.specs.LineHeaders.{address_size_read, body_read, lines_read};
-ghost use Rattle.dw_read_lines.specs.LineHeaderViews.{lines_of};
+ghost use Rattle.dw_read_lines.specs.LineHeaderViews.{lines_of, IsInOrder};
 
 use crate::encoding::ProgramEncoding;
 use crate::header::LineProgramHeader;
@@ -23,6 +23,7 @@ pub(crate) fn read_header<R: Reader>(
 ) -> ReadResult<LineProgramHeader<R>>
     ensures ok { IfOk result (λ h. lines_read (R.reading input.old).is_big address_size
         (left (R.reading input.old)) ≡ Ok (lines_of R.reading h)) }
+    ensures order { IfOk result (IsInOrder R.reading (R.reading input.old).is_big) }
     ensures offset { IfOk result (λ h. h.offset ≡ offset) }
     ensures err { IfErr result (λ e. lines_read (R.reading input.old).is_big address_size
         (left (R.reading input.old)) ≡ Err e) }
@@ -42,6 +43,7 @@ fn read_body<R: Reader>(
 ) -> ReadResult<LineProgramHeader<R>>
     ensures ok { IfOk result (λ h. body_read (R.reading input.old).is_big format address_size
         (left (R.reading input.old)) ≡ Ok (lines_of R.reading h)) }
+    ensures order { IfOk result (IsInOrder R.reading (R.reading input.old).is_big) }
     ensures offset { IfOk result (λ h. h.offset ≡ offset) }
     ensures err { IfErr result (λ e. body_read (R.reading input.old).is_big format address_size
         (left (R.reading input.old)) ≡ Err e) }

@@ -17,7 +17,10 @@ use Rattle.dw_build.specs.declared.script.Refusal.{Refusal}
 use Rattle.dw_build.proofs.SetUnits.{sets_open}
 use Rattle.dwarf_build.specs.Answers.{DoRead, IsShort, Says, SaysAsked, SaysBuilt, SaysOf, SaysOfBytes, SaysOfInput, SaysOfSets, SaysRead, Prints, code_of, made_of}
 use Rattle.dwarf_build.specs.Commands.{reading_of}
-use Rattle.dwarf_build.specs.Converted.{Becomes, BecomesNone, SaysOfListing, listing_read, with_refusal}
+use Rattle.dw_listing.specs.Readers.{slice_reading}
+use Rattle.dw_conversion_laws.proofs.Conversions.{AreSameDwarfs, converted_alike}
+use Rattle.dw_conversion_laws.proofs.Validity.{valid_alike}
+use Rattle.dwarf_build.specs.Converted.{Becomes, BecomesNone, constant_answers, SaysOfListing, listing_read, with_refusal}
 use Rattle.dwarf_build.specs.Listed.{SaysOfDwarf}
 use Rattle.dwarf_build.specs.Linked.{AreValidSets, AreValidJoined}
 use Rattle.dwarf_build.specs.declared.command.Reading.{Reading}
@@ -96,11 +99,28 @@ dwarf_listed endian d valid TooLong text h = absurd h
 pub build_only : (bytes : List ℕ) (s : ScriptValue) → script bytes ≡ Ok s → IsValid true s.dwarf → (status : Status) (text : List ℕ) → SaysOfBytes Build bytes status text → status ≡ Listed
 build_only bytes s accepted valid status text h = built_only script SaysOf s (dwarf_listed s.endian s.dwarf valid) bytes status text accepted h
 
--- so are sections that can be converted, and only to what is valid
-module _ (v : ListingValue) (able : (e : ConvertError) → BecomesNone v e → ⊥) (valid : (d : DwarfValue) → Becomes v d → IsValid true d) where
+-- of all that the sections of a listing become, either all is valid or nothing
+becomes_alike : (v : ListingValue) (one two : DwarfValue) → Becomes v one → Becomes v two → AreSameDwarfs one two
+becomes_alike v one two h k =
+    converted_alike slice_reading constant_answers (λ n a b f g. f ∙ sym g) h.read k.read (record {
+      debug_abbrev = h.reads.debug_abbrev ∙ sym k.reads.debug_abbrev;
+      debug_str = h.reads.debug_str ∙ sym k.reads.debug_str;
+      debug_line_str = h.reads.debug_line_str ∙ sym k.reads.debug_line_str;
+      debug_line = h.reads.debug_line ∙ sym k.reads.debug_line;
+      debug_ranges = h.reads.debug_ranges ∙ sym k.reads.debug_ranges;
+      debug_rnglists = h.reads.debug_rnglists ∙ sym k.reads.debug_rnglists;
+      debug_loc = h.reads.debug_loc ∙ sym k.reads.debug_loc;
+      debug_loclists = h.reads.debug_loclists ∙ sym k.reads.debug_loclists;
+      debug_info = h.reads.debug_info ∙ sym k.reads.debug_info;
+      debug_addr = h.reads.debug_addr ∙ sym k.reads.debug_addr;
+      debug_str_offsets = h.reads.debug_str_offsets ∙ sym k.reads.debug_str_offsets;
+    }) one two h.converted k.converted
+
+-- so are sections that are refused for no reason, and become something valid
+module _ (v : ListingValue) (able : (e : ConvertError) → BecomesNone v e → ⊥) (d : DwarfValue) (becomes : Becomes v d) (valid : IsValid true d) where
   converted_listed : (status : Status) (text : List ℕ) → SaysOfListing v status text → status ≡ Listed
   converted_listed Listed text h = refl
-  converted_listed WriteRefused text (inl h) = absurd (valid_faultless true h.dwarf h.refused.error (valid h.dwarf h.becomes) h.refused.cause)
+  converted_listed WriteRefused text (inl h) = absurd (valid_faultless true h.dwarf h.refused.error (valid_alike true d h.dwarf (becomes_alike v d h.dwarf becomes h.becomes) valid) h.refused.cause)
   converted_listed WriteRefused text (inr h) = absurd (able h.error h.becomes)
   converted_listed Usage text h = absurd h
   converted_listed ScriptRefused text h = absurd h

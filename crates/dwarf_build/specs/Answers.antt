@@ -209,11 +209,11 @@ LinksValid words source_old source_new sink_old sink_new code =
     reading_of words ≡ Some Link → (bytes : List ℕ) → source_old.left ≡ Some bytes → IsShort bytes →
     (s : SetsValue) → sets bytes ≡ Ok s → AreValidSets s.dwarfs → AreValidJoined s → IsDoneUnless source_old source_new sink_old sink_new code
 
--- So was a listing of sections that can be converted, and only to what is valid.
+-- So was a listing of sections that are refused for no reason, and become something valid.
 abbrev pub ConvertsValid : List (List ℕ) → Input → Input → Intake → Intake → ℕ → Type 0
 ConvertsValid words source_old source_new sink_old sink_new code =
     reading_of words ≡ Some Convert → (bytes : List ℕ) → source_old.left ≡ Some bytes → IsShort bytes →
-    (v : ListingValue) → sections_of bytes ≡ Ok v → ((e : ConvertError) → BecomesNone v e → ⊥) → ((d : DwarfValue) → Becomes v d → IsValid true d) →
+    (v : ListingValue) → sections_of bytes ≡ Ok v → ((e : ConvertError) → BecomesNone v e → ⊥) → (d : DwarfValue) → Becomes v d → IsValid true d →
     IsDoneUnless source_old source_new sink_old sink_new code
 
 -- what is generated is valid; it was written, or memory lacked, unless the sink failed

@@ -1,9 +1,10 @@
-use Rattle.std.proofs.Common.{◌∙◌, refl, rules, ℕ, ◌-◌, Bool}
+use Rattle.std.proofs.Common.{◌∙◌, ap, refl, rules, ℕ, ◌-◌, Bool}
 use Rattle.std.proofs.lemmas.Int.{to_z-of_z}
 use mir.Val.{SFits}
 use mir.Syntax.{w8}
 use Rattle.std.proofs.lemmas.Result.{err_from_is_err_and}
 use Rattle.dw_line_machine.specs.LineMachine.{LineHeader}
+use Rattle.dw_read.specs.Reading.{Reading}
 use Rattle.dw_read.proofs.Chain.{took, went, went_of, went_then, went_order, number_took, number_not}
 use Rattle.dw_read_lines.specs.LineHeaders.{operations_read, parameters_read}
 use Rattle.dw_read_lines.proofs.Orders.{took_in, err_in, so_many, not_so_many}
@@ -128,3 +129,13 @@ returns-clause-ok g c =
     let fits : SFits w8 c.signed_byte.result = search rules in
     let z = to_z-of_z w8 c.signed_byte.result fits ∙ c.signed_byte.ensures in
     took (ℕ × LineHeader) (parameters_read big c.args.version) _ _ _ w7 (rw (n1, n2, n3, n4, n5, n6, n7, z) refl)
+
+pub returns-clause-order : goal.returns-clause-order
+returns-clause-order g c =
+    let w1 = went_of 1 _ _ c.in_ok-minimum.ensures.passes in
+    let w2 = went_then _ _ _ w1 (went _ _ _ _ _ c.in_ok-operations.ensures.ok) in
+    let w3 = went_then _ _ _ w2 (went_of 1 _ _ c.in_ok-statement.ensures.passes) in
+    let w4 = went_then _ _ _ w3 (went_of 1 _ _ c.in_ok-line_base.ensures.passes) in
+    let w5 = went_then _ _ _ w4 (went_of 1 _ _ c.in_ok-line_range.ensures.passes) in
+    let w6 = went_then _ _ _ w5 (went_of 1 _ _ c.in_ok-opcode_base.ensures.passes) in
+    ap (λ (r : Reading). r.is_big) c.in_ok-operand_counts.ensures.part ∙ went_order _ _ w6

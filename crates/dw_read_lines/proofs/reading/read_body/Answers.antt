@@ -102,3 +102,11 @@ returns-clause-ok g c =
     let t = c.in_ok-parameters.ensures.ok in
     let n5 = subst (λ (x : Bool). parameters_read x c.in_ok-version.version (left (reading c.in_ok-tables.tables)) ≡ Ok (parameters_of reading x parameters, left (reading c.read_parameters.new.input))) o t.value in
     rw (n1, v, n2, n3, n4, n5, b, l) refl
+
+pub returns-clause-order : goal.returns-clause-order
+returns-clause-order g c =
+    let w1 = went_of 2 _ _ c.in_ok-version.ensures.passes in
+    let w2 = went_then _ _ _ w1 (went _ _ _ _ _ c.in_ok-address_size.ensures.ok) in
+    let w3 = went_then _ _ _ w2 (went_of (word_of c.args.format) _ _ c.in_ok-length.ensures.passes) in
+    let o = ap (λ (r : Reading). r.is_big) c.in_ok-tables.ensures.part ∙ went_order _ _ w3 in
+    record { tables = went_order _ _ (went _ _ _ _ _ c.in_ok-parameters.ensures.ok) ∙ o; counts = c.in_ok-parameters.ensures.order ∙ o }

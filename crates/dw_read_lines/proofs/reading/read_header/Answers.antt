@@ -41,3 +41,8 @@ returns-clause-ok g c =
     let o = ap (λ (r : Reading). r.is_big) c.in_ok-body.ensures.part ∙ same_order _ _ _ c.in_ok-length.ensures.passes in
     let e = subst (λ (b : Bool). body_read b c.in_ok-length.format c.args.address_size (left (reading c.in_ok-body.body)) ≡ Ok (lines_of reading c.in_ok-header.header)) o c.in_ok-header.ensures.ok in
     rw (n1, n2, e) refl
+
+pub returns-clause-order : goal.returns-clause-order
+returns-clause-order g c =
+    let o = ap (λ (r : Reading). r.is_big) c.in_ok-body.ensures.part ∙ same_order _ _ _ c.in_ok-length.ensures.passes in
+    record { tables = c.in_ok-header.ensures.order.tables ∙ o; counts = c.in_ok-header.ensures.order.counts ∙ o }

@@ -22,12 +22,12 @@ returns-clause-complete g c = λ build bytes told short s accepted valid source_
     ]
 
 pub returns-clause-converts : goal.returns-clause-converts
-returns-clause-converts g c = λ convert bytes told short v said able valid source_calm sink_calm.
+returns-clause-converts g c = λ convert bytes told short v said able d becomes valid source_calm sink_calm.
     elim c.match-answer_to.branch [
       | in-Ok w ↦
           let calm : HasRisen (g.K.Sink.intake c.args.sink.now).faults (g.K.Sink.intake w.print-status.new.sink).faults → ⊥ = λ h. sink_calm (subst (λ k. HasRisen (g.K.Sink.intake c.args.sink.now).faults (g.K.Sink.intake k).faults) (sym w.sink-is) h) in
           subst IsDone (sym (c.code.ensures ∙ ap code_of w.status-is))
-          (printed_complete (map string_bytes c.args.words.now.items) Convert (g.S.Source.input c.args.source.now).left bytes convert told short (convert_only v able valid bytes said) _ _ _ _ _ w.in-Ok.ensures.ok w.print-status.ensures.prints calm)
+          (printed_complete (map string_bytes c.args.words.now.items) Convert (g.S.Source.input c.args.source.now).left bytes convert told short (convert_only v able d becomes valid bytes said) _ _ _ _ _ w.in-Ok.ensures.ok w.print-status.ensures.prints calm)
       | in-Err-SourceFailed w ↦ absurd (source_calm (subst (StopsFor (map string_bytes c.args.words.now.items) (g.S.Source.input c.args.source.now) (g.S.Source.input c.answer_to.new.source)) w.in-Err-SourceFailed.field-0-is w.in-Err-SourceFailed.ensures.err).1)
       | in-Err-NoMemory w ↦ inr (c.code.ensures ∙ ap code_of w.status-is)
     ]

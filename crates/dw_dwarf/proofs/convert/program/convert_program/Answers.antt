@@ -17,6 +17,7 @@ returns-clause-ok g c =
     (record {
       program = c.in_ok-program.program;
       stands = subst (λ n. lines_at_place lines.is_big n c.in-Some.offset.0 (left lines) ≡ Ok (lines_of reading c.in_ok-program.program.header)) size c.in_ok-program.ensures.ok;
+      order = c.in_ok-program.ensures.order;
       becomes = c.in_ok-converted.ensures.ok;
     })
 
@@ -30,5 +31,6 @@ returns-in_err-converted-clause-err g c =
     (inr (record {
       program = c.in_ok-program.program;
       stands = subst (λ n. lines_at_place lines.is_big n c.in-Some.offset.0 (left lines) ≡ Ok (lines_of reading c.in_ok-program.program.header)) size c.in_ok-program.ensures.ok;
+      order = c.in_ok-program.ensures.order;
       becomes = r;
     })))) c.in_err-converted.ensures.err)

@@ -16,6 +16,7 @@ returns-clause-ok g c =
       begins = record {
         program = c.in_ok-program.program;
         stands = subst (λ n. lines_at_place lines.is_big n c.args.offset.0 (left lines) ≡ Ok (lines_of reading c.in_ok-program.program.header)) size c.in_ok-program.ensures.ok;
+        order = c.in_ok-program.ensures.order;
         becomes = c.in_ok-begun.ensures.ok;
       };
     }
@@ -32,6 +33,7 @@ returns-in_err-begun-clause-err g c =
       why = inr (record {
         program = c.in_ok-program.program;
         stands = subst (λ n. lines_at_place lines.is_big n c.args.offset.0 (left lines) ≡ Ok (lines_of reading c.in_ok-program.program.header)) size c.in_ok-program.ensures.ok;
+        order = c.in_ok-program.ensures.order;
         becomes = r;
       });
     })) c.in_err-begun.ensures.err)

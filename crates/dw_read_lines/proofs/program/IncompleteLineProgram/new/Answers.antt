@@ -1,4 +1,4 @@
-use Rattle.std.proofs.Common.{◌≡◌, subst, refl, Bool, Ok, Err}
+use Rattle.std.proofs.Common.{◌≡◌, ◌∙◌, subst, refl, Bool, Ok, Err}
 use Rattle.std.proofs.lemmas.Result.{err_from_is_err_and}
 use Rattle.dw_read.specs.Reading.{Reading, left}
 use Rattle.dw_read.specs.Reasons.{bytes_read}
@@ -32,3 +32,10 @@ returns-clause-ok g c =
     let s = passed_over c.args.offset.0 section _ _ c.duplicate-input.ensures (g.met.R.Reader.is_reading c.args.dwarf.now.debug_line) c.in_ok-skip.ensures.ok in
     let e = subst (λ (b : Bool). lines_read b c.args.address_size (left (reading c.skip.new.self)) ≡ Ok (lines_of reading c.in_ok-header.header)) s.0 c.in_ok-header.ensures.ok in
     rw (s.1, e) refl
+
+pub returns-clause-order : goal.returns-clause-order
+returns-clause-order g c =
+    let reading = g.R.Reader.reading in
+    let section = reading c.args.dwarf.now.debug_line in
+    let s = passed_over c.args.offset.0 section _ _ c.duplicate-input.ensures (g.met.R.Reader.is_reading c.args.dwarf.now.debug_line) c.in_ok-skip.ensures.ok in
+    record { tables = c.in_ok-header.ensures.order.tables ∙ s.0; counts = c.in_ok-header.ensures.order.counts ∙ s.0 }
