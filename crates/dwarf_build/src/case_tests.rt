@@ -1,12 +1,12 @@
 //! Runs the tables of cases: a command over each script, its status and all that it prints. The
-//! module `cases` tells how a table is written.
+//! crate `dw_cases` has the tables, and tells how one is written.
 
-use crate::cases::{
+use crate::tests::run_over;
+use dw_cases::{
     convert, converted_lists, converted_values, expressions, headers, limits, lines, links,
     locations, ranges, references, refusals, refused_conversions, refused_locations, strings,
     trees, values,
 };
-use crate::tests::run_over;
 use std::alloc::{AllocError, Global};
 use std::fmt::Write;
 use std::process::Abort;

@@ -5,8 +5,6 @@
 mod answer;
 #[cfg(test)]
 mod case_tests;
-#[cfg(test)]
-mod cases;
 mod command;
 mod convert;
 #[cfg(test)]

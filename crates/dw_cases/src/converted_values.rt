@@ -2,7 +2,7 @@
 //! and 7.5.6; DWARF 4, 7.5.4): what they mean under their name, and how that is written.
 
 /// The cases of the command `convert` over values of every form.
-pub(crate) const CASES: &str = r"
+pub const CASES: &str = r"
 # Under a name that gives them no other meaning, values keep their form. In units whose addresses
 # have 8 bytes.
 

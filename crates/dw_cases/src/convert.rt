@@ -2,7 +2,7 @@
 //! their own parents, what refers to entries, strings, and what is left out.
 
 /// The cases of the command `convert` over entries, references and strings.
-pub(crate) const CASES: &str = r"
+pub const CASES: &str = r"
 case no line
 command convert
 script

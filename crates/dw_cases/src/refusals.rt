@@ -1,7 +1,7 @@
 //! Lines that are refused, with the text of each refusal.
 
 /// The cases of refused lines.
-pub(crate) const CASES: &str = r"
+pub const CASES: &str = r"
 # Bytes, words and fields of any line, and the number of the line, which counts every line before.
 
 case line, bad byte 1

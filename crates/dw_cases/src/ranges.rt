@@ -1,7 +1,7 @@
 //! Range lists, and values that name them (DWARF 5, 2.17.3, 7.5.5, 7.25 and 7.28; DWARF 4, 7.23).
 
 /// The cases of range lists.
-pub(crate) const CASES: &str = r"
+pub const CASES: &str = r"
 # Up to version 4 a list is pairs of addresses: all ones and a base, two offsets, the two ends, the
 # begin and the end for a length, and two zeros as the close. The second list stands behind the six
 # numbers of the first. Versions 2 and 3 name it by DW_FORM_data4 or data8, version 4 by

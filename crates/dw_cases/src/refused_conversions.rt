@@ -2,7 +2,7 @@
 //! (DWARF 5, 7.4 and 7.5).
 
 /// The cases of the command `convert` that answer 2 or 3.
-pub(crate) const CASES: &str = r"
+pub const CASES: &str = r"
 # Lines that are refused.
 
 case a length that is too large

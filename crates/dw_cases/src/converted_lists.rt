@@ -2,7 +2,7 @@
 //! 7.29; DWARF 4, 2.5, 2.6, 2.17 and 6.2).
 
 /// The cases of the command `convert` over lists, expressions and line programs.
-pub(crate) const CASES: &str = r"
+pub const CASES: &str = r"
 # Range lists. Those that are named are kept, each once, in the order in which they are named.
 
 case ranges of version 4

@@ -2,7 +2,7 @@
 //! them below version 5.
 
 /// The cases of expressions.
-pub(crate) const CASES: &str = r"
+pub const CASES: &str = r"
 # Operations in a unit of version 5 with addresses of 8 bytes in the 32-bit format. Entry 1 holds
 # the expression: it stands at 13, behind the header and the root.
 

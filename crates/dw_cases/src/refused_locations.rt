@@ -2,7 +2,7 @@
 //! 2.6.2 and 7.29; DWARF 4, 2.6.2).
 
 /// The cases of location lists that are refused.
-pub(crate) const CASES: &str = r"
+pub const CASES: &str = r"
 # Lists that are refused when they are written.
 
 case a begin of all ones with addresses of 1 byte is refused

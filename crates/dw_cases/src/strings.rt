@@ -1,7 +1,7 @@
 //! Strings that values name, in sections of their own (DWARF 5, 7.5.1, 7.5.5 and 7.26).
 
 /// The cases of strings.
-pub(crate) const CASES: &str = r"
+pub const CASES: &str = r"
 # DW_FORM_strp and line_strp hold where the string begins, in a word.
 case strings of both sections
 script str 616263 / str 64 / line_str 2f / unit 5 8 32 / set 0 0 DW_AT_name str_ref 1

@@ -1,6 +1,6 @@
-//! Tables of cases of the commands `build`, `link` and `convert`, each an input and what a run over
-//! it prints. A table is text. Its lines are empty, remarks behind `# `, or begin with one of these
-//! words and a space:
+//! Tables of cases of the program's commands `build`, `link` and `convert`, each an input and what a
+//! run over it prints; the program's tests run them. A table is text. Its lines are empty, remarks
+//! behind `# `, or begin with one of these words and a space:
 //!
 //! - `case NAME` begins a case.
 //! - `command link` says that this command is run, or `convert`. Else it is `convert` where a
@@ -28,21 +28,22 @@
 //! it has pairs of digits.
 //!
 //! The bytes are written by hand from the standard's tables, never copied from a listing.
+#![tactic(auto)]
 
-pub(crate) mod convert;
-pub(crate) mod converted_lists;
-pub(crate) mod converted_values;
-pub(crate) mod expressions;
-pub(crate) mod headers;
-pub(crate) mod limits;
-pub(crate) mod lines;
-pub(crate) mod links;
-pub(crate) mod locations;
-pub(crate) mod ranges;
-pub(crate) mod references;
-pub(crate) mod refusals;
-pub(crate) mod refused_conversions;
-pub(crate) mod refused_locations;
-pub(crate) mod strings;
-pub(crate) mod trees;
-pub(crate) mod values;
+pub mod convert;
+pub mod converted_lists;
+pub mod converted_values;
+pub mod expressions;
+pub mod headers;
+pub mod limits;
+pub mod lines;
+pub mod links;
+pub mod locations;
+pub mod ranges;
+pub mod references;
+pub mod refusals;
+pub mod refused_conversions;
+pub mod refused_locations;
+pub mod strings;
+pub mod trees;
+pub mod values;

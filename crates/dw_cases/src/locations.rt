@@ -2,7 +2,7 @@
 //! and 7.7.3).
 
 /// The cases of location lists.
-pub(crate) const CASES: &str = r"
+pub const CASES: &str = r"
 # Up to version 4 a list is pairs of addresses: all ones and a base, two offsets, the two ends, the
 # begin and the end for a length, and two zeros as the close. Behind all but a base and the close
 # stand an expression's size in two bytes and the expression: DW_OP_reg5 is 55, and DW_OP_fbreg -20

@@ -2,7 +2,7 @@
 //! (DWARF 5, 7.5.5 and 7.5.6; DWARF 4, 7.5.4 and 7.21).
 
 /// The cases of values of every kind.
-pub(crate) const CASES: &str = r"
+pub const CASES: &str = r"
 # The kinds that are spelled alike in every version and format, in units whose addresses have 8
 # bytes. Of 12857, 128, -128 and -129 the standard tells the LEB128 bytes (DWARF 5, 7.6).
 

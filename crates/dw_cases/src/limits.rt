@@ -1,7 +1,7 @@
 //! The limits of the numbers that values have (DWARF 5, 7.5.5 and 7.5.6; DWARF 4, 7.5.4 and 7.21).
 
 /// The cases of limits of numbers.
-pub(crate) const CASES: &str = r"
+pub const CASES: &str = r"
 # The largest or the least number of some kinds, and the next one, which no line may have.
 
 case the limit 1 of flag

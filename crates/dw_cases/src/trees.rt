@@ -1,7 +1,7 @@
 //! Units with entries and attributes.
 
 /// The cases of entries and attributes.
-pub(crate) const CASES: &str = r"
+pub const CASES: &str = r"
 # The declaration of the root is followed by that of each shape where it first comes. A string ends
 # with a zero, and so do the children of an entry (DWARF 5, 7.5.2 and 7.5.3).
 

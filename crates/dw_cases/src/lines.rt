@@ -1,7 +1,7 @@
 //! Line programs, and values that name them (DWARF 5, 6.2.4 and 6.2.5; DWARF 4, 6.2.4).
 
 /// The cases of line programs.
-pub(crate) const CASES: &str = r"
+pub const CASES: &str = r"
 # A file that is named puts the program in use, without a sequence: version 5, header of 37 bytes,
 # one directory and one file by their places in .debug_line_str.
 case a file that is named

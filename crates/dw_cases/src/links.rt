@@ -2,7 +2,7 @@
 //! section of all sets, and what counts from a section's begin has the start of its set added.
 
 /// The cases of the command `link`.
-pub(crate) const CASES: &str = r"
+pub const CASES: &str = r"
 # The second unit's header holds where its own table stands, behind the six bytes of the first.
 case two equal sets
 command link

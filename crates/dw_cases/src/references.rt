@@ -1,7 +1,7 @@
 //! References and siblings, entries that aren't reached, and several units.
 
 /// The cases of references.
-pub(crate) const CASES: &str = r"
+pub const CASES: &str = r"
 # A reference counts from the unit's first byte (DWARF 5, 7.5.5.5). The root stands behind the
 # header, at 12 in version 5 and at 11 below it, and at 24 in the 64-bit format.
 

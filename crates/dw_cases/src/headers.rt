@@ -1,7 +1,7 @@
 //! Units without entries: headers in every encoding, and what has no spelling.
 
 /// The cases of headers.
-pub(crate) const CASES: &str = r"
+pub const CASES: &str = r"
 # A unit of version 5 with addresses of 8 bytes in the 32-bit format, and its table: code 1,
 # DW_TAG_compile_unit, no children, no attributes, no other declaration (DWARF 5, 7.5.3).
 
