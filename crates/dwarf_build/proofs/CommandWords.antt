@@ -4,7 +4,8 @@ use Rattle.std.specs.Prelude.{Option, Some, None, codes, nat_lt, string_bytes, b
 use Rattle.std.specs.Option.{option_and_then}
 use Rattle.std.proofs.lemmas.Bool.{ltb-true}
 use Rattle.dw_ends.specs.Numbers.{below, number_of, number_below}
-use Rattle.dwarf_build.specs.Answers.{made_of, most_variables}
+use Rattle.dw_make.specs.Generated.{most_variables}
+use Rattle.dwarf_build.specs.Answers.{made_of}
 
 -- words that are one
 pub one_word : {Z : Type 0} (words : List (String Z)) (word : String Z) → 1 ≤ length words → length words < 2 → word ≡ get_or words 0 word → map string_bytes words ≡ string_bytes word ∷ []

@@ -15,9 +15,3 @@ pub mod SetsSaid
 pub mod Completeness
 pub mod Runs
 pub mod Made
-mod Worked
-pub mod Drafts
-mod MadeTrees
-mod MadeSizes
-mod MadeUnits
-mod MadeValid

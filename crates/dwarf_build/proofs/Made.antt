@@ -1,28 +1,13 @@
 -- What `make` answers rests on.
-use Rattle.std.proofs.Common.{◌≡◌, ◌∙◌, sym, ap, subst, refl, arith, ℕ, zero, suc, ◌+◌, ◌-◌, ◌*◌, ◌/◌, List, [], ◌∷◌, length}
-use Rattle.std.specs.Prelude.{Option, Some, Bool, false, All, min, sum_by}
-use Rattle.std.proofs.lemmas.List.Elements.{All-append}
+use Rattle.std.proofs.Common.{◌≡◌, ◌∙◌, sym, ap, subst, ℕ, List, length}
+use Rattle.std.specs.Prelude.{Option, Some, false, sum_by}
 use Rattle.dw_writer.specs.Contents.{Meaning}
 use Rattle.dw_writer.specs.declared.sections.Sections.{Sections}
 use Rattle.dw_dwarf.specs.DwarfValue.{DwarfValue}
-use Rattle.dw_dwarf.specs.Valid.{IsUnwritten, AreUnwritten}
 use Rattle.dw_dwarf.specs.Written.{AreTextsOf, HoldsDwarf, orders_of, one_order}
 use Rattle.dwarf_build.specs.Answers.{SaysMade}
-use Rattle.dwarf_build.specs.Generated.{generated, generated_unit, generated_units, unit_variables}
+use Rattle.dw_make.specs.Generated.{generated}
 use Rattle.dwarf_build.specs.Texts.{counts_text}
-
-one_unwritten : (from n : ℕ) → All IsUnwritten (generated_unit from n ∷ [])
-one_unwritten from n zero d within = refl
-one_unwritten from n (suc k) d within = absurd (omega arith)
-
-units_unwritten : (n k : ℕ) → All IsUnwritten (generated_units n k)
-units_unwritten n zero = λ i d within. absurd (omega arith)
-units_unwritten n (suc k) =
-    All-append IsUnwritten (generated_units n k) (generated_unit (k * unit_variables) (min unit_variables (n - k * unit_variables)) ∷ []) (units_unwritten n k) (one_unwritten (k * unit_variables) (min unit_variables (n - k * unit_variables)))
-
--- what is generated wasn't written before
-pub generated_unwritten : (n : ℕ) (d : DwarfValue) → d ≡ generated n → AreUnwritten d
-generated_unwritten n d same = subst AreUnwritten (sym same) (units_unwritten n (n / unit_variables + 1))
 
 same_told : {a b : List ℕ} {o : Option (List ℕ)} → o ≡ Some a → o ≡ Some b → a ≡ b
 same_told {a} {b} p q = let e : Some a ≡ Some b = sym p ∙ q in cc

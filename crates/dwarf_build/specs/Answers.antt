@@ -9,7 +9,7 @@ use Rattle.dw_base.specs.Faults.{HasRisen}
 use Rattle.dw_ends.specs.Ends.{Input, Intake, used_up, with_after, TakesPrefix}
 use Rattle.dw_ends.specs.Sections.{ListingValue, sections_of}
 use Rattle.dw_ends.specs.Numbers.{number_below}
-use Rattle.dwarf_build.specs.Generated.{generated}
+use Rattle.dw_make.specs.Generated.{generated, most_variables}
 use Rattle.dw_build.specs.Script.{script}
 use Rattle.dw_build.specs.Sets.{sets}
 use Rattle.dw_build.specs.SetsValue.{SetsValue}
@@ -26,10 +26,6 @@ use Rattle.dwarf_build.specs.declared.status.Status.{Status}
 use Rattle.dwarf_build.specs.declared.status.Status.TheVariants.{Listed, Usage, ScriptRefused, WriteRefused, SourceFailed, SinkFailed, NoMemory, TooLong}
 use Rattle.dw_build.specs.ScriptValue.{ScriptValue}
 use Rattle.dw_build.specs.declared.script.Refusal.{Refusal}
-
--- the most variables that `make` generates
-abbrev pub most_variables : ℕ
-most_variables = 1000000
 
 -- how many variables the words ask for, where they are `make` and a number as scripts spell them
 abbrev pub made_of : List (List ℕ) → Option ℕ

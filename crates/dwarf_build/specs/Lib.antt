@@ -1,5 +1,3 @@
-pub mod Generated
-pub mod Drafted
 pub mod Texts
 pub mod Faults
 pub mod Listed

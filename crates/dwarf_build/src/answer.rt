@@ -6,13 +6,13 @@ ghost use Rattle.dw_ends.specs.Numbers.{number_below};
 ghost use Rattle.dw_dwarf.specs.DwarfValue.{dwarf_in};
 ghost use Rattle.dw_dwarf.specs.Valid.{AreUnwritten};
 ghost use Rattle.dwarf_build.specs.Listed.{SaysOfDwarf};
-ghost use Rattle.dwarf_build.specs.Answers.{LeavesUnread, Says, SaysOfBytes, SaysOfInput, SaysMade, Reads, ReadsInput, StopsFor, StopsReading, made_of, most_variables};
+ghost use Rattle.dw_make.specs.Generated.{most_variables};
+ghost use Rattle.dwarf_build.specs.Answers.{LeavesUnread, Says, SaysOfBytes, SaysOfInput, SaysMade, Reads, ReadsInput, StopsFor, StopsReading, made_of};
 ghost use Rattle.dwarf_build.specs.Texts.{refusal_text, refused_text};
 
 use crate::command::Reading;
 use crate::convert::convert_listing;
 use crate::link::link_script;
-use crate::make::generate;
 use crate::status::Status;
 use crate::summary::{Counts, summarize};
 use crate::write::write_new;
@@ -20,12 +20,10 @@ use dw_base::{Error, RunTimeEndian};
 use dw_build::{Refusal, SCRIPT_LIMIT, ScriptError, read_script};
 use dw_dwarf::Dwarf;
 use dw_ends::{EndError, Source, listing_text, read_all};
+use dw_make::{MOST_VARIABLES, generate};
 use dw_script::parse_u64;
 use dw_writer::Section;
 use std::alloc::{AllocError, Global};
-
-/// The most variables that `make` generates.
-const MOST_VARIABLES: u64 = 1_000_000;
 
 /// The commands.
 const USAGE: &[u8] = b"usage: build | convert | link | make N\n";

@@ -14,7 +14,6 @@ mod converted_tests;
 #[cfg(test)]
 mod generated_tests;
 mod link;
-mod make;
 #[cfg(test)]
 mod make_tests;
 pub mod run;

@@ -1,22 +1,18 @@
-use Rattle.std.proofs.Common.{◌∙◌, refl, sym, subst}
-use Rattle.std.specs.Prelude.{true}
+use Rattle.std.proofs.Common.{◌∙◌, refl, sym}
 use Rattle.std.proofs.lemmas.Result.{err_from_is_err_and}
 use Rattle.dw_dwarf.specs.DwarfValue.{dwarf_in}
-use Rattle.dw_dwarf.specs.Valid.{IsValid}
 use Rattle.dwarf_build.proofs.Faulty.{only_memory}
-use Rattle.dwarf_build.proofs.Made.{generated_unwritten, made_told}
-use Rattle.dwarf_build.proofs.MadeValid.{generated_valid}
+use Rattle.dwarf_build.proofs.Made.{made_told}
 use Rattle.dwarf_build.proofs.answer.answer_make.Goals as goal
 
 pub write_new-requires : goal.write_new-requires
-write_new-requires c = generated_unwritten c.args.count (dwarf_in c.in_ok-dwarf.dwarf) c.in_ok-dwarf.ensures.ok
+write_new-requires c = c.in_ok-dwarf.ensures.unwritten
 
 pub returns-in_err-sections-clause-err : goal.returns-in_err-sections-clause-err
 returns-in_err-sections-clause-err c =
     let p = err_from_is_err_and c.from_residual-in_err-sections.result c.from_residual-in_err-sections.ensures.1 in
     let d = dwarf_in c.in_ok-dwarf.dwarf in
-    let valid = subst (IsValid true) (sym c.in_ok-dwarf.ensures.ok) (generated_valid c.args.count c.requires) in
-    rw (p.1, p.2) (only_memory d valid c.in_err-sections.field-0.0 c.in_err-sections.ensures.err)
+    rw (p.1, p.2) (only_memory d (c.in_ok-dwarf.ensures.valid c.requires) c.in_err-sections.field-0.0 c.in_err-sections.ensures.err)
 
 pub returns-clause-ok : goal.returns-clause-ok
 returns-clause-ok c =

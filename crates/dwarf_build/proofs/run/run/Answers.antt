@@ -6,7 +6,7 @@ use Rattle.dwarf_build.specs.declared.command.Reading.TheVariants.{Build, Conver
 use Rattle.dwarf_build.proofs.CommandWords.{asked_few}
 use Rattle.dwarf_build.proofs.Completeness.{IsDone, build_only, convert_only, link_only, printed_complete, printed_made, not_both}
 use Rattle.dwarf_build.proofs.Runs.{printed_answers, source_failed_answers, no_memory_answers}
-use Rattle.dwarf_build.proofs.MadeValid.{generated_valid}
+use Rattle.dw_make.proofs.MadeValid.{generated_valid}
 use Rattle.dwarf_build.proofs.run.run.Goals.{in-Ok, in-Err-SourceFailed, in-Err-NoMemory}
 use Rattle.dwarf_build.proofs.run.run.Goals as goal
 

@@ -13,6 +13,10 @@ use Rattle.dw_line.specs.LinePrograms.{no_line_program}
 use Rattle.dw_unit.specs.UnitValue.{UnitValue, new_unit}
 use Rattle.dw_dwarf.specs.DwarfValue.{DwarfValue}
 
+-- the most variables that are generated
+abbrev pub most_variables : ℕ
+most_variables = 1000000
+
 -- version 5, addresses of 8 bytes, 32-bit
 abbrev pub generated_encoding : Encoding
 generated_encoding = record { address_size = 8; format = Dwarf32; version = 5 }

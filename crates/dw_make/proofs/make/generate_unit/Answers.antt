@@ -3,10 +3,10 @@ use Rattle.dw_base.specs.declared.constants.TheConstants.{DW_TAG_base_type, DW_A
 use Rattle.dw_entries.specs.declared.value.AttributeValue.TheVariants.{Data1}
 use Rattle.dw_entries.specs.Entries.{with_added, with_attribute}
 use Rattle.dw_unit.specs.UnitValue.{UnitValue, new_unit, with_entry, IsReserved}
-use Rattle.dwarf_build.specs.Drafted.{with_variable}
-use Rattle.dwarf_build.specs.Generated.{generated_encoding, generated_unit}
-use Rattle.dwarf_build.proofs.Drafts.{IsDraft, none_drafted, one_drafted, base_reserved, base_added}
-use Rattle.dwarf_build.proofs.make.generate_unit.Goals as goal
+use Rattle.dw_make.specs.Drafted.{with_variable}
+use Rattle.dw_make.specs.Generated.{generated_encoding, generated_unit}
+use Rattle.dw_make.proofs.Drafts.{IsDraft, none_drafted, one_drafted, base_reserved, base_added}
+use Rattle.dw_make.proofs.make.generate_unit.Goals as goal
 
 pub loop-index-init : goal.loop-index-init
 loop-index-init c = record {

@@ -1,12 +1,13 @@
-//! The input that `make` generates.
+//! Units that are generated, whose bytes are known without a script.
 
-ghost use Rattle.std.specs.Prelude.{◌≡◌, ◌≢◌, ◌+◌, ◌<◌, ◌≤◌, ◌^◌, false, length, OnOk, IfOk, IfErr};
+ghost use Rattle.std.specs.Prelude.{◌≡◌, ◌≢◌, ◌+◌, ◌<◌, ◌≤◌, ◌^◌, true, false, length, OnOk, IfOk, IfErr};
 ghost use Rattle.dw_base.specs.declared.error.Error.TheVariants.{NoMemory};
 ghost use Rattle.dw_entries.specs.Entries.{with_attribute};
 ghost use Rattle.dw_dwarf.specs.DwarfValue.{dwarf_in};
+ghost use Rattle.dw_dwarf.specs.Valid.{AreUnwritten, IsValid};
 ghost use Rattle.dw_unit.specs.UnitValue.{with_entry};
-ghost use Rattle.dwarf_build.specs.Drafted.{with_variable};
-ghost use Rattle.dwarf_build.specs.Generated.{generated, generated_unit};
+ghost use Rattle.dw_make.specs.Drafted.{with_variable};
+ghost use Rattle.dw_make.specs.Generated.{generated, generated_unit};
 
 use dw_base::constants::{
     DW_AT_byte_size, DW_AT_sibling, DW_AT_specification, DW_AT_type, DW_TAG_base_type,
@@ -16,6 +17,9 @@ use dw_base::{DebugInfoRef, DwAt, Encoding, Format, Result, UnitEntryId, UnitId}
 use dw_dwarf::Dwarf;
 use dw_unit::{AttributeValue, LineProgram, Unit};
 use std::alloc::Global;
+
+/// The most variables that are generated.
+pub const MOST_VARIABLES: u64 = 1_000_000;
 
 /// The most variables that a unit holds.
 const UNIT_VARIABLES: u64 = 1000;
@@ -27,9 +31,18 @@ const ENCODING: Encoding = Encoding {
     version: 5,
 };
 
-/// Generates so many variables, a thousand a unit.
+/// Generates so many variables, a thousand a unit, in units of version 5 with addresses of 8 bytes
+/// in the 32-bit format. Each names its unit's base type, and every hundredth the root of the first
+/// unit. It is refused only as `NoMemory`.
+///
+/// ```
+/// let mut dwarf = generate(alloc, 100_000)?;
+/// dwarf.write(&mut sections)?;
+/// ```
 pub fn generate(alloc: Global, count: u64) -> Result<Dwarf>
     ensures ok { IfOk result (λ d. dwarf_in d ≡ generated count) }
+    ensures unwritten { IfOk result (λ d. AreUnwritten (dwarf_in d)) }
+    ensures valid { count ≤ MOST_VARIABLES → IfOk result (λ d. IsValid true (dwarf_in d)) }
     ensures err { IfErr result (λ e. e ≡ NoMemory) }
 {
     let mut dwarf = Dwarf::new(alloc);
