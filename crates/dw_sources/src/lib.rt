@@ -14,8 +14,6 @@ mod range_item;
 mod raw_lists;
 mod read_operation;
 mod stack;
-#[cfg(test)]
-mod tests;
 mod typed;
 
 pub use convert_error::{ConvertError, ConvertResult};

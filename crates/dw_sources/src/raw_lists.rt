@@ -1,6 +1,6 @@
 //! The range lists and location lists of a unit, item by item (DWARF 5, 2.6.2 and 2.17.3).
 
-ghost use Rattle.std.specs.Prelude.{◌≡◌, List, IfOk, IfErr};
+ghost use Rattle.std.specs.Prelude.{◌≡◌, List, false, IfOk, IfErr};
 ghost use Rattle.dw_base.specs.Numbers.{bytes_at};
 ghost use Rattle.dw_read.specs.Reading.{Refuses};
 ghost use Rattle.dw_read.specs.Reasons.{bytes_read};
@@ -27,11 +27,7 @@ pub fn raw_ranges<R: Reader>(
     let encoding = unit.encoding();
     let mut input = range_lists(unit);
     input.skip(offset.0)?;
-    Ok(RawRngListIter {
-        input,
-        encoding,
-        has_ended: false,
-    })
+    Ok(RawRngListIter::new(input, encoding))
 }
 
 /// The items of the location list at an offset of `.debug_loclists`, or up to version 4 of
@@ -47,11 +43,7 @@ pub fn raw_locations<R: Reader>(
     let encoding = unit.encoding();
     let mut input = location_lists(unit);
     input.skip(offset.0)?;
-    Ok(RawLocListIter {
-        input,
-        encoding,
-        has_ended: false,
-    })
+    Ok(RawLocListIter::new(input, encoding))
 }
 
 /// A reader of the section of a unit's range lists.
@@ -90,6 +82,20 @@ pub struct RawRngListIter<R: Reader> {
 }
 
 impl<R: Reader> RawRngListIter<R> {
+    /// The items of the range list that a reader stands at, as `.debug_rnglists` has them, or up to
+    /// version 4 `.debug_ranges`.
+    pub fn new(input: R, encoding: Encoding) -> RawRngListIter<R>
+        ensures input { result.input ≡ input }
+        ensures encoding { result.encoding ≡ encoding }
+        ensures going { result.has_ended ≡ false }
+    {
+        RawRngListIter {
+            input,
+            encoding,
+            has_ended: false,
+        }
+    }
+
     /// The next item. None comes at the list's close, and once an error was answered.
     pub fn next(&mut self) -> ReadResult<Option<RawRngListEntry>>
         ensures { ReadsRange R.reading self.old self.new result }
@@ -130,6 +136,20 @@ pub struct RawLocListIter<R: Reader> {
 }
 
 impl<R: Reader> RawLocListIter<R> {
+    /// The items of the location list that a reader stands at, as `.debug_loclists` has them, or up
+    /// to version 4 `.debug_loc`.
+    pub fn new(input: R, encoding: Encoding) -> RawLocListIter<R>
+        ensures input { result.input ≡ input }
+        ensures encoding { result.encoding ≡ encoding }
+        ensures going { result.has_ended ≡ false }
+    {
+        RawLocListIter {
+            input,
+            encoding,
+            has_ended: false,
+        }
+    }
+
     /// The next item. None comes at the list's close, and once an error was answered.
     pub fn next(&mut self) -> ReadResult<Option<RawLocListEntry<R>>>
         ensures { ReadsLocation R.reading self.old self.new result }

@@ -1,9 +1,9 @@
 //! Each operation in versions 2 to 5, with its bytes by hand (DWARF 5, table 7.9).
 
-use crate::Operation;
 use crate::tests::{Little, narrow, one, one_of_big, operations, wide};
 use dw_base::{DebugInfoOffset, Encoding, UnitOffset};
 use dw_read::Reader;
+use dw_sources::Operation;
 use std::test::Fail;
 
 /// Bytes, and the variant that they are with its first two numbers, signed ones modulo 2^64.

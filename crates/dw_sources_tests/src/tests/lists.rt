@@ -2,25 +2,17 @@
 //! 2.6.2; DWARF 5, 7.25 and 7.7.3).
 
 use crate::tests::{Little, narrow, wide};
-use crate::{RawLocListEntry, RawLocListIter, RawRngListEntry, RawRngListIter};
 use dw_base::{Encoding, LittleEndian};
 use dw_read::{EndianSlice, ReadError, Reader};
+use dw_sources::{RawLocListEntry, RawLocListIter, RawRngListEntry, RawRngListIter};
 use std::test::Fail;
 
 fn ranges(bytes: &[u8], encoding: Encoding) -> RawRngListIter<Little<'_>> {
-    RawRngListIter {
-        input: EndianSlice::new(bytes, LittleEndian),
-        encoding,
-        has_ended: false,
-    }
+    RawRngListIter::new(EndianSlice::new(bytes, LittleEndian), encoding)
 }
 
 fn locations(bytes: &[u8], encoding: Encoding) -> RawLocListIter<Little<'_>> {
-    RawLocListIter {
-        input: EndianSlice::new(bytes, LittleEndian),
-        encoding,
-        has_ended: false,
-    }
+    RawLocListIter::new(EndianSlice::new(bytes, LittleEndian), encoding)
 }
 
 // Version 5, addresses of 4 bytes: each kind once, the close, and a byte behind it.

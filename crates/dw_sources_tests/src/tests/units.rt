@@ -1,10 +1,10 @@
 //! Lists of units, by their offsets in the sections of their versions.
 
 use crate::tests::Little;
-use crate::{RawLocListEntry, RawRngListEntry, raw_locations, raw_ranges};
 use dw_base::{LittleEndian, LocationListsOffset, RangeListsOffset};
 use dw_read::{EndianSlice, ReadError, ReadResult};
 use dw_read_units::{Dwarf, Unit, UnitRef};
+use dw_sources::{RawLocListEntry, RawRngListEntry, raw_locations, raw_ranges};
 use std::alloc::Global;
 use std::test::Fail;
 

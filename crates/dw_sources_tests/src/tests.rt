@@ -3,9 +3,9 @@ mod lists;
 mod refusals;
 mod units;
 
-use crate::{Operation, OperationIter};
 use dw_base::{BigEndian, Encoding, Format, LittleEndian};
 use dw_read::{EndianSlice, Expression, ReadResult};
+use dw_sources::{Operation, OperationIter};
 
 pub(crate) type Little<'a> = EndianSlice<'a, LittleEndian>;
 
