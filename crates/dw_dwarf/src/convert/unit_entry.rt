@@ -17,7 +17,10 @@ use std::alloc::Global;
 ///
 /// ```
 /// let mut entry = unit.null_entry();
-/// while let Some(Some(id)) = unit.read_entry(&mut entry)? {
+/// for _ in 0..rows {
+///     let Some(Some(id)) = unit.read_entry(&mut entry)? else {
+///         break;
+///     };
 ///     let id = unit.add_entry(Some(id), &entry)?;
 /// }
 /// ```

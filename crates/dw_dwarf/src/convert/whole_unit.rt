@@ -1,6 +1,6 @@
 //! Converting all of a unit.
 
-ghost use Rattle.std.specs.Prelude.{◌≡◌, ◌⊎◌, true, OnOk, IfErr};
+ghost use Rattle.std.specs.Prelude.{◌≡◌, ◌⊎◌, true, OnOk, OnErr, IfErr};
 ghost use Rattle.dw_sources.specs.declared.convert_error.ConvertError.TheVariants.{NoMemory};
 ghost use Rattle.dw_convert_lines.specs.Views.{tables};
 ghost use Rattle.dw_dwarf.specs.Converters.{IsFresh, KeepsLoans, entries_in, infos_in};
@@ -20,8 +20,8 @@ impl<'a, R: Reader> ConvertUnit<'a, R> {
     /// with the unit; what it held is read again from the unit. `convert_address` says what an
     /// address of the read file becomes. No entry is left to be read afterwards.
     ///
-    /// It is refused as `Dwarf::from` is. After an error the unit and the strings may have what was
-    /// converted before it.
+    /// It is refused as `Dwarf::from` is. After an error the unit, the strings and the files may
+    /// have what was converted before it; the entries that are left can still be read.
     ///
     /// ```
     /// if let Some((mut unit, root)) = section.read_unit()? {
@@ -37,6 +37,7 @@ impl<'a, R: Reader> ConvertUnit<'a, R> {
         requires fresh { IsFresh self.old }
         ensures ok { OnOk result
             (ConvertsWhole R.reading (F.post convert_address.now) self.old self.new) }
+        ensures unread { OnErr result (self.new.rows ≡ self.old.rows) }
         ensures ended { OnOk result (self.new.rows.is_ended ≡ true) }
         ensures err { IfErr result (λ e. (e ≡ NoMemory)
             ⊎ RefusesWhole R.reading (F.post convert_address.now) self.old e) }
