@@ -160,13 +160,18 @@ fn fails_at_a_writer_that_takes_nothing(rt: HostRuntime) {
     assert_eq!(rt; write_all(&mut sink, b"e"), Err(SinkError::Failed));
 }
 
-/// Sections with some bytes in a few of them.
-fn some_sections(alloc: Global) -> dw_base::Result<Sections<EndianVec<RunTimeEndian>>> {
-    let mut sections = Sections::new(alloc, EndianVec::new(alloc, RunTimeEndian::Big))?;
+/// Writes some bytes into a few sections.
+fn fill(sections: &mut Sections<EndianVec<RunTimeEndian>>) -> dw_base::Result<()> {
     sections.debug_abbrev.0.write(&[0x01, 0x11, 0x00])?;
     sections.debug_str.0.write(&[0xa9, 0x0f])?;
     sections.debug_info.0.write(&[0x00; 12])?;
-    sections.eh_frame.0.write(&[0xff])?;
+    sections.eh_frame.0.write(&[0xff])
+}
+
+/// Sections with some bytes in a few of them.
+fn some_sections(alloc: Global) -> dw_base::Result<Sections<EndianVec<RunTimeEndian>>> {
+    let mut sections = Sections::new(alloc, EndianVec::new(alloc, RunTimeEndian::Big))?;
+    fill(&mut sections)?;
     Ok(sections)
 }
 

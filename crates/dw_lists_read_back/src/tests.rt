@@ -20,6 +20,10 @@ const FIVE: &[u8] = b"\x09\x00\x00\x00\x05\x00\x01\x04\x00\x00\x00\x00\x01";
 
 const FOUR: &[u8] = b"\x08\x00\x00\x00\x04\x00\x00\x00\x00\x00\x04\x01";
 
+/// A base, a pair and the close, behind a byte of none.
+const RANGES: &[u8] = b".\xff\xff\xff\xff\x00\x10\x00\x00\x01\x00\x00\x00\x02\x00\x00\x00\
+    \x00\x00\x00\x00\x00\x00\x00\x00";
+
 /// A list in each section of lists, behind a byte of none.
 fn sections(info: &[u8]) -> Dwarf<Little<'_>> {
     Dwarf {
@@ -27,9 +31,7 @@ fn sections(info: &[u8]) -> Dwarf<Little<'_>> {
         debug_str: section(b""),
         debug_line_str: section(b""),
         debug_line: section(b""),
-        debug_ranges: section(
-            b".\xff\xff\xff\xff\x00\x10\x00\x00\x01\x00\x00\x00\x02\x00\x00\x00\x00\x00\x00\x00\x00\x00\x00\x00",
-        ),
+        debug_ranges: section(RANGES),
         debug_rnglists: section(b".\x04\x01\x02\x07\x00\x10\x00\x00\x20\x00"),
         debug_loc: section(
             b".\x01\x00\x00\x00\x02\x00\x00\x00\x01\x00\x96\x00\x00\x00\x00\x00\x00\x00\x00",
