@@ -6,6 +6,7 @@ use Rattle.dw_base.specs.Numbers.{◌>>=◌, when, num, is_width, fits}
 use Rattle.dw_base.specs.declared.common.Encoding.{Encoding}
 use Rattle.dw_base.specs.declared.error.Error.{Error}
 use Rattle.dw_base.specs.declared.error.Error.TheVariants as errors
+use Rattle.dw_base.proofs.NumberLaws.{length-num}
 use Rattle.dw_writer.specs.Texts.{Text, num_text}
 use Rattle.dw_writer.specs.SignedNumbers.{signed_fits, signed_num, twos_complement}
 use Rattle.dw_writer.specs.Meaning.{Meaning, IsSameWriter, Adds, Appends}
@@ -13,7 +14,7 @@ use Rattle.dw_writer.specs.SectionTexts.{bytes_text}
 use Rattle.dw_writer.specs.Drafts.{whole, then_draft, Drafts}
 use Rattle.dw_writer.specs.declared.fixup.DebugInfoFixup.{DebugInfoFixup}
 use Rattle.dw_writer.proofs.FaultLaws.{HasRisen-from}
-use Rattle.dw_writer.proofs.Laws.{length-num, length-num_text}
+use Rattle.dw_writer.proofs.Laws.{length-num_text}
 use Rattle.dw_writer.proofs.Plain.{num-shown, num-byte}
 use Rattle.dw_writer.proofs.Steps.{Adds-appends, Appends-by}
 use Rattle.dw_writer.proofs.DraftLaws.{then-nothing, nothing-then}

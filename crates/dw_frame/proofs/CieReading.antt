@@ -7,11 +7,11 @@ use Rattle.dw_base.specs.Leb128.{uleb, sleb, uleb_at, sleb_at}
 use Rattle.dw_base.specs.declared.address.Address.{Address}
 use Rattle.dw_base.specs.declared.common.Format.{Format}
 use Rattle.dw_base.specs.declared.constants.DwEhPe.{DwEhPe}
-use Rattle.dw_base.proofs.NumberLaws.{bytes_at_is, initial_length-again}
+use Rattle.dw_base.proofs.NumberLaws.{bytes_at_is, initial_length-again, length-num}
 use Rattle.dw_base.proofs.Leb128Laws.{uleb-again, sleb-again}
 use Rattle.dw_base.proofs.HeaderLaws.{byte-again}
 use Rattle.dw_writer.specs.Texts.{Text}
-use Rattle.dw_writer.proofs.Laws.{length-num, length-num_text}
+use Rattle.dw_writer.proofs.Laws.{length-num_text}
 use Rattle.dw_frame.specs.declared.cie.CommonInformationEntry.{CommonInformationEntry}
 use Rattle.dw_frame.specs.declared.kind.FrameKind.{FrameKind}
 use Rattle.dw_frame.specs.Pieces.{Piece, bytes, both, missing}

@@ -6,12 +6,12 @@ use Rattle.dw_base.specs.declared.common.Encoding.{Encoding}
 use Rattle.dw_base.specs.declared.common.Format.{Format}
 use Rattle.dw_base.specs.declared.error.Error.{Error}
 use Rattle.dw_base.specs.declared.error.Error.TheVariants as errors
+use Rattle.dw_base.proofs.NumberLaws.{length-num}
 use Rattle.dw_writer.specs.Texts.{Text, zeros, followed}
 use Rattle.dw_writer.specs.Meaning.{Meaning, Model, Adds, Replaces, Patches}
 use Rattle.dw_writer.specs.SectionTexts.{number_text}
 use Rattle.dw_writer.specs.Causes.{PatchRefused, NumberRefused, LengthRefused}
 use Rattle.dw_writer.proofs.Places.{length-zeros}
-use Rattle.dw_writer.proofs.Laws.{length-num}
 use Rattle.dw_writer.proofs.Plain.{Replaces-number, num-shown}
 use Rattle.dw_writer.proofs.Steps.{IsSameWriter-trans, Adds-filled, Appends-as, Patches-by}
 use Rattle.dw_expr.specs.Places.{Refused}

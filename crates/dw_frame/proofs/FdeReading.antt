@@ -8,8 +8,8 @@ use Rattle.dw_base.specs.declared.address.Address.{Address}
 use Rattle.dw_base.specs.declared.address.Address.TheVariants.{Constant}
 use Rattle.dw_base.specs.declared.common.Format.{Format}
 use Rattle.dw_base.specs.declared.constants.DwEhPe.{DwEhPe}
-use Rattle.dw_base.proofs.NumberLaws.{initial_length-again}
-use Rattle.dw_writer.proofs.Laws.{length-num, length-num_text}
+use Rattle.dw_base.proofs.NumberLaws.{initial_length-again, length-num}
+use Rattle.dw_writer.proofs.Laws.{length-num_text}
 use Rattle.dw_frame.specs.declared.cie.CommonInformationEntry.{CommonInformationEntry}
 use Rattle.dw_frame.specs.declared.fde.FrameDescriptionEntry.{FrameDescriptionEntry}
 use Rattle.dw_frame.specs.declared.kind.FrameKind.{FrameKind}

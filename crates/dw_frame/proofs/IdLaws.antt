@@ -5,8 +5,7 @@ use Rattle.std.proofs.lemmas.Bool.{eq-eqb, ne_eqb}
 use Rattle.dw_base.specs.Numbers.{◌>>=◌, when, number_at, initial_length_at, value_of, num, word_of, length_size, escape_of}
 use Rattle.dw_base.specs.declared.common.Format.{Format}
 use Rattle.dw_base.specs.declared.common.Format.TheVariants.{Dwarf32, Dwarf64}
-use Rattle.dw_base.proofs.NumberLaws.{bytes_at_is, initial_length-again}
-use Rattle.dw_writer.proofs.Laws.{length-num}
+use Rattle.dw_base.proofs.NumberLaws.{bytes_at_is, initial_length-again, length-num}
 use Rattle.dw_writer.specs.SectionTexts.{offset_text}
 use Rattle.dw_frame.specs.declared.cie.CommonInformationEntry.{CommonInformationEntry}
 use Rattle.dw_frame.specs.declared.fde.FrameDescriptionEntry.{FrameDescriptionEntry}

@@ -8,6 +8,7 @@ use Rattle.dw_base.specs.Pointers.{signed_of}
 use Rattle.dw_base.specs.declared.address.Address.{Address}
 use Rattle.dw_base.specs.declared.error.Error.{Error}
 use Rattle.dw_base.specs.declared.section_id.SectionId.TheVariants.{DebugFrame}
+use Rattle.dw_base.proofs.NumberLaws.{length-num}
 use Rattle.dw_writer.specs.Texts.{Text}
 use Rattle.dw_writer.specs.Meaning.{Meaning, Adds, Appends, pointer_fits, spelled_text}
 use Rattle.dw_writer.specs.Causes.{BytesRefused, NumberRefused, AddressRefused, DataRefused, PointerRefused, address_fits, offset_fits}
@@ -15,7 +16,7 @@ use Rattle.dw_writer.specs.Pointers.{layout_by, laid_out, laid_size, data_text}
 use Rattle.dw_writer.specs.SectionTexts.{offset_text, address_text, eh_pointer_text, eh_pointer_size}
 use Rattle.dw_writer.specs.declared.pointer.PointerLayout.{PointerLayout}
 use Rattle.dw_writer.specs.declared.pointer.PointerLayout.TheVariants.{Uleb128, Sleb128, Unsigned, Signed}
-use Rattle.dw_writer.proofs.Laws.{length-num, length-num_text, length-signed_text}
+use Rattle.dw_writer.proofs.Laws.{length-num_text, length-signed_text}
 use Rattle.dw_writer.proofs.Plain.{num-shown}
 use Rattle.dw_writer.proofs.Steps.{Adds-appends, Appends-by}
 use Rattle.dw_frame.specs.Pieces.{IsWritten, number}

@@ -5,10 +5,11 @@ use Rattle.std.proofs.Math.Path.{fun_ext}
 use Rattle.dw_base.specs.Numbers.{num}
 use Rattle.dw_base.specs.declared.error.Error.{Error}
 use Rattle.dw_base.specs.declared.error.Error.TheVariants as errors
+use Rattle.dw_base.proofs.NumberLaws.{length-num}
 use Rattle.dw_writer.specs.Texts.{Text, followed}
 use Rattle.dw_writer.specs.Meaning.{Meaning, Layout, Model, IsSameWriter, Adds}
 use Rattle.dw_writer.specs.Causes.{BytesRefused}
-use Rattle.dw_writer.proofs.Laws.{followed_assoc, length-num}
+use Rattle.dw_writer.proofs.Laws.{followed_assoc}
 use Rattle.dw_writer.proofs.Parts.{followed-nothing}
 use Rattle.dw_writer.proofs.Plain.{num-byte}
 use Rattle.dw_writer.proofs.Steps.{Adds-appends, Appends-then, Appends-by}

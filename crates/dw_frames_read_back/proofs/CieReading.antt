@@ -6,8 +6,8 @@ use Rattle.dw_base.specs.Leb128.{uleb, sleb}
 use Rattle.dw_base.specs.Forms.{text_at}
 use Rattle.dw_base.specs.declared.common.Format.{Format}
 use Rattle.dw_base.specs.declared.common.Format.TheVariants.{Dwarf32, Dwarf64}
+use Rattle.dw_base.proofs.NumberLaws.{length-num}
 use Rattle.dw_writer.specs.Texts.{zeros}
-use Rattle.dw_writer.proofs.Laws.{length-num}
 use Rattle.dw_expr.specs.Causes.{width_fails}
 use Rattle.dw_read.specs.Reasons.{number_read, uleb_read, uleb16_read, sleb_read, text_read}
 use Rattle.dw_read.proofs.Laws.{read_is, number_law, text_law}

@@ -10,9 +10,10 @@ use Rattle.dw_base.specs.declared.common.Format.{Format}
 use Rattle.dw_base.specs.declared.common.Format.TheVariants.{Dwarf32, Dwarf64}
 use Rattle.dw_base.specs.declared.constants.DwEhPe.{DwEhPe}
 use Rattle.dw_base.specs.declared.constants.TheConstants.{DW_EH_PE_absptr}
+use Rattle.dw_base.proofs.NumberLaws.{length-num}
 use Rattle.dw_writer.specs.Texts.{zeros}
 use Rattle.dw_writer.specs.SectionTexts.{offset_text}
-use Rattle.dw_writer.proofs.Laws.{length-num, length-num_text}
+use Rattle.dw_writer.proofs.Laws.{length-num_text}
 use Rattle.dw_frame.specs.declared.cie.CommonInformationEntry.{CommonInformationEntry}
 use Rattle.dw_frame.specs.declared.fde.FrameDescriptionEntry.{FrameDescriptionEntry}
 use Rattle.dw_frame.specs.declared.kind.FrameKind.{FrameKind}

@@ -10,12 +10,13 @@ use Rattle.dw_base.specs.declared.address.Address.{Address}
 use Rattle.dw_base.specs.declared.common.Encoding.{Encoding}
 use Rattle.dw_base.specs.declared.constants.DwEhPe.{DwEhPe}
 use Rattle.dw_base.proofs.Leb128Laws.{uleb_short, sleb_short}
+use Rattle.dw_base.proofs.NumberLaws.{length-num}
 use Rattle.dw_writer.specs.Texts.{Text, num_text, zeros}
 use Rattle.dw_writer.specs.SignedNumbers.{signed_fits, signed_num}
 use Rattle.dw_writer.specs.Pointers.{signed_text, layout_by, laid_out, constant_pointer, counted, data_text}
 use Rattle.dw_writer.specs.declared.pointer.PointerLayout.{PointerLayout}
 use Rattle.dw_writer.specs.declared.pointer.PointerLayout.TheVariants.{Uleb128, Sleb128, Unsigned, Signed}
-use Rattle.dw_writer.proofs.Laws.{length-num, length-num_text, length-signed_text}
+use Rattle.dw_writer.proofs.Laws.{length-num_text, length-signed_text}
 use Rattle.dw_expr.specs.Causes.{width_fails}
 use Rattle.dw_expr.specs.Places.{place_by}
 use Rattle.dw_expr.specs.Spelling.{expression_size}

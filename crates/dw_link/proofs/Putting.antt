@@ -2,6 +2,7 @@
 use Rattle.std.specs.Prelude.{◌≡◌, ℕ, suc, zero, ◌+◌, ◌≤◌, Bool, true, false, ◌&&◌, List, [], ◌∷◌, ◌++◌, length, take, drop, Option, Some, None, ℤ, pos, ◌+ℤ◌, IsTrue, IsFalse, if◌then◌else◌, refl}
 use Rattle.std.specs.Option.{is_some}
 use Rattle.std.proofs.Common.{sym, ◌∙◌, ap, arith}
+use Rattle.std.proofs.lemmas.Bool.{and_parts}
 use Rattle.dw_base.specs.Numbers.{◌>>=◌, high_first, low_first}
 use Rattle.dw_base.specs.declared.constants.DwEhPe.{DwEhPe}
 use Rattle.dw_writer.specs.Texts.{Text, followed, overwrite, patched}
@@ -86,15 +87,11 @@ fault-sum big l ys r h k e = to_target big l ys r h k ∙ ap (λ k. first_of k (
 
 -- The sum of a relocation
 
-and_left : (a b : Bool) → IsTrue (a && b) → a ≡ true
-and_left true b h = refl
-and_left false b h = cc
-
 sum_text-symbol : (big : Bool) (w place : ℕ) (t : RelocationTarget) (e : Option DwEhPe) (z : ℤ) → IsTrue (takes_encoding w t e) →
     sum_text big w place (is_symbol t) e z ≡ sum_text big w place true e z
 unfolding sum_text
 sum_text-symbol big w place t None z h = refl
-sum_text-symbol big w place t (Some e) z h = ap (λ b. sum_text big w place b (Some e) z) (and_left (is_symbol t) (is_linkable w e.0) h)
+sum_text-symbol big w place t (Some e) z h = ap (λ b. sum_text big w place b (Some e) z) (and_parts (is_symbol t) (is_linkable w e.0) h).0
 
 record_text-is : (big : Bool) (l : Layout) (r : Relocation) (n v place : ℕ) (z : ℤ) → IsTrue (takes_encoding r.size r.target r.eh_pe) → target_value l r.target ≡ Some v →
     place ≡ l.own_start + r.offset → z ≡ pos n +ℤ r.addend +ℤ pos v → record_text big l r n ≡ sum_text big r.size place true r.eh_pe z

@@ -3,6 +3,7 @@ use Rattle.std.specs.Prelude.{◌≡◌, ℕ, ◌+◌, ◌-◌, ◌%◌, ◌^◌
 use Rattle.std.specs.Option.{ForSome}
 use Rattle.std.proofs.Common.{sym, ◌∙◌, ap, subst, arith}
 use Rattle.std.proofs.Math.Nat.{mod-eq_of_lt}
+use Rattle.std.proofs.lemmas.Bool.{and_parts}
 use Rattle.std.proofs.lemmas.Bool.Decides.{nat_tests}
 use Rattle.dw_base.specs.Numbers.{◌>>=◌, when, num, is_width, fits}
 use Rattle.dw_base.specs.Pointers.{format_of, application_of, from_zero, from_place, pointer_width, is_signed, signed_of, distance}
@@ -78,14 +79,6 @@ width_shown w (Some k) t h = when_true (k == w) t h
     when_true true t h = refl
     when_true false t h = cc
 
-and_left : (a b : Bool) → IsTrue (a && b) → IsTrue a
-and_left true b h = refl
-and_left false b h = cc
-
-and_right : (a b : Bool) → IsTrue (a && b) → IsTrue b
-and_right true b h = h
-and_right false b h = cc
-
 apart : (a : ℕ) → IsTrue (a == from_zero) → IsTrue (a == from_place) → ⊥
 apart a h k = grind (arith, nat_tests)
 
@@ -95,10 +88,10 @@ pointer_text-is : (big : Bool) (w encoding place n k : ℕ) → IsTrue (is_linka
 unfolding pointer_text formatted
 pointer_text-is big w encoding place n k h e =
     if_either (application_of encoding == from_zero) (application_of encoding == from_place) (formatted big w (format_of encoding) n) (formatted big w (format_of encoding) (distance place n))
-    (and_left (is_counted encoding) (is_width_of w (pointer_width w (format_of encoding))) h) (apart (application_of encoding))
+    (and_parts (is_counted encoding) (is_width_of w (pointer_width w (format_of encoding))) h).0 (apart (application_of encoding))
     ∙ if_inside (application_of encoding == from_place) (formatted big w (format_of encoding)) (distance place n) n
     ∙ ap (formatted big w (format_of encoding)) (sym e)
-    ∙ width_shown w (pointer_width w (format_of encoding)) _ (and_right (is_counted encoding) (is_width_of w (pointer_width w (format_of encoding))) h)
+    ∙ width_shown w (pointer_width w (format_of encoding)) _ (and_parts (is_counted encoding) (is_width_of w (pointer_width w (format_of encoding))) h).1
 
 -- the same text is spelled by the same bits
 pub AreBitsOf-same : (w : ℕ) (t u : Bool → Text) (o : Option ℕ) → ((big : Bool) → u big ≡ t big) → AreBitsOf w t o → AreBitsOf w u o

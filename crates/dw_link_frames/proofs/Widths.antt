@@ -10,8 +10,9 @@ use Rattle.dw_base.specs.declared.common.Format.TheVariants.{Dwarf32, Dwarf64}
 use Rattle.dw_base.specs.declared.constants.DwEhPe.{DwEhPe}
 use Rattle.dw_base.specs.declared.constants.TheConstants.{DW_CFA_advance_loc, DW_CFA_advance_loc1, DW_CFA_advance_loc2, DW_CFA_advance_loc4}
 use Rattle.dw_base.specs.declared.error.Error.{Error}
+use Rattle.dw_base.proofs.NumberLaws.{length-num}
 use Rattle.dw_writer.specs.Texts.{zeros}
-use Rattle.dw_writer.proofs.Laws.{length-num, length-num_text}
+use Rattle.dw_writer.proofs.Laws.{length-num_text}
 use Rattle.dw_expr.specs.Causes.{width_fails}
 use Rattle.dw_expr.specs.Places.{place_by}
 use Rattle.dw_expr.specs.Spelling.{expression_size}

@@ -7,12 +7,12 @@ use Rattle.dw_base.specs.Numbers.{◌>>=◌, num, word_of, escape_of, length_fit
 use Rattle.dw_base.specs.Leb128.{uleb}
 use Rattle.dw_base.specs.declared.common.Encoding.{Encoding}
 use Rattle.dw_base.specs.declared.common.Format.{Format}
-use Rattle.dw_base.proofs.NumberLaws.{bind_parts}
+use Rattle.dw_base.proofs.NumberLaws.{bind_parts, length-num}
 use Rattle.dw_writer.specs.Texts.{Text, num_text, followed}
 use Rattle.dw_writer.specs.Meaning.{Layout}
 use Rattle.dw_writer.specs.SectionTexts.{bytes_text}
 use Rattle.dw_writer.specs.Drafts.{Info, Draft, then_draft, all_drafts}
-use Rattle.dw_writer.proofs.Laws.{length-num, length-num_text}
+use Rattle.dw_writer.proofs.Laws.{length-num_text}
 use Rattle.dw_expr.specs.Trees.{Node}
 use Rattle.dw_expr.specs.Spelling.{expression_draft, expression_size}
 use Rattle.dw_lists.specs.declared.kinds.Kinds.{Kinds}

@@ -7,11 +7,12 @@ use Rattle.dw_base.specs.Numbers.{◌>>=◌, num, is_width, fits}
 use Rattle.dw_base.specs.Leb128.{uleb, uleb_groups}
 use Rattle.dw_base.specs.declared.address.Address.{Address}
 use Rattle.dw_base.specs.declared.address.Address.TheVariants.{Constant, Symbol}
+use Rattle.dw_base.proofs.NumberLaws.{length-num}
 use Rattle.dw_writer.specs.Texts.{Text, num_text, int_text, followed}
 use Rattle.dw_writer.specs.Meaning.{Meaning, Layout, Adds, Appends}
 use Rattle.dw_writer.specs.SectionTexts.{address_text}
 use Rattle.dw_writer.specs.Drafts.{Draft}
-use Rattle.dw_writer.proofs.Laws.{length-num, length-num_text, followed-none}
+use Rattle.dw_writer.proofs.Laws.{length-num_text, followed-none}
 use Rattle.dw_writer.proofs.Plain.{num-shown, num-byte}
 use Rattle.dw_writer.proofs.Steps.{Adds-appends, Appends-then, Appends-as, Appends-by}
 use Rattle.dw_lists.specs.declared.kinds.Kinds.{Kinds}

@@ -6,13 +6,14 @@ use Rattle.std.proofs.lemmas.Bool.{lt-ltb}
 use Rattle.dw_base.specs.Numbers.{when, num, word_of, escape_of, length_fits}
 use Rattle.dw_base.specs.declared.common.Encoding.{Encoding}
 use Rattle.dw_base.specs.declared.common.Format.{Format}
+use Rattle.dw_base.proofs.NumberLaws.{length-num}
 use Rattle.dw_writer.specs.Texts.{Text, num_text, followed, zeros}
 use Rattle.dw_writer.specs.Meaning.{Meaning, Model, Adds, Appends, Replaces, Patches}
 use Rattle.dw_writer.specs.SectionTexts.{number_text}
 use Rattle.dw_writer.specs.Drafts.{Draft, then_draft, all_drafts, shifted, IsDraft, AreClear, Drafts}
 use Rattle.dw_writer.specs.declared.fixup.DebugInfoFixup.{DebugInfoFixup}
 use Rattle.dw_writer.proofs.Places.{length-zeros}
-use Rattle.dw_writer.proofs.Laws.{length-num, length-num_text}
+use Rattle.dw_writer.proofs.Laws.{length-num_text}
 use Rattle.dw_writer.proofs.Plain.{Adds-number, Replaces-number}
 use Rattle.dw_writer.proofs.Steps.{Appends-as, Appends-then, Patches-by, Adds-filled}
 use Rattle.dw_writer.proofs.WriteLaws.{Drafts-then, Drafts-whole, Drafts-nothing}

@@ -11,14 +11,13 @@ use Rattle.dw_base.specs.Spellable.{IsUnit}
 use Rattle.dw_base.specs.declared.common.Encoding.{Encoding}
 use Rattle.dw_base.specs.declared.common.Format.{Format}
 use Rattle.dw_base.specs.declared.section_id.SectionId.TheVariants.{DebugAbbrev, DebugInfo}
-use Rattle.dw_base.proofs.NumberLaws.{bind_parts}
+use Rattle.dw_base.proofs.NumberLaws.{bind_parts, length-num}
 use Rattle.dw_base.proofs.HeaderLaws.{length-fields_bytes}
 use Rattle.dw_base.proofs.InfoLaws.{unit-again}
 use Rattle.dw_writer.specs.Texts.{Text, followed, num_text}
 use Rattle.dw_writer.specs.Meaning.{Layout, start_of}
 use Rattle.dw_writer.specs.SectionTexts.{bytes_text, offset_text, after}
 use Rattle.dw_writer.specs.Drafts.{Info, then_draft}
-use Rattle.dw_writer.proofs.Laws.{length-num}
 use Rattle.dw_writer.proofs.Plain.{num-byte}
 use Rattle.dw_entries.specs.Entries.{EntryValue}
 use Rattle.dw_entries.specs.Targets.{targets_in}

@@ -1,12 +1,13 @@
 -- Laws of texts, and of records that are put into them.
 use Rattle.std.specs.Prelude.{◌≡◌, ◌==◌, ℕ, suc, zero, ◌+◌, ◌≤◌, Bool, true, false, ◌&&◌, not, List, [], ◌∷◌, ◌++◌, length, take, drop, Option, Some, None, refl, ℤ, pos, negsuc, ◌+ℤ◌, IsTrue, if◌then◌else◌}
-use Rattle.std.specs.Int.{bytes_low_first, bytes_high_first}
+use Rattle.std.specs.Int.{bytes_high_first}
 use Rattle.std.proofs.Common.{sym, ◌∙◌, ap, subst, inl, inr, arith, length-append, length-drop, append_assoc}
 use Rattle.std.proofs.lemmas.Bool.Decides.{nat_tests}
 use Rattle.std.proofs.lemmas.List.{take-append-le, drop-append-le}
 use Rattle.dw_base.specs.Numbers.{◌>>=◌, when, num, is_width, fits, high_first, low_first}
 use Rattle.dw_base.specs.Pointers.{format_of, application_of, from_zero, from_place, pointer_width, is_signed, signed_of, distance}
 use Rattle.dw_base.specs.declared.constants.DwEhPe.{DwEhPe}
+use Rattle.dw_base.proofs.NumberLaws.{length-num}
 use Rattle.dw_writer.specs.Texts.{Text, followed, num_text, int_text, overwrite, patched}
 use Rattle.dw_writer.specs.SignedNumbers.{signed_fits, signed_num, twos_complement}
 use Rattle.dw_writer.specs.Layout.{is_symbol}
@@ -34,18 +35,9 @@ pub followed-somes : (xs ys : List ℕ) → followed (Some xs) (Some ys) ≡ Som
 unfolding followed
 followed-somes xs ys = refl
 
-pub length-bytes_low_first : (i w n : ℕ) → length (bytes_low_first i w n) ≡ w
-length-bytes_low_first i zero n = refl
-length-bytes_low_first i (suc w) n = ap suc (length-bytes_low_first (suc i) w n)
-
 pub length-bytes_high_first : (w n : ℕ) → length (bytes_high_first w n) ≡ w
-length-bytes_high_first zero n = refl
-length-bytes_high_first (suc w) n = ap suc (length-bytes_high_first w n)
-
-pub length-num : (big : Bool) (w n : ℕ) → length (num big w n) ≡ w
 unfolding num
-length-num true w n = length-bytes_high_first w n
-length-num false w n = length-bytes_low_first 0 w n
+length-bytes_high_first w n = length-num true w n
 
 some_if : (b : Bool) (ys xs : List ℕ) → (if b then Some ys else None) ≡ Some xs → ys ≡ xs
 some_if true ys xs e = cc

@@ -13,7 +13,8 @@ use Rattle.dw_base.specs.declared.section_id.SectionId.{SectionId}
 use Rattle.dw_base.specs.declared.address.Address.TheVariants.{Constant}
 use Rattle.dw_base.specs.declared.error.Error.{Error}
 use Rattle.dw_base.specs.declared.error.Error.TheVariants.{NoMemory, WriteFault, OffsetOutOfBounds, LengthOutOfBounds}
-use Rattle.dw_writer.proofs.Laws.{length-bytes_high_first, length-num, length-num_text}
+use Rattle.dw_base.proofs.NumberLaws.{length-num}
+use Rattle.dw_writer.proofs.Laws.{length-bytes_high_first, length-num_text}
 use Rattle.dw_writer.proofs.Steps.{Adds-appends, Replaces-patches, Appends-by, Patches-by}
 use Rattle.dw_writer.proofs.Outcomes.{IfErr-map}
 

@@ -5,10 +5,11 @@ use Rattle.std.proofs.lemmas.Bool.Decides.{nat_tests}
 use Rattle.dw_base.specs.Numbers.{◌>>=◌, num, is_width, fits}
 use Rattle.dw_base.specs.declared.ids.UnitId.{UnitId}
 use Rattle.dw_base.specs.declared.ids.UnitEntryId.{UnitEntryId}
+use Rattle.dw_base.proofs.NumberLaws.{length-num}
 use Rattle.dw_writer.specs.Texts.{num_text, followed, overwrite, patched}
 use Rattle.dw_writer.specs.Meaning.{Meaning, Layout, Model, AllApart, IsClear, Adds, Appends, Patches}
 use Rattle.dw_writer.specs.declared.fixup.DebugInfoFixup.{DebugInfoFixup}
-use Rattle.dw_writer.proofs.Laws.{length-num, length-num_text, patched-none, IsClear-end, followed_assoc}
+use Rattle.dw_writer.proofs.Laws.{length-num_text, patched-none, IsClear-end, followed_assoc}
 use Rattle.dw_writer.proofs.Plain.{num-shown}
 use Rattle.dw_writer.proofs.Steps.{Adds-appends, Appends-then, Appends-by, Appends-as, Adds-filled, followed_texts-wide}
 use Rattle.dw_writer.proofs.Parts.{Adds-none}
