@@ -1,6 +1,6 @@
-//! Tables of cases of the program's commands `build`, `link` and `convert`, each an input and what a
-//! run over it prints; the program's tests run them. A table is text. Its lines are empty, remarks
-//! behind `# `, or begin with one of these words and a space:
+//! Tables of cases of the program's commands `build`, `link` and `convert`, each an input and what
+//! a run over it prints; the program's tests run them. A table is text. Its lines are empty,
+//! remarks behind `# `, or begin with one of these words and a space:
 //!
 //! - `case NAME` begins a case.
 //! - `command link` says that this command is run, or `convert`. Else it is `convert` where a
