@@ -5,6 +5,8 @@
 #[cfg(test)]
 mod calls;
 #[cfg(test)]
+mod code_tests;
+#[cfg(test)]
 mod relocation_tests;
 #[cfg(test)]
 mod section_tests;
