@@ -462,21 +462,31 @@ fn numbered(alloc: Global, count: u64) -> Result<LocationListTable> {
 }
 
 /// How many lists a large table has, the place of the last, and how many bytes are written.
-type Large = (usize, Option<LocationListsOffset>, usize);
+type Large = (Result<(usize, Option<LocationListsOffset>)>, usize);
 
-/// Writes a large table, whose lists of older versions have a base.
-fn write_large(alloc: Global, version: u16) -> Result<Large> {
+/// Writes ten thousand lists, which have a base in older versions.
+fn write_numbered<W: Writer>(
+    alloc: Global,
+    version: u16,
+    sections: &mut Sections<W>,
+) -> Result<(usize, Option<LocationListsOffset>)> {
     let table = numbered(alloc, 10_000)?;
-    let mut sections = plain(alloc, LITTLE)?;
     let encoding = encoding(version, Format::Dwarf32, 8);
     let none: Option<&Entries> = None;
-    let offsets = table.write(&mut sections, encoding, true, none)?;
+    let offsets = table.write(sections, encoding, true, none)?;
+    Ok((table.count(), offsets.get(LocationListId(9_999))))
+}
+
+/// Writes a large table into new sections.
+fn write_large(alloc: Global, version: u16) -> Result<Large> {
+    let mut sections = plain(alloc, LITTLE)?;
+    let last = write_numbered(alloc, version, &mut sections);
     let size = if version == 5 {
         sections.debug_loclists.0.slice().len()
     } else {
         sections.debug_loc.0.slice().len()
     };
-    Ok((table.count(), offsets.get(LocationListId(9_999)), size))
+    Ok((last, size))
 }
 
 /// Where the last list of version 5 stands: behind the header, an entry for each list, six bytes
@@ -490,7 +500,7 @@ const LARGE: [(u16, usize, usize); 2] = [(5, LAST, LAST + 8), (4, 9_999 * 35, 10
 #[test]
 fn ten_thousand_location_lists(rt: HostRuntime) {
     for (version, last, size) in LARGE {
-        let wanted = (10_000, Some(LocationListsOffset(last)), size);
+        let wanted = (Ok((10_000, Some(LocationListsOffset(last)))), size);
         assert_eq!(rt; write_large(rt.alloc(), version), Ok(wanted));
     }
 }

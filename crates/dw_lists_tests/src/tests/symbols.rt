@@ -137,12 +137,13 @@ fn is_location_recorded(
     let table = table_of(alloc, &[&[(Some(range), Body::Nop)]])?;
     let mut sections = recording(alloc)?;
     let encoding = encoding(version, Format::Dwarf32, 2);
-    table.write(&mut sections, encoding, false, None::<&Entries>)?;
-    Ok(if version == 5 {
+    let answer = table.write(&mut sections, encoding, false, None::<&Entries>);
+    let is_there = if version == 5 {
         has(&sections.debug_loclists.0, bytes, records)
     } else {
         has(&sections.debug_loc.0, bytes, records)
-    })
+    };
+    answer.and(Ok(is_there))
 }
 
 /// A version and a range, what the call answers, and the bytes and records of the section. Up to
