@@ -1,4 +1,5 @@
 use crate::tests::fixture::{attribute, big_and_long, little};
+use std::alloc::Global;
 use std::test::Fail;
 
 /// Names, forms, operands and values: expressions, sections and types by the name, in each
@@ -45,29 +46,46 @@ fn turns_values_by_their_names(rt: HostRuntime) -> Result<(), Fail> {
 }
 
 /// Names of places, and the value of a number as wide as a word in versions 2 and 3.
-const OLD_PLACES: &str = "10 line_ref
-43 macinfo_ref
-55 range_ref
-02 loc_ref
-38 loc_ref";
+const OLD_PLACES: &str = "10 line_ref 34
+43 macinfo_ref 34
+55 range_ref 34
+02 loc_ref 34
+38 loc_ref 34";
+
+/// A version, whether its numbers are big and long, a form, an operand, and its value where it is
+/// no place.
+type Number = (u16, bool, &'static str, &'static str, Option<&'static str>);
+
+const NUMBERS: [Number; 8] = [
+    (2, false, "06", "22000000", None),
+    (2, false, "07", "2200000000000000", Some("data8 34")),
+    (2, true, "07", "0000000000000022", None),
+    (3, false, "06", "22000000", None),
+    (3, false, "07", "2200000000000000", Some("data8 34")),
+    (3, true, "07", "0000000000000022", None),
+    (4, false, "06", "22000000", Some("data4 34")),
+    (5, false, "06", "22000000", Some("data4 34")),
+];
+
+/// The value of a number under a name of a place.
+fn number_of(alloc: Global, name: &str, number: Number) -> Result<String, Fail> {
+    let (version, is_long, form, operand, _) = number;
+    let kind = if is_long {
+        big_and_long(version)
+    } else {
+        little(version)
+    };
+    attribute(alloc, kind, name, form, operand)
+}
 
 #[test]
 fn takes_old_numbers_for_places(rt: HostRuntime) -> Result<(), Fail> {
     for row in OLD_PLACES.lines() {
-        let (name, kind) = row.split_once(' ').ok_or("a name")?;
-        let place = format!(in rt.alloc(); "{kind} 34")?;
-        for version in 2..4 {
-            let short = attribute(rt.alloc(), little(version), name, "06", "22000000")?;
-            assert_eq!(rt; short.as_str(), place.as_str(), "at {row}");
-            let wide = attribute(rt.alloc(), little(version), name, "07", "2200000000000000")?;
-            assert_eq!(rt; wide.as_str(), "data8 34", "at {row}");
-            let kind = big_and_long(version);
-            let long = attribute(rt.alloc(), kind, name, "07", "0000000000000022")?;
-            assert_eq!(rt; long.as_str(), place.as_str(), "at {row}");
-        }
-        for version in 4..6 {
-            let number = attribute(rt.alloc(), little(version), name, "06", "22000000")?;
-            assert_eq!(rt; number.as_str(), "data4 34", "at {row}");
+        let (name, place) = row.split_once(' ').ok_or("a name")?;
+        for number in NUMBERS {
+            let read = number_of(rt.alloc(), name, number)?;
+            let wanted = number.4.unwrap_or(place);
+            assert_eq!(rt; read.as_str(), wanted, "at {row} in version {}", number.0);
         }
     }
     Ok(())
