@@ -37,7 +37,7 @@ use Rattle.dw_expr.specs.Trees.{Node}
 use Rattle.dw_expr.specs.Spelling.{starts_from, parts_of, expression_draft, expression_size}
 use Rattle.dw_expr.specs.Causes.{nodes_unplaced, nodes_fail, expression_fails}
 use Rattle.dw_expr.proofs.ExpressionDrafts.{expression-wide}
-use Rattle.dw_unit.specs.UnitText.{counted_draft, fitting_text, info_draft, table_text}
+use Rattle.dw_unit.specs.UnitText.{content_draft, counted_draft, fitting_text, info_draft, table_text}
 
 pub width-word : (format : Format) → IsTrue (is_width (word_of format))
 width-word Dwarf32 = refl
@@ -84,55 +84,57 @@ expression_short e place plain ns sound =
     let short = (or_parts (nat_le (2 ^ 64) (expression_size e place ns)) (nodes_unplaced e (Some place) ns errors.ValueTooLarge) size).0 in
     grind (arith, nat_tests, short)
 
--- A draft of what is written, with the form's kind known
+-- A value is written as its content is, with the form's kind known.
+pub value_content : (e : Encoding) (u : UnitTargets) (v : AttributeValue) → content_draft e u (content_of e v) ≡ value_draft e u v
+value_content e u v =
+    draft_is (operand_size e u.place v) (operand_size e u.place v) _ (λ info big l. value_text big e (targets_in u l info) v) (operand_holes e u.place v) (operand_holes e u.place v) refl
+    (λ info big l.
+    let spell : Option Kind → texts.Text = λ k. content_operand big e (targets_in u l info) (content_of e v) >>= λ o. Some (operand_bytes big k o) in
+    ap spell (sym (kind_of-form e v)))
+    refl
 
-module _ (e : Encoding) (u : UnitTargets) (v : AttributeValue) where
+-- A draft of what is written, with its layout known
+
+module _ (e : Encoding) (u : UnitTargets) (x : Content) where
   -- a text without references that is the operand's
-  content_is : (c : Content) (n : ℕ) (t : Info → Model) (hs : List DebugInfoFixup) → content_of e v ≡ c → n ≡ content_size e u.place c → hs ≡ content_holes e u.place c →
+  content_is : (c : Content) (n : ℕ) (t : Info → Model) (hs : List DebugInfoFixup) → x ≡ c → n ≡ content_size e u.place c → hs ≡ content_holes e u.place c →
       ((info : Info) (big : Bool) (l : Layout) → t info big l ≡ (content_operand big e (targets_in u l info) c >>= λ o. Some (kind_bytes big (content_kind e c) o))) →
-      ◌≡◌ {A = Draft} (record { size = n; text = t; holes = hs }) (value_draft e u v)
-  content_is c n t hs is size holes text =
-      draft_is n (operand_size e u.place v) t (λ info big l. value_text big e (targets_in u l info) v) hs (operand_holes e u.place v) (size ∙ ap (content_size e u.place) (sym is))
-      (λ info big l.
-      let spell : Option Kind → Content → texts.Text = λ k x. content_operand big e (targets_in u l info) x >>= λ o. Some (operand_bytes big k o) in
-      text info big l
-      ∙ ap (λ x. spell (Some (content_kind e x)) x) (sym is)
-      ∙ ap (λ k. spell k (content_of e v)) (sym (kind_of-form e v)))
-      (holes ∙ ap (content_holes e u.place) (sym is))
+      ◌≡◌ {A = Draft} (record { size = n; text = t; holes = hs }) (content_draft e u x)
+  content_is c n t hs is size holes text = draft_is _ _ _ _ _ _ size text holes ∙ ap (content_draft e u) (sym is)
 
-  value_is : (c : Content) (n : ℕ) (t : Model) → content_of e v ≡ c → n ≡ content_size e u.place c → [] ≡ content_holes e u.place c →
-      ((info : Info) (big : Bool) (l : Layout) → t big l ≡ (content_operand big e (targets_in u l info) c >>= λ o. Some (kind_bytes big (content_kind e c) o))) → whole n t ≡ value_draft e u v
+  value_is : (c : Content) (n : ℕ) (t : Model) → x ≡ c → n ≡ content_size e u.place c → [] ≡ content_holes e u.place c →
+      ((info : Info) (big : Bool) (l : Layout) → t big l ≡ (content_operand big e (targets_in u l info) c >>= λ o. Some (kind_bytes big (content_kind e c) o))) → whole n t ≡ content_draft e u x
   value_is c n t is size none text = content_is c n (λ info. t) [] is size none text
 
   fitting : (big : Bool) (w n : ℕ) (b : Bool) → IsTrue b → ◌≡◌ {A = texts.Text} (Some (num big w n)) (when b (Some (Number n)) >>= λ o. Some (kind_bytes big (Fixed w) o))
   fitting big w n true h = refl
   fitting big w n false h = absurd (let x : IsTrue false = h in cc)
 
-  pub nothing_is : content_of e v ≡ Nothing → no_draft ≡ value_draft e u v
+  pub nothing_is : x ≡ Nothing → no_draft ≡ content_draft e u x
   nothing_is is = value_is Nothing 0 (λ big l. Some []) is refl refl (λ info big l. refl)
 
-  pub plain_is : (w n : ℕ) → content_of e v ≡ Plain w n → IsTrue (fits w n) → whole w (number_text w n) ≡ value_draft e u v
+  pub plain_is : (w n : ℕ) → x ≡ Plain w n → IsTrue (fits w n) → whole w (number_text w n) ≡ content_draft e u x
   unfolding number_text
   plain_is w n is fit = value_is (Plain w n) w (number_text w n) is refl refl (λ info big l. fitting big w n (fits w n) fit)
 
-  pub wide_is : (n : ℕ) → content_of e v ≡ Wide n → whole 16 (number_text 16 n) ≡ value_draft e u v
+  pub wide_is : (n : ℕ) → x ≡ Wide n → whole 16 (number_text 16 n) ≡ content_draft e u x
   unfolding number_text
   wide_is n is = value_is (Wide n) 16 (number_text 16 n) is refl refl (λ info big l. refl)
 
-  pub leb_is : (n : ℕ) → content_of e v ≡ Leb n → whole (length (uleb n)) (bytes_text (uleb n)) ≡ value_draft e u v
+  pub leb_is : (n : ℕ) → x ≡ Leb n → whole (length (uleb n)) (bytes_text (uleb n)) ≡ content_draft e u x
   unfolding bytes_text
   leb_is n is = value_is (Leb n) (length (uleb n)) (bytes_text (uleb n)) is refl refl (λ info big l. refl)
 
-  pub signed_leb_is : (z : ℤ) → content_of e v ≡ SignedLeb z → whole (length (sleb z)) (bytes_text (sleb z)) ≡ value_draft e u v
+  pub signed_leb_is : (z : ℤ) → x ≡ SignedLeb z → whole (length (sleb z)) (bytes_text (sleb z)) ≡ content_draft e u x
   unfolding bytes_text
   signed_leb_is z is = value_is (SignedLeb z) (length (sleb z)) (bytes_text (sleb z)) is refl refl (λ info big l. refl)
 
-  pub block_is : (xs : List ℕ) → content_of e v ≡ Block xs → whole (length (uleb (length xs) ++ xs)) (bytes_text (uleb (length xs) ++ xs)) ≡ value_draft e u v
+  pub block_is : (xs : List ℕ) → x ≡ Block xs → whole (length (uleb (length xs) ++ xs)) (bytes_text (uleb (length xs) ++ xs)) ≡ content_draft e u x
   unfolding bytes_text
   block_is xs is = value_is (Block xs) _ (bytes_text (uleb (length xs) ++ xs)) is (length-append (uleb (length xs)) xs) refl (λ info big l. refl)
 
   -- an expression behind its length, where that fits
-  pub expression_is : (ns : List Node) → content_of e v ≡ Expression ns → expression_size e u.place ns < 2 ^ 64 → counted_draft e u.place ns ≡ value_draft e u v
+  pub expression_is : (ns : List Node) → x ≡ Expression ns → expression_size e u.place ns < 2 ^ 64 → counted_draft e u.place ns ≡ content_draft e u x
   unfolding then_draft bytes_text
   expression_is ns is small =
       let d = expression_draft e u.place ns in
@@ -144,7 +146,7 @@ module _ (e : Encoding) (u : UnitTargets) (v : AttributeValue) where
   closing big s true k = absurd (let x : true ≡ false = k in cc)
   closing big s false k = refl
 
-  pub closed_is : (s : List ℕ) → content_of e v ≡ Closed s → IsFalse (has_zero s) → whole (length (s ++ 0 ∷ [])) (bytes_text (s ++ 0 ∷ [])) ≡ value_draft e u v
+  pub closed_is : (s : List ℕ) → x ≡ Closed s → IsFalse (has_zero s) → whole (length (s ++ 0 ∷ [])) (bytes_text (s ++ 0 ∷ [])) ≡ content_draft e u x
   unfolding bytes_text
   closed_is s is h = value_is (Closed s) _ (bytes_text (s ++ 0 ∷ [])) is (length-append s (0 ∷ [])) refl (λ info big l. closing big s (has_zero s) h)
 
@@ -167,7 +169,7 @@ module _ (e : Encoding) (u : UnitTargets) (v : AttributeValue) where
   symbol big w a None = refl
   symbol big w a (Some n) = integer big w (a +ℤ pos n)
 
-  pub target_is : (a : TargetAddress) → content_of e v ≡ Target a → IsTrue (is_width e.address_size) → whole e.address_size (address_text e.address_size a) ≡ value_draft e u v
+  pub target_is : (a : TargetAddress) → x ≡ Target a → IsTrue (is_width e.address_size) → whole e.address_size (address_text e.address_size a) ≡ content_draft e u x
   unfolding address_text
   target_is (addresses.Constant n) is wide =
       value_is (Target (addresses.Constant n)) e.address_size _ is refl refl (λ info big l. fixed_value big e.address_size (Some n) wide)
@@ -175,7 +177,7 @@ module _ (e : Encoding) (u : UnitTargets) (v : AttributeValue) where
       value_is (Target (addresses.Symbol s a)) e.address_size _ is refl refl
       (λ info big l. symbol big e.address_size a (slice_get l.symbols s) ∙ fixed_value big e.address_size (slice_get l.symbols s >>= λ n. natural (a +ℤ pos n)) wide)
 
-  pub offset_is : (section : SectionId) (n : ℕ) → content_of e v ≡ Offset section n → whole (word_of e.format) (offset_text (word_of e.format) section n) ≡ value_draft e u v
+  pub offset_is : (section : SectionId) (n : ℕ) → x ≡ Offset section n → whole (word_of e.format) (offset_text (word_of e.format) section n) ≡ content_draft e u x
   unfolding offset_text
   offset_is section n is =
       value_is (Offset section n) (word_of e.format) _ is refl refl (λ info big l. fixed_value big (word_of e.format) (Some (n + start_of l section)) (width-word e.format))
@@ -185,12 +187,12 @@ module _ (e : Encoding) (u : UnitTargets) (v : AttributeValue) where
   table_value big w start None h = refl
   table_value big w start (Some n) h = fixed_value big w (Some (n + start)) h
 
-  pub in_table_is : (section : SectionId) (i : ℕ) → content_of e v ≡ InTable section i → whole (word_of e.format) (table_text (word_of e.format) section (u.tables.part section i)) ≡ value_draft e u v
+  pub in_table_is : (section : SectionId) (i : ℕ) → x ≡ InTable section i → whole (word_of e.format) (table_text (word_of e.format) section (u.tables.part section i)) ≡ content_draft e u x
   unfolding offset_text
   in_table_is section i is =
       value_is (InTable section i) (word_of e.format) _ is refl refl (λ info big l. table_value big (word_of e.format) (start_of l section) (u.tables.part section i) (width-word e.format))
 
-  pub own_part_is : (section : SectionId) → content_of e v ≡ OwnPart section → whole (word_of e.format) (table_text (word_of e.format) section (u.tables.own section)) ≡ value_draft e u v
+  pub own_part_is : (section : SectionId) → x ≡ OwnPart section → whole (word_of e.format) (table_text (word_of e.format) section (u.tables.own section)) ≡ content_draft e u x
   unfolding offset_text
   own_part_is section is =
       value_is (OwnPart section) (word_of e.format) _ is refl refl (λ info big l. table_value big (word_of e.format) (start_of l section) (u.tables.own section) (width-word e.format))
@@ -199,7 +201,7 @@ module _ (e : Encoding) (u : UnitTargets) (v : AttributeValue) where
   filed big n true h = refl
   filed big n false h = absurd (let x : IsTrue false = h in cc)
 
-  pub file_is : (n : ℕ) → content_of e v ≡ File n → IsTrue (fits 8 n) → whole (length (uleb n)) (bytes_text (uleb n)) ≡ value_draft e u v
+  pub file_is : (n : ℕ) → x ≡ File n → IsTrue (fits 8 n) → whole (length (uleb n)) (bytes_text (uleb n)) ≡ content_draft e u x
   unfolding bytes_text
   file_is n is fit = value_is (File n) (length (uleb n)) (bytes_text (uleb n)) is refl refl (λ info big l. filed big n (fits 8 n) fit)
 
@@ -207,18 +209,18 @@ module _ (e : Encoding) (u : UnitTargets) (v : AttributeValue) where
   indexed big i None h = absurd (let x : true ≡ false = h in cc)
   indexed big i (Some n) h = refl
 
-  pub table_index_is : (section : SectionId) (i : ℕ) → content_of e v ≡ TableIndex section i → IsFalse (is_none (u.tables.part section i)) → whole (length (uleb i)) (bytes_text (uleb i)) ≡ value_draft e u v
+  pub table_index_is : (section : SectionId) (i : ℕ) → x ≡ TableIndex section i → IsFalse (is_none (u.tables.part section i)) → whole (length (uleb i)) (bytes_text (uleb i)) ≡ content_draft e u x
   unfolding bytes_text
   table_index_is section i is there = value_is (TableIndex section i) (length (uleb i)) (bytes_text (uleb i)) is refl refl (λ info big l. indexed big i (u.tables.part section i) there)
 
-  pub entry_place_is : (i n : ℕ) → content_of e v ≡ EntryPlace i → u.place i ≡ Some n → IsTrue (fits (word_of e.format) n) → whole (word_of e.format) (number_text (word_of e.format) n) ≡ value_draft e u v
+  pub entry_place_is : (i n : ℕ) → x ≡ EntryPlace i → u.place i ≡ Some n → IsTrue (fits (word_of e.format) n) → whole (word_of e.format) (number_text (word_of e.format) n) ≡ content_draft e u x
   unfolding number_text
   entry_place_is i n is h fit =
       let w = word_of e.format in
       value_is (EntryPlace i) w (number_text w n) is refl refl
       (λ info big l. fitting big w n (fits w n) fit ∙ ap (λ o. let t : texts.Text = (o >>= number_in w) >>= λ x. Some (kind_bytes big (Fixed w) x) in t) (sym h))
 
-  pub info_is : (r : InfoRef) → content_of e v ≡ InfoPlace r → IsTrue (is_width e.address_size) → info_draft (info_place_of e) r ≡ value_draft e u v
+  pub info_is : (r : InfoRef) → x ≡ InfoPlace r → IsTrue (is_width e.address_size) → info_draft (info_place_of e) r ≡ content_draft e u x
   info_is (refs.Symbol s) is wide = value_is (InfoPlace (refs.Symbol s)) (info_place_of e) (λ big l. None) is refl refl (λ info big l. refl)
   info_is (refs.Entry unit entry) is wide =
       content_is (InfoPlace (refs.Entry unit entry)) (info_place_of e) _ _ is refl refl (λ info big l. fixed_value big (info_place_of e) (info unit.0 entry.0) (info_width e wide))

@@ -1,10 +1,10 @@
 -- The text of a unit: a header, and entries with their codes, each with a zero behind its children (DWARF 5, 7.5.1 to 7.5.3).
-use Rattle.std.specs.Prelude.{ℕ, ◌+◌, List, [], ◌∷◌, length, map, Option, None, ◌==◌, if◌then◌else◌}
+use Rattle.std.specs.Prelude.{ℕ, ◌+◌, List, [], ◌∷◌, length, map, Option, Some, None, ◌==◌, if◌then◌else◌}
 use Rattle.dw_base.specs.Numbers.{◌>>=◌, when, word_of, escape_of, length_fits}
 use Rattle.dw_base.specs.Leb128.{uleb}
 use Rattle.dw_base.specs.Abbreviations.{Shape}
 use Rattle.dw_base.specs.Entries.{Mark, Open, Null}
-use Rattle.dw_base.specs.Spelling.{header_size, fields_size}
+use Rattle.dw_base.specs.Spelling.{kind_bytes, header_size, fields_size}
 use Rattle.dw_base.specs.declared.address.DebugInfoRef.{DebugInfoRef as InfoRef}
 use Rattle.dw_base.specs.declared.address.DebugInfoRef.TheVariants as refs
 use Rattle.dw_base.specs.declared.common.Encoding.{Encoding}
@@ -18,9 +18,10 @@ use Rattle.dw_writer.specs.SectionTexts.{bytes_text, offset_text, after}
 use Rattle.dw_writer.specs.Drafts.{Draft, no_draft, whole, then_draft, all_drafts, reference}
 use Rattle.dw_expr.specs.Trees.{Node}
 use Rattle.dw_expr.specs.Spelling.{bytes, expression_draft}
+use Rattle.dw_entries.specs.Content.{Content, content_operand, content_kind, content_size, content_holes}
 use Rattle.dw_entries.specs.declared.attribute.Attribute.{Attribute}
 use Rattle.dw_entries.specs.Entries.{EntryValue, entry_at, has_sibling}
-use Rattle.dw_entries.specs.Targets.{UnitTargets}
+use Rattle.dw_entries.specs.Targets.{UnitTargets, targets_in}
 use Rattle.dw_entries.specs.Values.{value_draft}
 use Rattle.dw_entries.specs.Tree.{preorder}
 use Rattle.dw_unit.specs.Coded.{code_at}
@@ -64,6 +65,14 @@ info_draft width (refs.Entry u i) = reference width u i
 -- an expression, its length before it
 abbrev pub counted_draft : Encoding → (ℕ → Option ℕ) → List Node → Draft
 counted_draft e place ns = let d = expression_draft e place ns in then_draft (bytes (uleb d.size)) d
+
+-- what stands for a value, by how it is laid out
+abbrev pub content_draft : Encoding → UnitTargets → Content → Draft
+content_draft e u c = record {
+  size = content_size e u.place c;
+  text = λ info big l. content_operand big e (targets_in u l info) c >>= λ o. Some (kind_bytes big (content_kind e c) o);
+  holes = content_holes e u.place c;
+}
 
 -- the values of attributes
 abbrev pub attribute_draft : Encoding → UnitTargets → Attribute → Draft

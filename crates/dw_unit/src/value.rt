@@ -1,6 +1,6 @@
 //! How values are written.
 
-ghost use Rattle.std.specs.Prelude.{◌++◌, ◌∷◌, [], Some, true, length, IsTrue, IsFalse, OnOk, IfErr};
+ghost use Rattle.std.specs.Prelude.{◌≡◌, ℕ, ◌++◌, ◌∷◌, [], Some, true, length, IsTrue, IsFalse, OnOk, IfErr};
 ghost use Rattle.dw_base.specs.Leb128.{uleb};
 ghost use Rattle.dw_base.specs.Numbers.{is_width, num, word_of};
 ghost use Rattle.dw_base.specs.declared.error.Error.{Error as AnError};
@@ -8,11 +8,11 @@ ghost use Rattle.dw_writer.specs.Drafts.{Drafts};
 ghost use Rattle.dw_writer.specs.Meaning.{IsSameWriter, Adds, Appends};
 ghost use Rattle.dw_writer.specs.Causes.{BytesRefused};
 ghost use Rattle.dw_writer.specs.SectionTexts.{offset_text, address_text};
-ghost use Rattle.dw_entries.specs.Content.{number_fails, text_fails, address_fails, offset_fails, table_fails, own_fails, reference_fails, info_fails};
-ghost use Rattle.dw_entries.specs.ContentView.{number_or_past};
+ghost use Rattle.dw_entries.specs.Content.{Plain, IsContentRanged, content_fails, number_fails, text_fails, address_fails, offset_fails, table_fails, own_fails, reference_fails, info_fails};
+ghost use Rattle.dw_entries.specs.ContentView.{content_in, number_or_past};
 ghost use Rattle.dw_entries.specs.Values.{value_draft, value_fails, IsRanged};
 ghost use Rattle.dw_expr.specs.Causes.{expression_fails};
-ghost use Rattle.dw_unit.specs.UnitText.{counted_draft, info_draft, table_text};
+ghost use Rattle.dw_unit.specs.UnitText.{content_draft, counted_draft, info_draft, table_text};
 ghost use Rattle.dw_unit.specs.Causes.{Refused, Is};
 ghost use Rattle.dw_unit.specs.Places.{FitsWords};
 ghost use Rattle.dw_unit.specs.TargetsAt.{placement_at, tables_at, targets_at};
@@ -46,7 +46,34 @@ pub(crate) fn write_value<W: Writer>(
         value.now))) }
     ensures same { IsSameWriter (W.meaning w.old) (W.meaning w.new) }
 {
-    match value.content(encoding) {
+    write_content(encoding, targets, value.content(encoding), w, fixups)
+}
+
+/// Writes what stands for a value, by how it is laid out.
+fn write_content<W: Writer>(
+    encoding: Encoding,
+    targets: &Targets<'_>,
+    content: Content<'_>,
+    w: &mut W,
+    fixups: &mut FixupList,
+) -> Result<()>
+    requires width { IsTrue (is_width encoding.address_size) }
+    requires plain { (w n : ℕ) → content_in content ≡ Plain w n → IsTrue (is_width w) }
+    requires fit { FitsWords encoding.format (placement_at targets.now) }
+    ensures ok { OnOk result
+        (Drafts (W.meaning w.old) (W.meaning w.new) fixups.old fixups.new
+        (content_draft encoding (targets_at targets.now) (content_in content.entry))) }
+    ensures sound { OnOk result
+        ((e : AnError) → IsFalse (content_fails encoding (targets_at targets.now)
+        (W.meaning w.old).is_plain (content_in content.entry) e)) }
+    ensures ranged { OnOk result (IsContentRanged (content_in content.entry)) }
+    ensures err { IfErr result
+        (Refused (W.meaning w.old) (W.meaning w.new)
+        (Is (content_fails encoding (targets_at targets.now) (W.meaning w.old).is_plain
+        (content_in content.entry)))) }
+    ensures same { IsSameWriter (W.meaning w.old) (W.meaning w.new) }
+{
+    match content {
         Content::Nothing => Ok(()),
         Content::Plain { value, size } => write_plain(value, size, w),
         Content::Wide(number) => w.write_u128(number),

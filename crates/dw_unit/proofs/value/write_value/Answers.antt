@@ -1,142 +1,37 @@
-use mir.Syntax.{w64}
-use Rattle.std.proofs.Common.{◌∙◌, sym, ap, subst, arith}
-use Rattle.std.specs.Prelude.{IsTrue}
-use Rattle.std.proofs.lemmas.Int.{to_z-of_z}
-use Rattle.dw_base.specs.Numbers.{word_of, is_width}
-use Rattle.dw_base.specs.declared.error.Error.TheVariants as errors
+use Rattle.std.proofs.Common.{◌∙◌, sym, ap, subst}
+use Rattle.std.specs.Prelude.{OnOk, IfErr, IsFalse}
+use Rattle.dw_base.specs.declared.error.Error.{Error}
 use Rattle.dw_writer.proofs.Outcomes.{OnOk-map}
-use Rattle.dw_writer.proofs.WriteLaws.{Drafts-is, Drafts-whole, Drafts-nothing}
-use Rattle.dw_entries.specs.Content.{content_fails}
-use Rattle.dw_entries.specs.ContentView.{content_in, number_or_past}
+use Rattle.dw_writer.proofs.WriteLaws.{Drafts-is}
+use Rattle.dw_entries.specs.Content.{content_fails, IsContentRanged}
 use Rattle.dw_entries.proofs.ContentLaws.{plain_width}
-use Rattle.dw_entries.proofs.ValueTexts.{info_width}
-use Rattle.dw_unit.specs.TargetsAt.{placement_at, targets_at}
-use Rattle.dw_unit.proofs.Drafted.{Drafts-bytes, Drafts-number, nothing_is, plain_is, wide_is, leb_is, signed_leb_is, block_is, expression_is, expression_short, closed_is, target_is, offset_is, in_table_is, table_index_is, own_part_is, file_is, entry_place_is, info_is}
-use Rattle.dw_unit.proofs.Faults.{OnOk-both, fitting_number}
-use Rattle.dw_unit.proofs.PlaceLaws.{found_some}
+use Rattle.dw_unit.specs.Causes.{Refused, Is}
+use Rattle.dw_unit.specs.TargetsAt.{targets_at}
+use Rattle.dw_unit.specs.UnitText.{content_draft}
+use Rattle.dw_unit.proofs.Drafted.{value_content}
 use Rattle.dw_unit.proofs.value.write_value.Goals as goal
 
-pub returns-in-Nothing-clause-ok : goal.returns-in-Nothing-clause-ok
-returns-in-Nothing-clause-ok g c =
-    let is = sym c.content.ensures ∙ ap content_in c.in-Nothing.is in
-    Drafts-is (Drafts-nothing (g.W.Writer.meaning c.args.w.now) c.args.fixups.now) (nothing_is c.args.encoding (targets_at c.args.targets.now) c.args.value.now is)
+pub write_content-requires-clause-plain : goal.write_content-requires-clause-plain
+write_content-requires-clause-plain g c = λ w n is. plain_width c.args.encoding c.args.value.now w n (sym c.content.ensures ∙ is)
 
-pub write_plain-requires : goal.write_plain-requires
-write_plain-requires g c =
-    let is = sym c.content.ensures ∙ ap content_in c.in-Plain.is in
-    plain_width c.args.encoding c.args.value.now c.in-Plain.size c.in-Plain.value is
-
-pub returns-in-Plain-clause-ok : goal.returns-in-Plain-clause-ok
-returns-in-Plain-clause-ok g c =
-    let is = sym c.content.ensures ∙ ap content_in c.in-Plain.is in
-    let w = c.in-Plain.size in
-    let n = c.in-Plain.value in
-    OnOk-both c.write_plain.result c.write_plain.ensures.ok c.write_plain.ensures.sound
-    (λ p h. Drafts-is (Drafts-number c.args.fixups.now w n p) (plain_is c.args.encoding (targets_at c.args.targets.now) c.args.value.now w n is (fitting_number w n (h errors.ValueTooLarge))))
-
-pub returns-in-Wide-clause-ok : goal.returns-in-Wide-clause-ok
-returns-in-Wide-clause-ok g c =
-    let is = sym c.content.ensures ∙ ap content_in c.in-Wide.is in
-    let n = c.in-Wide.number in
-    OnOk-map c.write_u128.result c.write_u128.ensures.ok
-    (λ p. Drafts-is (Drafts-number c.args.fixups.now 16 n p) (wide_is c.args.encoding (targets_at c.args.targets.now) c.args.value.now n is))
-
-pub returns-in-Leb-clause-ok : goal.returns-in-Leb-clause-ok
-returns-in-Leb-clause-ok g c =
-    let is = sym c.content.ensures ∙ ap content_in c.in-Leb.is in
-    OnOk-map c.write_uleb128.result c.write_uleb128.ensures.ok
-    (λ p. Drafts-is (Drafts-bytes c.args.fixups.now p) (leb_is c.args.encoding (targets_at c.args.targets.now) c.args.value.now c.in-Leb.number is))
-
-pub returns-in-SignedLeb-clause-ok : goal.returns-in-SignedLeb-clause-ok
-returns-in-SignedLeb-clause-ok g c =
-    let is = sym c.content.ensures ∙ ap content_in c.in-SignedLeb.is in
-    let wrote = rw (to_z-of_z w64 c.in-SignedLeb.number (omega arith)) at c.write_sleb128.ensures.ok in
-    OnOk-map c.write_sleb128.result wrote
-    (λ p. Drafts-is (Drafts-bytes c.args.fixups.now p) (signed_leb_is c.args.encoding (targets_at c.args.targets.now) c.args.value.now c.in-SignedLeb.number is))
-
-pub returns-in-Block-clause-ok : goal.returns-in-Block-clause-ok
-returns-in-Block-clause-ok g c =
-    let is = sym c.content.ensures ∙ ap content_in c.in-Block.is in
-    OnOk-map c.write_block.result c.write_block.ensures.ok
-    (λ p. Drafts-is (Drafts-bytes c.args.fixups.now p) (block_is c.args.encoding (targets_at c.args.targets.now) c.args.value.now c.in-Block.bytes.now is))
-
-pub returns-in-Expression-clause-ok : goal.returns-in-Expression-clause-ok
-returns-in-Expression-clause-ok g c =
-    let is = sym c.content.ensures ∙ ap content_in c.in-Expression.is in
+pub returns-clause-ok : goal.returns-clause-ok
+returns-clause-ok g c =
     let e = c.args.encoding in
     let u = targets_at c.args.targets.now in
-    let ns = c.in-Expression.expression.now in
-    OnOk-both c.write_expression.result c.write_expression.ensures.ok c.write_expression.ensures.sound
-    (λ p h. Drafts-is p (expression_is e u c.args.value.now ns is (expression_short e u.place (g.W.Writer.meaning c.args.w.now).is_plain ns h)))
+    OnOk-map c.write_content.result c.write_content.ensures.ok
+    (λ p. Drafts-is p (ap (content_draft e u) c.content.ensures ∙ value_content e u c.args.value.now))
 
-pub returns-in-Expression-clause-sound : goal.returns-in-Expression-clause-sound
-returns-in-Expression-clause-sound g c =
-    let is = sym c.content.ensures ∙ ap content_in c.in-Expression.is in
-    let e = c.args.encoding in
+pub returns-clause-sound : goal.returns-clause-sound
+returns-clause-sound g c =
+    let m = g.W.Writer.meaning c.args.w.now in
     let u = targets_at c.args.targets.now in
-    OnOk-map c.write_expression.result c.write_expression.ensures.sound
-    (λ h err. ap (λ k. content_fails e u (g.W.Writer.meaning c.args.w.now).is_plain k err) is ∙ h err)
+    subst (λ x. OnOk c.write_content.result ((err : Error) → IsFalse (content_fails c.args.encoding u m.is_plain x err))) c.content.ensures c.write_content.ensures.sound
 
-pub returns-in-Closed-clause-ok : goal.returns-in-Closed-clause-ok
-returns-in-Closed-clause-ok g c =
-    let is = sym c.content.ensures ∙ ap content_in c.in-Closed.is in
-    OnOk-both c.write_text.result c.write_text.ensures.ok c.write_text.ensures.sound
-    (λ p h. Drafts-is (Drafts-bytes c.args.fixups.now p) (closed_is c.args.encoding (targets_at c.args.targets.now) c.args.value.now c.in-Closed.text.now is (h errors.InvalidAttributeValue)))
+pub returns-clause-ranged : goal.returns-clause-ranged
+returns-clause-ranged g c = subst (λ x. OnOk c.write_content.result (IsContentRanged x)) c.content.ensures c.write_content.ensures.ranged
 
-pub returns-in-Target-clause-ok : goal.returns-in-Target-clause-ok
-returns-in-Target-clause-ok g c =
-    let is = sym c.content.ensures ∙ ap content_in c.in-Target.is in
-    OnOk-map c.write_target.result c.write_target.ensures.ok
-    (λ p. Drafts-is (Drafts-whole c.args.fixups.now p) (target_is c.args.encoding (targets_at c.args.targets.now) c.args.value.now c.in-Target.address is c.requires.width))
-
-pub returns-in-Offset-clause-ok : goal.returns-in-Offset-clause-ok
-returns-in-Offset-clause-ok g c =
-    let is = sym c.content.ensures ∙ ap content_in c.in-Offset.is in
-    OnOk-map c.write_place.result c.write_place.ensures.ok
-    (λ p. Drafts-is (Drafts-whole c.args.fixups.now p) (offset_is c.args.encoding (targets_at c.args.targets.now) c.args.value.now c.in-Offset.section c.in-Offset.value is))
-
-pub returns-in-InTable-clause-ok : goal.returns-in-InTable-clause-ok
-returns-in-InTable-clause-ok g c =
-    let is = sym c.content.ensures ∙ ap content_in c.in-InTable.is in
-    OnOk-map c.write_place_in_table.result c.write_place_in_table.ensures.ok
-    (λ p. Drafts-is (Drafts-whole c.args.fixups.now p) (in_table_is c.args.encoding (targets_at c.args.targets.now) c.args.value.now c.in-InTable.section c.in-InTable.index is))
-
-pub returns-in-TableIndex-clause-ok : goal.returns-in-TableIndex-clause-ok
-returns-in-TableIndex-clause-ok g c =
-    let is = sym c.content.ensures ∙ ap content_in c.in-TableIndex.is in
-    OnOk-both c.write_table_index.result c.write_table_index.ensures.ok c.write_table_index.ensures.sound
-    (λ p h. Drafts-is (Drafts-bytes c.args.fixups.now p) (table_index_is c.args.encoding (targets_at c.args.targets.now) c.args.value.now c.in-TableIndex.section c.in-TableIndex.index is (h errors.InvalidReference)))
-
-pub returns-in-OwnPart-clause-ok : goal.returns-in-OwnPart-clause-ok
-returns-in-OwnPart-clause-ok g c =
-    let is = sym c.content.ensures ∙ ap content_in c.in-OwnPart.is in
-    OnOk-map c.write_own_place.result c.write_own_place.ensures.ok
-    (λ p. Drafts-is (Drafts-whole c.args.fixups.now p) (own_part_is c.args.encoding (targets_at c.args.targets.now) c.args.value.now c.in-OwnPart.section is))
-
-pub returns-in-File-clause-ok : goal.returns-in-File-clause-ok
-returns-in-File-clause-ok g c =
-    let is = sym c.content.ensures ∙ ap content_in c.in-File.is in
-    let n = number_or_past c.in-File.number in
-    OnOk-both c.write_file.result c.write_file.ensures.ok c.write_file.ensures.sound
-    (λ p h. Drafts-is (Drafts-bytes c.args.fixups.now p) (file_is c.args.encoding (targets_at c.args.targets.now) c.args.value.now n is (fitting_number 8 n (h errors.ValueTooLarge))))
-
-pub returns-in-EntryPlace-clause-ok : goal.returns-in-EntryPlace-clause-ok
-returns-in-EntryPlace-clause-ok g c =
-    let e = c.args.encoding in
+pub returns-clause-err : goal.returns-clause-err
+returns-clause-err g c =
+    let m = g.W.Writer.meaning c.args.w.now in
     let u = targets_at c.args.targets.now in
-    let is = sym c.content.ensures ∙ ap content_in c.in-EntryPlace.is in
-    let i = c.in-EntryPlace.entry in
-    let n = (placement_at c.args.targets.now).place i.0 in
-    OnOk-both c.write_reference.result c.write_reference.ensures.ok c.write_reference.ensures.sound
-    (λ p h. Drafts-is (Drafts-number c.args.fixups.now (word_of e.format) n p)
-    (entry_place_is e u c.args.value.now i.0 n is (found_some (placement_at c.args.targets.now).place i.0 (h errors.InvalidReference)) (c.requires.fit i.0).0))
-
-pub write_info_reference-requires : goal.write_info_reference-requires
-write_info_reference-requires g c = subst (λ n. IsTrue (is_width n)) (sym c.info_place_size.ensures) (info_width c.args.encoding c.requires.width)
-
-pub returns-in-InfoPlace-clause-ok : goal.returns-in-InfoPlace-clause-ok
-returns-in-InfoPlace-clause-ok g c =
-    let is = sym c.content.ensures ∙ ap content_in c.in-InfoPlace.is in
-    let wrote = rw c.info_place_size.ensures at c.write_info_reference.ensures.ok in
-    OnOk-map c.write_info_reference.result wrote
-    (λ p. Drafts-is p (info_is c.args.encoding (targets_at c.args.targets.now) c.args.value.now c.in-InfoPlace.entry is c.requires.width))
+    subst (λ x. IfErr c.write_content.result (Refused m (g.W.Writer.meaning c.write_content.new.w) (Is (content_fails c.args.encoding u m.is_plain x)))) c.content.ensures c.write_content.ensures.err
