@@ -20,26 +20,23 @@ use Rattle.dw_entries.proofs.Tagged.{root_within}
 use Rattle.dw_entries.proofs.TreeLaws.{preorder_one_tree}
 use Rattle.dw_entries.specs.Targets.{Tables}
 use Rattle.dw_unit.specs.Causes.{Because, TreeFails, LayoutRefused}
-use Rattle.dw_unit.specs.Coded.{shapes_of}
 use Rattle.dw_unit.specs.Early.{is_forward, tree_is_forward}
 use Rattle.dw_unit.specs.Places.{Placement, targets_of}
 use Rattle.dw_unit.specs.UnitFaults.{is_encodable, header_fails, marks_fail, unit_fails}
 use Rattle.dw_unit.specs.UnitText.{tree_draft, unit_draft, unit_length}
 use Rattle.dw_unit.specs.Valid.{IsWritableTree}
-use Rattle.dw_unit.specs.Whole.{tree_declared, tree_size, tree_table, IsTreePlacement, TreeHasNoRoom}
-use Rattle.dw_unit.proofs.DistinctShapes.{tree_shapes-found}
+use Rattle.dw_unit.specs.Whole.{tree_shapes, tree_declared, tree_size, tree_table, IsTreePlacement, TreeHasNoRoom}
 use Rattle.dw_unit.proofs.EarlyLaws.{forward_quiet}
 use Rattle.dw_unit.proofs.ReadMarks.{tree_draft-size}
 use Rattle.dw_unit.proofs.TreeSteps.{header_fault, marks_fault, in_header}
 
 -- the shapes that were found are the tree's
-pub table_added : {m0 m1 : Meaning} (e : Encoding) (es : List EntryValue) (ms : List (Mark ℕ)) (shapes : List Shape) → ms ≡ preorder es → shapes ≡ shapes_of e es [] ms →
+pub table_added : {m0 m1 : Meaning} (e : Encoding) (es : List EntryValue) (shapes : List Shape) → shapes ≡ tree_shapes e es →
     Adds m0 m1 (table_bytes (declarations shapes)) → Adds m0 m1 (tree_table e es)
-table_added {m0} {m1} e es ms shapes tree at h =
-    subst (λ t. Adds m0 m1 (table_bytes (declarations t))) (at ∙ tree_shapes-found e es ms tree) h
+table_added {m0} {m1} e es shapes is h = subst (λ t. Adds m0 m1 (table_bytes (declarations t))) is h
 
-pub table_declared : (e : Encoding) (es : List EntryValue) (ms : List (Mark ℕ)) (shapes : List Shape) → ms ≡ preorder es → shapes ≡ shapes_of e es [] ms → AreDeclarations (declarations shapes) → AreDeclarations (tree_declared e es)
-table_declared e es ms shapes tree at h = subst (λ t. AreDeclarations (declarations t)) (at ∙ tree_shapes-found e es ms tree) h
+pub table_declared : (e : Encoding) (es : List EntryValue) (shapes : List Shape) → shapes ≡ tree_shapes e es → AreDeclarations (declarations shapes) → AreDeclarations (tree_declared e es)
+table_declared e es shapes is h = subst (λ t. AreDeclarations (declarations t)) is h
 
 -- the entries are one tree, of no more marks than there are items
 pub tree_is_one : (es : List EntryValue) → (entry_at es 0).tag ≢ 0 → IsTrue (is_one_tree (map (children_in es) (preorder es)))

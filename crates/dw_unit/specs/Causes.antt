@@ -58,6 +58,10 @@ abbrev pub TreeFails : Encoding → List EntryValue → Tables → ℕ → Bool 
 TreeFails e es t table is_plain err =
     ((err ≡ errors.ValueTooLarge) × TreeHasNoRoom e es) ⊎ (Is (tree_is_forward e es) err ⊎ IsFaulty e es t table is_plain err)
 
+-- why a tree has no places, or a length without a spelling, wherever it is to stand and whatever stands in other sections
+abbrev pub PlacementRefused : Encoding → List EntryValue → Error → Type 0
+PlacementRefused e es err = (t : Tables) (table : ℕ) (is_plain : Bool) → Because ⊥ (TreeFails e es t table is_plain) err
+
 -- where its entries stand, a location list of a unit has a fault
 abbrev pub LocationsFail : UnitValue → Elsewhere → Error → Type 0
 LocationsFail u t err = ListsFail u.encoding (settled u).entries u.locations (has_base_address u.entries) (locations_plain t u) err

@@ -14,6 +14,7 @@ pub mod Laying
 pub mod Early
 pub mod UnitText
 pub mod UnitFaults
+pub mod PlacedTree
 pub mod Read
 pub mod Built
 pub mod Pending

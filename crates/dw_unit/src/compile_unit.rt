@@ -13,6 +13,7 @@ ghost use Rattle.dw_entries.specs.Tree.{AreIn, marks, preorder};
 ghost use Rattle.dw_unit.specs.Causes.{Because, Refused, Is, TreeFails};
 ghost use Rattle.dw_unit.specs.Coded.{code_at};
 ghost use Rattle.dw_unit.specs.Pending.{AreMarksRanged, PendsTree, kept_in, starts_of};
+ghost use Rattle.dw_unit.specs.PlacedTree.{IsPlacedTree};
 ghost use Rattle.dw_unit.specs.Places.{placement_of, known_at, FitsWords};
 ghost use Rattle.dw_lists.specs.Tables.{IsReadAgain, offsets_from, locations_in, locations_of};
 ghost use Rattle.dw_line.specs.Parts.{NoCause};
@@ -26,13 +27,12 @@ ghost use Rattle.dw_unit.specs.Whole.{tree_shapes};
 ghost use Rattle.dw_unit.specs.Written.{KeepsAllButTree};
 
 use crate::body::write_items;
-use crate::codes::assign_codes;
 use crate::header::write_fields;
-use crate::layout::lay_out;
+use crate::placed_tree::{PlacedTree, place_tree};
 use crate::places::Places;
 use crate::targets::{PartPlaces, Targets};
 use dw_base::{Encoding, Result};
-use dw_entries::{DebuggingInformationEntry, Item, flatten};
+use dw_entries::{DebuggingInformationEntry, Item};
 use dw_lists::{LocationListOffsets, LocationListTable};
 use dw_strings::{LineStringTable, StringTable};
 use dw_writer::{FixupList, Sections, Writer};
@@ -110,6 +110,86 @@ fn write_locations<W: Writer>(
     locations.write(sections, encoding, has_base_address, Some(places))
 }
 
+/// Adds a unit of a tree to `.debug_info`, and to other sections the table of its abbreviations and
+/// its location lists, which stand before it.
+fn write_placed_tree<W: Writer>(
+    encoding: Encoding,
+    entries: &[DebuggingInformationEntry],
+    tree: &PlacedTree,
+    parts: PartPlaces,
+    locations: &LocationListTable,
+    has_base_address: bool,
+    line_strings: &LineStringTable,
+    strings: &StringTable,
+    sections: &mut Sections<W>,
+) -> Result<()>
+    requires encodable { IsTrue (is_encodable encoding) }
+    requires tree { IsPlacedTree encoding entries.now tree.now }
+    requires rooted { (entry_at entries.now 0).tag ≢ 0 }
+    ensures unit { let at = (locations_of W.meaning encoding sections.old).size in
+        let tables = tree_tables encoding entries.now parts locations.now at line_strings.now
+        strings.now in
+        OnOk result
+        (PendsTree W.meaning sections.old sections.new encoding entries.now tables
+        (kept_in (starts_of W.meaning sections.old) tree.now.places)) }
+    ensures lists { OnOk result
+        (AppendsLists W.meaning sections.old sections.new encoding entries.now locations.now) }
+    ensures lists_sound { OnOk result
+        (NoCause (lists_fail_in encoding (places_in_tree encoding entries.now) locations.now
+        has_base_address (locations_of W.meaning encoding sections.old).is_plain)) }
+    ensures room { OnOk result
+        ((W.meaning sections.old.debug_info.0).size + tree.now.places.end < 2 ^ 64) }
+    ensures writable { let at = (locations_of W.meaning encoding sections.old).size in
+        let tables = tree_tables encoding entries.now parts locations.now at line_strings.now
+        strings.now in
+        OnOk result
+        (IsWritableTree (W.meaning sections.old.debug_info.0).is_plain encoding entries.now
+        tables) }
+    ensures place { OnOk result
+        (IsTrue (offset_fits (W.meaning sections.old.debug_info.0).is_plain
+        (word_of encoding.format) (W.meaning sections.old.debug_abbrev.0).size)) }
+    ensures err { let lists = locations_of W.meaning encoding sections.old in
+        let tables = tree_tables encoding entries.now parts locations.now lists.size
+        line_strings.now strings.now in
+        IfErr result
+        (Because (SomeHasRisen W.meaning sections.old sections.new)
+        (λ e. ListsFail encoding entries.now locations.now has_base_address lists.is_plain e
+        ⊎ TreeFails encoding entries.now tables (W.meaning sections.old.debug_abbrev.0).size
+        (W.meaning sections.old.debug_info.0).is_plain e)) }
+    ensures others { KeepsAllButTree sections.old sections.new }
+    ensures faults { fault_sum W.meaning sections.old ≤ fault_sum W.meaning sections.new }
+{
+    let lists = write_locations(
+        locations,
+        encoding,
+        has_base_address,
+        &tree.places,
+        sections,
+    )?;
+    let own = parts.with_locations(lists);
+    let targets = Targets {
+        places: &tree.places,
+        own: &own,
+        line_strings,
+        strings,
+    };
+    let place = sections.debug_abbrev.0.len();
+    tree.codes.table.write(&mut sections.debug_abbrev)?;
+    let items = tree.items.as_slice();
+    let codes = tree.codes.codes.as_slice();
+    write_compile_unit(
+        encoding,
+        place,
+        entries,
+        items,
+        codes,
+        &targets,
+        &mut sections.debug_info.0,
+        &mut sections.debug_info_fixups,
+    )?;
+    Ok(())
+}
+
 /// Adds a unit with its entries to `.debug_info`, the table of its abbreviations to
 /// `.debug_abbrev`, where the unit tells the table's place, and its location lists to the section
 /// of their version.
@@ -161,31 +241,17 @@ pub(crate) fn write_tree<W: Writer>(
     ensures others { KeepsAllButTree sections.old sections.new }
     ensures faults { fault_sum W.meaning sections.old ≤ fault_sum W.meaning sections.new }
 {
-    let tree = flatten(alloc, entries)?;
-    let items = tree.as_slice();
-    let assigned = assign_codes(alloc, encoding, entries, items)?;
-    let codes = assigned.codes.as_slice();
-    let places = lay_out(alloc, encoding, entries, items, codes)?;
-    places.check_length(encoding.format)?;
-    let lists = write_locations(locations, encoding, has_base_address, &places, sections)?;
-    let own = parts.with_locations(lists);
-    let targets = Targets {
-        places: &places,
-        own: &own,
+    let tree = place_tree(alloc, encoding, entries)?;
+    write_placed_tree(
+        encoding,
+        entries,
+        &tree,
+        parts,
+        locations,
+        has_base_address,
         line_strings,
         strings,
-    };
-    let place = sections.debug_abbrev.0.len();
-    assigned.table.write(&mut sections.debug_abbrev)?;
-    write_compile_unit(
-        encoding,
-        place,
-        entries,
-        items,
-        codes,
-        &targets,
-        &mut sections.debug_info.0,
-        &mut sections.debug_info_fixups,
+        sections,
     )?;
-    Ok(places)
+    Ok(tree.places)
 }

@@ -8,6 +8,7 @@ mod entry_mut;
 mod header;
 mod layout;
 mod offsets;
+mod placed_tree;
 mod places;
 mod references;
 mod shape;
