@@ -1,6 +1,6 @@
 //! One unit.
 
-ghost use Rattle.std.specs.Prelude.{◌≡◌, ◌≢◌, ◌+◌, ◌<◌, true, false, length, None, Some, slice_get, OnOk, OnErr, IfOk, IfErr};
+ghost use Rattle.std.specs.Prelude.{◌≡◌, ◌≢◌, ◌+◌, ◌<◌, true, false, [], length, None, Some, slice_get, OnOk, OnErr, IfOk, IfErr};
 ghost use Rattle.std.specs.Option.{is_some, option_map};
 ghost use Rattle.dw_base.specs.declared.error.Error.TheVariants.{NoMemory};
 ghost use Rattle.dw_writer.specs.Sections.{NoFixups};
@@ -70,12 +70,13 @@ impl Unit {
         ensures ok { IfOk result (λ u. u ≡ new_unit encoding line_program) }
         ensures err { IfErr result (λ e. e ≡ NoMemory) }
     {
+        let entries = Entries::new(alloc)?;
         Ok(Unit {
             line_program,
             ranges: RangeListTable::new(alloc),
             locations: LocationListTable::new(alloc),
             encoding,
-            entries: Entries::new(alloc)?,
+            entries,
             is_written: false,
             is_freed: false,
             offsets: None,
@@ -625,12 +626,21 @@ impl Unit {
         requires { self.old.is_written ≡ true }
         ensures { self.new ≡ freed self.old }
     {
+        let alloc = self.entries.allocator();
         self.line_program = LineProgram::none();
-        self.ranges = RangeListTable::new(self.entries.allocator());
-        self.locations = LocationListTable::new(self.entries.allocator());
+        free_lists(alloc, &mut self.ranges, &mut self.locations);
         self.entries.free();
         self.is_freed = true;
     }
+}
+
+/// Gives the lists of tables up, and the memory that they take.
+fn free_lists(alloc: Global, ranges: &mut RangeListTable, locations: &mut LocationListTable)
+    ensures ranges { ranges.new ≡ [] }
+    ensures locations { locations.new ≡ [] }
+{
+    *ranges = RangeListTable::new(alloc);
+    *locations = LocationListTable::new(alloc);
 }
 
 /// Tells that the place of an entry in `.debug_info` is left open in some section.
