@@ -1,6 +1,6 @@
 //! The codes of a unit's entries.
 
-ghost use Rattle.std.specs.Prelude.{◌≡◌, [], length, map, IfOk, OnOk, IfErr};
+ghost use Rattle.std.specs.Prelude.{◌≡◌, ◌++◌, [], length, map, IfOk, OnOk, IfErr};
 ghost use Rattle.dw_base.specs.declared.error.Error.TheVariants.{NoMemory};
 ghost use Rattle.dw_entries.specs.Tree.{IsIn, AreIn, mark_of, marks, IsTagged, AreTagged};
 ghost use Rattle.dw_unit.specs.Coded.{with_mark, shapes_of, code_at};
@@ -48,6 +48,33 @@ fn code_for(
     }
 }
 
+/// Adds the code of each item, and to a table the abbreviations that it lacks.
+fn add_codes(
+    alloc: Global,
+    encoding: Encoding,
+    entries: &[DebuggingInformationEntry],
+    items: &[Item],
+    table: &mut AbbreviationTable,
+    codes: &mut Vec<u64>,
+) -> Result<()>
+    requires within { AreIn (length entries.now) (marks items.now) }
+    requires tagged { AreTagged entries.now (marks items.now) }
+    ensures table { OnOk result
+        (table.new ≡ shapes_of encoding entries.now table.old (marks items.now)) }
+    ensures codes { OnOk result
+        (codes.new.items ≡ codes.old.items ++ map
+        (code_at encoding entries.now (shapes_of encoding entries.now table.old (marks items.now)))
+        (marks items.now)) }
+    ensures err { IfErr result (λ e. e ≡ NoMemory) }
+{
+    let mut used = Vec::new(alloc);
+    for item in items {
+        let code = code_for(alloc, encoding, entries, *item, table, &mut used)?;
+        codes.push(code)?;
+    }
+    Ok(())
+}
+
 /// Gives each entry its code; those of one shape share it.
 pub(crate) fn assign_codes(
     alloc: Global,
@@ -67,10 +94,6 @@ pub(crate) fn assign_codes(
 {
     let mut table = AbbreviationTable::new(alloc);
     let mut codes = Vec::with_capacity(alloc, items.len())?;
-    let mut used = Vec::new(alloc);
-    for item in items {
-        let code = code_for(alloc, encoding, entries, *item, &mut table, &mut used)?;
-        codes.push(code)?;
-    }
+    add_codes(alloc, encoding, entries, items, &mut table, &mut codes)?;
     Ok(Codes { table, codes })
 }

@@ -4,14 +4,17 @@ use Rattle.std.specs.Prelude.{IsFalse, Bool}
 use Rattle.std.proofs.lemmas.List.Elements.{All-nil}
 use Rattle.std.proofs.lemmas.Result.{err_from_is_err_and}
 use Rattle.dw_base.specs.declared.error.Error.{Error}
+use Rattle.dw_writer.specs.Drafts.{Draft, Drafts}
+use Rattle.dw_writer.proofs.Steps.{IsSameWriter-trans}
 use Rattle.dw_writer.proofs.WriteLaws.{Drafts-nothing, Drafts-more}
 use Rattle.dw_entries.specs.Values.{value_fails}
 use Rattle.dw_entries.specs.Values.{IsRanged}
 use Rattle.dw_entries.specs.declared.attribute.Attribute.{Attribute}
 use Rattle.dw_unit.specs.Causes.{Is, Refused}
+use Rattle.dw_unit.specs.Pending.{AreRanged}
 use Rattle.dw_unit.specs.TargetsAt.{targets_at}
 use Rattle.dw_unit.specs.UnitFaults.{attributes_fail}
-use Rattle.dw_unit.specs.UnitText.{attribute_draft}
+use Rattle.dw_unit.specs.UnitText.{attribute_draft, attributes_draft}
 use Rattle.dw_unit.proofs.Faults.{none_more, some_at, All-more, refused_after}
 use Rattle.dw_unit.proofs.body.write_attributes.Goals as goal
 
@@ -65,3 +68,25 @@ returns-clause-sound g c =
     let all : take i xs ≡ xs = take_all i xs (omega (arith, c.loop-attribute-test.false)) in
     let fails : List Attribute → Error → Bool = attributes_fail c.args.encoding (targets_at c.args.targets.now) (g.W.Writer.meaning c.args.w.now).is_plain in
     subst (λ ys. (e : Error) → IsFalse (fails ys e)) all c.loop-attribute.invariant.sound
+
+pub returns-clause-ok : goal.returns-clause-ok
+returns-clause-ok g c =
+    let xs = c.args.attributes.now in
+    let i = c.loop-attribute.attribute-index in
+    let all : take i xs ≡ xs = take_all i xs (omega (arith, c.loop-attribute-test.false)) in
+    let m = g.W.Writer.meaning in
+    let d : List Attribute → Draft = attributes_draft c.args.encoding (targets_at c.args.targets.now) in
+    subst (λ ys. Drafts (m c.args.w.now) (m c.loop-attribute.w) c.args.fixups.now c.loop-attribute.fixups (d ys)) all c.loop-attribute.invariant.added
+
+pub returns-clause-ranged : goal.returns-clause-ranged
+returns-clause-ranged g c =
+    let xs = c.args.attributes.now in
+    let i = c.loop-attribute.attribute-index in
+    let all : take i xs ≡ xs = take_all i xs (omega (arith, c.loop-attribute-test.false)) in
+    subst (AreRanged c.args.encoding) all c.loop-attribute.invariant.ranged
+
+pub returns-clause-same : goal.returns-clause-same
+returns-clause-same g c = c.loop-attribute.invariant.added.text.same
+
+pub returns-in_err-write_value-clause-same : goal.returns-in_err-write_value-clause-same
+returns-in_err-write_value-clause-same g c = IsSameWriter-trans c.loop-attribute.invariant.added.text.same c.write_value.ensures.same

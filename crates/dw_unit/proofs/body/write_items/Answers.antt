@@ -5,15 +5,17 @@ use Rattle.std.proofs.lemmas.List.Elements.{All-nil}
 use Rattle.std.proofs.lemmas.Result.{err_from_is_err_and}
 use Rattle.dw_base.specs.Entries.{Mark}
 use Rattle.dw_base.specs.declared.error.Error.{Error}
+use Rattle.dw_writer.specs.Drafts.{Draft, Drafts}
+use Rattle.dw_writer.proofs.Steps.{IsSameWriter-trans}
 use Rattle.dw_writer.proofs.WriteLaws.{Drafts-nothing, Drafts-more}
 use Rattle.dw_entries.specs.declared.tree.Item.TheVariants as its
 use Rattle.dw_entries.specs.Tree.{mark_of, marks}
 use Rattle.dw_unit.specs.Causes.{Is, Refused}
 use Rattle.dw_unit.specs.Coded.{shapes_of}
-use Rattle.dw_unit.specs.Pending.{IsMarkRanged}
+use Rattle.dw_unit.specs.Pending.{IsMarkRanged, AreMarksRanged}
 use Rattle.dw_unit.specs.TargetsAt.{targets_at}
 use Rattle.dw_unit.specs.UnitFaults.{mark_fails, marks_fail}
-use Rattle.dw_unit.specs.UnitText.{coded_draft}
+use Rattle.dw_unit.specs.UnitText.{coded_draft, marks_draft}
 use Rattle.dw_unit.proofs.Marks.{within_at, marks-below, mark_at}
 use Rattle.dw_unit.proofs.Shared.{code_read}
 use Rattle.dw_unit.proofs.Faults.{none_more, some_at, All-more, refused_after}
@@ -77,3 +79,27 @@ returns-clause-sound g c =
     let all : take k (marks items) ≡ marks items = take_all k (marks items) (omega (arith, c.loop-k-test.false, length-map items mark_of)) in
     let fails : List (Mark ℕ) → Error → Bool = marks_fail c.args.encoding c.args.entries.now (targets_at c.args.targets.now) (g.W.Writer.meaning c.args.w.now).is_plain in
     subst (λ ms. (e : Error) → IsFalse (fails ms e)) all c.loop-k.invariant.sound
+
+pub returns-clause-ok : goal.returns-clause-ok
+returns-clause-ok g c =
+    let e = c.args.encoding in
+    let es = c.args.entries.now in
+    let items = c.args.items.now in
+    let k = c.loop-k.k in
+    let all : take k (marks items) ≡ marks items = take_all k (marks items) (omega (arith, c.loop-k-test.false, length-map items mark_of)) in
+    let m = g.W.Writer.meaning in
+    let d : List (Mark ℕ) → Draft = marks_draft e es (targets_at c.args.targets.now) (shapes_of e es [] (marks items)) in
+    subst (λ ms. Drafts (m c.args.w.now) (m c.loop-k.w) c.args.fixups.now c.loop-k.fixups (d ms)) all c.loop-k.invariant.added
+
+pub returns-clause-ranged : goal.returns-clause-ranged
+returns-clause-ranged g c =
+    let items = c.args.items.now in
+    let k = c.loop-k.k in
+    let all : take k (marks items) ≡ marks items = take_all k (marks items) (omega (arith, c.loop-k-test.false, length-map items mark_of)) in
+    subst (AreMarksRanged c.args.encoding c.args.entries.now) all c.loop-k.invariant.ranged
+
+pub returns-clause-same : goal.returns-clause-same
+returns-clause-same g c = c.loop-k.invariant.added.text.same
+
+pub returns-in_err-write_item-clause-same : goal.returns-in_err-write_item-clause-same
+returns-in_err-write_item-clause-same g c = IsSameWriter-trans c.loop-k.invariant.added.text.same c.write_item.ensures.same
