@@ -1,19 +1,44 @@
 use mir.Syntax.{w64}
-use Rattle.std.proofs.Common.{◌∙◌, sym, ap, subst, arith}
-use Rattle.std.specs.Prelude.{IsTrue}
+use Rattle.std.proofs.Common.{◌≡◌, sym, ap, subst, arith, refl, Ok, Err}
+use Rattle.std.specs.Prelude.{Result, IsTrue, IsFalse, OnOk, IfErr}
 use Rattle.std.proofs.lemmas.Int.{to_z-of_z}
 use Rattle.dw_base.specs.Numbers.{word_of, is_width}
+use Rattle.dw_base.specs.declared.common.Encoding.{Encoding}
+use Rattle.dw_base.specs.declared.error.Error.{Error}
 use Rattle.dw_base.specs.declared.error.Error.TheVariants as errors
-use Rattle.dw_writer.proofs.Outcomes.{OnOk-map}
+use Rattle.dw_writer.specs.Meaning.{Meaning}
+use Rattle.dw_writer.specs.Causes.{BytesRefused}
+use Rattle.dw_writer.proofs.Outcomes.{OnOk-map, IfErr-map}
 use Rattle.dw_writer.proofs.WriteLaws.{Drafts-is, Drafts-whole, Drafts-nothing}
-use Rattle.dw_entries.specs.Content.{content_fails}
+use Rattle.dw_entries.specs.Content.{Content, content_fails}
+use Rattle.dw_entries.specs.Targets.{UnitTargets}
 use Rattle.dw_entries.specs.ContentView.{content_in, number_or_past}
 use Rattle.dw_entries.proofs.ValueTexts.{info_width}
+use Rattle.dw_unit.specs.Causes.{Refused, Is}
 use Rattle.dw_unit.specs.TargetsAt.{placement_at, targets_at}
 use Rattle.dw_unit.proofs.Drafted.{Drafts-bytes, Drafts-number, nothing_is, plain_is, wide_is, leb_is, signed_leb_is, block_is, expression_is, expression_short, closed_is, target_is, offset_is, in_table_is, table_index_is, own_part_is, file_is, entry_place_is, info_is}
-use Rattle.dw_unit.proofs.Faults.{OnOk-both, fitting_number}
+use Rattle.dw_unit.proofs.Faults.{OnOk-both, fitting_number, bytes_because}
 use Rattle.dw_unit.proofs.PlaceLaws.{found_some}
 use Rattle.dw_unit.proofs.value.write_content.Goals as goal
+
+on_ok : {T P : Type 0} (r : Result T Error) → P → OnOk r P
+on_ok (Ok x) p = p
+on_ok (Err err) p = tt
+
+-- what is told of a kind of content is told of the content
+module _ {T : Type 0} (e : Encoding) (u : UnitTargets) (m : Meaning) (r : Result T Error) {x y : Content} (is : x ≡ y) where
+  sound_as : OnOk r ((err : Error) → IsFalse (content_fails e u m.is_plain y err)) → OnOk r ((err : Error) → IsFalse (content_fails e u m.is_plain x err))
+  sound_as h = subst (λ z. OnOk r ((err : Error) → IsFalse (content_fails e u m.is_plain z err))) (sym is) h
+
+  refused_as : (new : Meaning) → IfErr r (Refused m new (Is (content_fails e u m.is_plain y))) → IfErr r (Refused m new (Is (content_fails e u m.is_plain x)))
+  refused_as new h = subst (λ z. IfErr r (Refused m new (Is (content_fails e u m.is_plain z)))) (sym is) h
+
+  -- of one that has no fault, too
+  sound_always : ((err : Error) → IsFalse (content_fails e u m.is_plain y err)) → OnOk r ((err : Error) → IsFalse (content_fails e u m.is_plain x err))
+  sound_always h = sound_as (on_ok r h)
+
+  bytes_refused : (new : Meaning) → IfErr r (BytesRefused m new) → IfErr r (Refused m new (Is (content_fails e u m.is_plain x)))
+  bytes_refused new h = IfErr-map r h (bytes_because (Is (content_fails e u m.is_plain x)) m new (λ rise. rise))
 
 pub returns-in-Nothing-clause-ok : goal.returns-in-Nothing-clause-ok
 returns-in-Nothing-clause-ok g c =
@@ -74,14 +99,6 @@ returns-in-Expression-clause-ok g c =
     let ns = c.in-Expression.expression.now in
     OnOk-both c.write_expression.result c.write_expression.ensures.ok c.write_expression.ensures.sound
     (λ p h. Drafts-is p (expression_is e u x ns is (expression_short e u.place (g.W.Writer.meaning c.args.w.now).is_plain ns h)))
-
-pub returns-in-Expression-clause-sound : goal.returns-in-Expression-clause-sound
-returns-in-Expression-clause-sound g c =
-    let is = ap content_in c.in-Expression.is in
-    let e = c.args.encoding in
-    let u = targets_at c.args.targets.now in
-    OnOk-map c.write_expression.result c.write_expression.ensures.sound
-    (λ h err. ap (λ k. content_fails e u (g.W.Writer.meaning c.args.w.now).is_plain k err) is ∙ h err)
 
 pub returns-in-Closed-clause-ok : goal.returns-in-Closed-clause-ok
 returns-in-Closed-clause-ok g c =
@@ -155,3 +172,213 @@ returns-in-InfoPlace-clause-ok g c =
     let wrote = rw c.info_place_size.ensures at c.write_info_reference.ensures.ok in
     OnOk-map c.write_info_reference.result wrote
     (λ p. Drafts-is p (info_is c.args.encoding (targets_at c.args.targets.now) x c.in-InfoPlace.entry is c.requires.width))
+
+pub returns-in-Plain-clause-sound : goal.returns-in-Plain-clause-sound
+returns-in-Plain-clause-sound g c =
+    let is = ap content_in c.in-Plain.is in
+    let m = g.W.Writer.meaning in
+    let u = targets_at c.args.targets.now in
+    sound_as c.args.encoding u (m c.args.w.now) c.write_plain.result is c.write_plain.ensures.sound
+
+pub returns-in-Plain-clause-err : goal.returns-in-Plain-clause-err
+returns-in-Plain-clause-err g c =
+    let is = ap content_in c.in-Plain.is in
+    let m = g.W.Writer.meaning in
+    let u = targets_at c.args.targets.now in
+    refused_as c.args.encoding u (m c.args.w.now) c.write_plain.result is (m c.write_plain.new.w) c.write_plain.ensures.err
+
+pub returns-in-Wide-clause-sound : goal.returns-in-Wide-clause-sound
+returns-in-Wide-clause-sound g c =
+    let is = ap content_in c.in-Wide.is in
+    let m = g.W.Writer.meaning in
+    let u = targets_at c.args.targets.now in
+    sound_always c.args.encoding u (m c.args.w.now) c.write_u128.result is (λ err. refl)
+
+pub returns-in-Wide-clause-err : goal.returns-in-Wide-clause-err
+returns-in-Wide-clause-err g c =
+    let is = ap content_in c.in-Wide.is in
+    let m = g.W.Writer.meaning in
+    let u = targets_at c.args.targets.now in
+    bytes_refused c.args.encoding u (m c.args.w.now) c.write_u128.result is (m c.write_u128.new.self) c.write_u128.ensures.err
+
+pub returns-in-Leb-clause-sound : goal.returns-in-Leb-clause-sound
+returns-in-Leb-clause-sound g c =
+    let is = ap content_in c.in-Leb.is in
+    let m = g.W.Writer.meaning in
+    let u = targets_at c.args.targets.now in
+    sound_always c.args.encoding u (m c.args.w.now) c.write_uleb128.result is (λ err. refl)
+
+pub returns-in-Leb-clause-err : goal.returns-in-Leb-clause-err
+returns-in-Leb-clause-err g c =
+    let is = ap content_in c.in-Leb.is in
+    let m = g.W.Writer.meaning in
+    let u = targets_at c.args.targets.now in
+    bytes_refused c.args.encoding u (m c.args.w.now) c.write_uleb128.result is (m c.write_uleb128.new.self) c.write_uleb128.ensures.err
+
+pub returns-in-SignedLeb-clause-sound : goal.returns-in-SignedLeb-clause-sound
+returns-in-SignedLeb-clause-sound g c =
+    let is = ap content_in c.in-SignedLeb.is in
+    let m = g.W.Writer.meaning in
+    let u = targets_at c.args.targets.now in
+    sound_always c.args.encoding u (m c.args.w.now) c.write_sleb128.result is (λ err. refl)
+
+pub returns-in-SignedLeb-clause-err : goal.returns-in-SignedLeb-clause-err
+returns-in-SignedLeb-clause-err g c =
+    let is = ap content_in c.in-SignedLeb.is in
+    let m = g.W.Writer.meaning in
+    let u = targets_at c.args.targets.now in
+    bytes_refused c.args.encoding u (m c.args.w.now) c.write_sleb128.result is (m c.write_sleb128.new.self) c.write_sleb128.ensures.err
+
+pub returns-in-Block-clause-sound : goal.returns-in-Block-clause-sound
+returns-in-Block-clause-sound g c =
+    let is = ap content_in c.in-Block.is in
+    let m = g.W.Writer.meaning in
+    let u = targets_at c.args.targets.now in
+    sound_always c.args.encoding u (m c.args.w.now) c.write_block.result is (λ err. refl)
+
+pub returns-in-Block-clause-err : goal.returns-in-Block-clause-err
+returns-in-Block-clause-err g c =
+    let is = ap content_in c.in-Block.is in
+    let m = g.W.Writer.meaning in
+    let u = targets_at c.args.targets.now in
+    bytes_refused c.args.encoding u (m c.args.w.now) c.write_block.result is (m c.write_block.new.w) c.write_block.ensures.err
+
+pub returns-in-Expression-clause-sound : goal.returns-in-Expression-clause-sound
+returns-in-Expression-clause-sound g c =
+    let is = ap content_in c.in-Expression.is in
+    let m = g.W.Writer.meaning in
+    let u = targets_at c.args.targets.now in
+    sound_as c.args.encoding u (m c.args.w.now) c.write_expression.result is c.write_expression.ensures.sound
+
+pub returns-in-Expression-clause-err : goal.returns-in-Expression-clause-err
+returns-in-Expression-clause-err g c =
+    let is = ap content_in c.in-Expression.is in
+    let m = g.W.Writer.meaning in
+    let u = targets_at c.args.targets.now in
+    refused_as c.args.encoding u (m c.args.w.now) c.write_expression.result is (m c.write_expression.new.w) c.write_expression.ensures.err
+
+pub returns-in-Closed-clause-sound : goal.returns-in-Closed-clause-sound
+returns-in-Closed-clause-sound g c =
+    let is = ap content_in c.in-Closed.is in
+    let m = g.W.Writer.meaning in
+    let u = targets_at c.args.targets.now in
+    sound_as c.args.encoding u (m c.args.w.now) c.write_text.result is c.write_text.ensures.sound
+
+pub returns-in-Closed-clause-err : goal.returns-in-Closed-clause-err
+returns-in-Closed-clause-err g c =
+    let is = ap content_in c.in-Closed.is in
+    let m = g.W.Writer.meaning in
+    let u = targets_at c.args.targets.now in
+    refused_as c.args.encoding u (m c.args.w.now) c.write_text.result is (m c.write_text.new.w) c.write_text.ensures.err
+
+pub returns-in-Target-clause-sound : goal.returns-in-Target-clause-sound
+returns-in-Target-clause-sound g c =
+    let is = ap content_in c.in-Target.is in
+    let m = g.W.Writer.meaning in
+    let u = targets_at c.args.targets.now in
+    sound_as c.args.encoding u (m c.args.w.now) c.write_target.result is c.write_target.ensures.sound
+
+pub returns-in-Target-clause-err : goal.returns-in-Target-clause-err
+returns-in-Target-clause-err g c =
+    let is = ap content_in c.in-Target.is in
+    let m = g.W.Writer.meaning in
+    let u = targets_at c.args.targets.now in
+    refused_as c.args.encoding u (m c.args.w.now) c.write_target.result is (m c.write_target.new.w) c.write_target.ensures.err
+
+pub returns-in-Offset-clause-sound : goal.returns-in-Offset-clause-sound
+returns-in-Offset-clause-sound g c =
+    let is = ap content_in c.in-Offset.is in
+    let m = g.W.Writer.meaning in
+    let u = targets_at c.args.targets.now in
+    sound_as c.args.encoding u (m c.args.w.now) c.write_place.result is c.write_place.ensures.sound
+
+pub returns-in-Offset-clause-err : goal.returns-in-Offset-clause-err
+returns-in-Offset-clause-err g c =
+    let is = ap content_in c.in-Offset.is in
+    let m = g.W.Writer.meaning in
+    let u = targets_at c.args.targets.now in
+    refused_as c.args.encoding u (m c.args.w.now) c.write_place.result is (m c.write_place.new.w) c.write_place.ensures.err
+
+pub returns-in-InTable-clause-sound : goal.returns-in-InTable-clause-sound
+returns-in-InTable-clause-sound g c =
+    let is = ap content_in c.in-InTable.is in
+    let m = g.W.Writer.meaning in
+    let u = targets_at c.args.targets.now in
+    sound_as c.args.encoding u (m c.args.w.now) c.write_place_in_table.result is c.write_place_in_table.ensures.sound
+
+pub returns-in-InTable-clause-err : goal.returns-in-InTable-clause-err
+returns-in-InTable-clause-err g c =
+    let is = ap content_in c.in-InTable.is in
+    let m = g.W.Writer.meaning in
+    let u = targets_at c.args.targets.now in
+    refused_as c.args.encoding u (m c.args.w.now) c.write_place_in_table.result is (m c.write_place_in_table.new.w) c.write_place_in_table.ensures.err
+
+pub returns-in-TableIndex-clause-sound : goal.returns-in-TableIndex-clause-sound
+returns-in-TableIndex-clause-sound g c =
+    let is = ap content_in c.in-TableIndex.is in
+    let m = g.W.Writer.meaning in
+    let u = targets_at c.args.targets.now in
+    sound_as c.args.encoding u (m c.args.w.now) c.write_table_index.result is c.write_table_index.ensures.sound
+
+pub returns-in-TableIndex-clause-err : goal.returns-in-TableIndex-clause-err
+returns-in-TableIndex-clause-err g c =
+    let is = ap content_in c.in-TableIndex.is in
+    let m = g.W.Writer.meaning in
+    let u = targets_at c.args.targets.now in
+    refused_as c.args.encoding u (m c.args.w.now) c.write_table_index.result is (m c.write_table_index.new.w) c.write_table_index.ensures.err
+
+pub returns-in-OwnPart-clause-sound : goal.returns-in-OwnPart-clause-sound
+returns-in-OwnPart-clause-sound g c =
+    let is = ap content_in c.in-OwnPart.is in
+    let m = g.W.Writer.meaning in
+    let u = targets_at c.args.targets.now in
+    sound_as c.args.encoding u (m c.args.w.now) c.write_own_place.result is c.write_own_place.ensures.sound
+
+pub returns-in-OwnPart-clause-err : goal.returns-in-OwnPart-clause-err
+returns-in-OwnPart-clause-err g c =
+    let is = ap content_in c.in-OwnPart.is in
+    let m = g.W.Writer.meaning in
+    let u = targets_at c.args.targets.now in
+    refused_as c.args.encoding u (m c.args.w.now) c.write_own_place.result is (m c.write_own_place.new.w) c.write_own_place.ensures.err
+
+pub returns-in-File-clause-sound : goal.returns-in-File-clause-sound
+returns-in-File-clause-sound g c =
+    let is = ap content_in c.in-File.is in
+    let m = g.W.Writer.meaning in
+    let u = targets_at c.args.targets.now in
+    sound_as c.args.encoding u (m c.args.w.now) c.write_file.result is c.write_file.ensures.sound
+
+pub returns-in-File-clause-err : goal.returns-in-File-clause-err
+returns-in-File-clause-err g c =
+    let is = ap content_in c.in-File.is in
+    let m = g.W.Writer.meaning in
+    let u = targets_at c.args.targets.now in
+    refused_as c.args.encoding u (m c.args.w.now) c.write_file.result is (m c.write_file.new.w) c.write_file.ensures.err
+
+pub returns-in-EntryPlace-clause-sound : goal.returns-in-EntryPlace-clause-sound
+returns-in-EntryPlace-clause-sound g c =
+    let is = ap content_in c.in-EntryPlace.is in
+    let m = g.W.Writer.meaning in
+    let u = targets_at c.args.targets.now in
+    sound_as c.args.encoding u (m c.args.w.now) c.write_reference.result is c.write_reference.ensures.sound
+
+pub returns-in-EntryPlace-clause-err : goal.returns-in-EntryPlace-clause-err
+returns-in-EntryPlace-clause-err g c =
+    let is = ap content_in c.in-EntryPlace.is in
+    let m = g.W.Writer.meaning in
+    let u = targets_at c.args.targets.now in
+    refused_as c.args.encoding u (m c.args.w.now) c.write_reference.result is (m c.write_reference.new.w) c.write_reference.ensures.err
+
+pub returns-in-InfoPlace-clause-sound : goal.returns-in-InfoPlace-clause-sound
+returns-in-InfoPlace-clause-sound g c =
+    let is = ap content_in c.in-InfoPlace.is in
+    let m = g.W.Writer.meaning in
+    let u = targets_at c.args.targets.now in
+    sound_as c.args.encoding u (m c.args.w.now) c.write_info_reference.result is c.write_info_reference.ensures.sound
+
+pub returns-in-InfoPlace-clause-err : goal.returns-in-InfoPlace-clause-err
+returns-in-InfoPlace-clause-err g c =
+    let is = ap content_in c.in-InfoPlace.is in
+    let m = g.W.Writer.meaning in
+    let u = targets_at c.args.targets.now in
+    refused_as c.args.encoding u (m c.args.w.now) c.write_info_reference.result is (m c.write_info_reference.new.w) c.write_info_reference.ensures.err
