@@ -8,7 +8,7 @@ use Rattle.dw_writer.specs.Sections.{SomeHasRisen}
 use Rattle.dw_entries.specs.Settled.{settled_entries}
 use Rattle.dw_unit.specs.Causes.{Because, TreeFails, LocationsFail, UnitRefused}
 use Rattle.dw_lists.specs.Tables.{locations_of}
-use Rattle.dw_unit.specs.Elsewhere.{elsewhere, tree_tables, unit_tables, has_base_address}
+use Rattle.dw_unit.specs.Elsewhere.{AppendsLine, AppendsRanges, elsewhere, tree_tables, unit_tables, has_base_address}
 use Rattle.dw_unit.specs.Locations.{places_in_tree, lists_fail_in, ListsFail, AppendsLists}
 use Rattle.dw_unit.specs.Pending.{PendsTree, kept_in, starts_of}
 use Rattle.dw_unit.specs.Places.{Offsets, found as found_at, offsets_in}
@@ -148,3 +148,15 @@ returns-clause-writable g c =
       ),
       of_settled u t e es found is_e is_es is_found (λ e es x. IsTrue (offset_fits plain (word_of e.format) table)) place,
     )
+
+pub returns-clause-lines : goal.returns-clause-lines
+returns-clause-lines g c =
+    let old = c.args.sections.now in
+    subst (λ s. AppendsLine g.W.Writer.meaning old s c.args.line_strings.now c.args.strings.now c.args.self.now) (sym c.in_ok-places.ensures.others) c.in_ok-parts.ensures.lines
+
+pub returns-clause-ranges : goal.returns-clause-ranges
+returns-clause-ranges g c =
+    let old = c.args.sections.now in
+    let added = c.in_ok-parts.ensures.ranges in
+    subst (λ s. AppendsRanges g.W.Writer.meaning old s c.args.self.now) (sym c.in_ok-places.ensures.others)
+    (record { found = added.found; ranges = added.ranges; range_lists = added.range_lists })
