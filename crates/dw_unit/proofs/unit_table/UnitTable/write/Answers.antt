@@ -1,4 +1,4 @@
-use Rattle.std.proofs.Common.{◌∙◌, ap, subst}
+use Rattle.std.proofs.Common.{◌∙◌, sym, ap, subst}
 use Rattle.std.specs.Prelude.{IsFalse}
 use Rattle.std.proofs.lemmas.Result.{err_from_is_err_and}
 use Rattle.dw_base.specs.declared.error.Error.{Error}
@@ -7,7 +7,7 @@ use Rattle.dw_writer.specs.Sections.{SomeHasRisen}
 use Rattle.dw_unit.specs.Causes.{Because, Is}
 use Rattle.dw_unit.specs.Filled.{FillsAll, AreAllFillable, open_fail}
 use Rattle.dw_unit.specs.Pending.{info_at, starts_of}
-use Rattle.dw_unit.specs.Elsewhere.{elsewhere}
+use Rattle.dw_unit.specs.Elsewhere.{AppendsLines, AppendsAllRanges, elsewhere}
 use Rattle.dw_unit.proofs.Complete.{units_complete}
 use Rattle.dw_unit.proofs.TableSteps.{stopped_after}
 use Rattle.dw_unit.proofs.TableWritten.{units_refused, all_completed, all_refused}
@@ -56,3 +56,16 @@ pub returns-in_err-fill_all-clause-complete : goal.returns-in_err-fill_all-claus
 returns-in_err-fill_all-clause-complete g c can calm =
     IfErr-map c.from_residual-in_err-fill_all.result (returns-in_err-fill_all-clause-err g c)
     (units_complete g.W.Writer.meaning c.args.sections.now c.fill_all.new.sections (elsewhere g.W.Writer.meaning c.args.sections.now c.args.line_strings.now c.args.strings.now) c.args.self.now c.write_units.new.self can calm)
+
+pub returns-clause-lines : goal.returns-clause-lines
+returns-clause-lines g c =
+    let old = c.args.sections.now in
+    subst (λ s. AppendsLines g.W.Writer.meaning old s c.args.line_strings.now c.args.strings.now c.args.self.now) (sym c.in_ok-fill_all.ensures.others) c.in_ok-write_units.ensures.lines
+
+pub returns-clause-ranges : goal.returns-clause-ranges
+returns-clause-ranges g c =
+    let old = c.args.sections.now in
+    let before = c.in_ok-write_units.ensures.ranges in
+    let added = subst (λ s. AppendsAllRanges g.W.Writer.meaning old s c.args.self.now) (sym c.in_ok-fill_all.ensures.others)
+    (record { found = before.found; ranges = before.ranges; range_lists = before.range_lists }) in
+    record { found = added.found; ranges = added.ranges; range_lists = added.range_lists }
