@@ -14,23 +14,16 @@ use Rattle.dw_sources.specs.declared.convert_error.ConvertError.{ConvertError}
 use Rattle.dw_sources.specs.declared.convert_error.ConvertError.TheVariants.{UnsupportedLineProgram}
 use Rattle.dw_convert_lines.specs.Entries.{IsOpen, IsConvertibleList, FaultyBehind, EntriesOutcome}
 use Rattle.dw_convert_lines.specs.FormatLists.{IsConvertible}
-use Rattle.dw_convert_lines.specs.HeaderImages.{EntryList, FaultyDescription, BeginOutcome}
+use Rattle.dw_convert_lines.specs.HeaderImages.{FaultyDescription, BeginOutcome}
+use Rattle.dw_convert_lines.specs.HeaderLists.{AreDirectories, list_of}
 use Rattle.dw_convert_lines.specs.Walks.{WalkOutcome}
 use Rattle.dw_convert_lines.proofs.FormatLaws.{none_described}
 
 module _ (R E : Type 0) (reading : R → Reading) where
-  abbrev pub list_of : FileEntryIter R E → List (ℕ × ℕ) → EntryList
-  list_of i parts = record { layout = layout_of reading i.layout parts; count = i.remaining; bytes = left (reading i.input) }
-
-  -- by what the version says of the layout
-  abbrev pub IsLaid : Bool → Encoding → HeldLayout R E → List (ℕ × ℕ) → Type 0
-  IsLaid false e l parts = l ≡ held.Directories
-  IsLaid true e l parts = layout_of reading l parts ≡ Described e parts
-
   -- the iterator begins a list
   pub record BeginsList (new : Bool) (old : Layout) (big : Bool) (e : Encoding) (bytes : List ℕ) (i : FileEntryIter R E) : Type 0 where
     pub open_yet : IsOpen reading i
-    pub outcome : BeginOutcome new old big e bytes (Ok (list_of i open_yet.parts))
+    pub outcome : BeginOutcome new old big e bytes (Ok (list_of reading i open_yet.parts))
 
   -- what the parts of described entries are convertible by
   convertible_by : (i : FileEntryIter R E) (e : Encoding) (parts : List (ℕ × ℕ)) → IsConvertibleList reading i → HasParts reading i.layout parts → layout_of reading i.layout parts ≡ Described e parts → IsConvertible parts i.remaining
@@ -46,10 +39,17 @@ module _ (R E : Type 0) (reading : R → Reading) where
     outcome = (b.parts, b.layout, b.input, convertible_by i e b.parts c b.described b.layout);
   }
 
-  pub laid : (new big : Bool) (e : Encoding) (bytes : List ℕ) (i : FileEntryIter R E) → (b : BeginsEntries reading new held.Directories big e bytes i) (c : IsConvertibleList reading i) → IsLaid new e i.layout (begins_directories new big e bytes i b c).open_yet.parts
-  unfolding begins_directories
-  laid false big e bytes i b c = b.layout
-  laid true big e bytes i b c = b.layout
+  same_encoding : (a b : Encoding) (parts : List (ℕ × ℕ)) → Described a parts ≡ Described b parts → a ≡ b
+  same_encoding a b parts h = cc
+
+  described : (l : HeldLayout R E) (e : Encoding) (parts : List (ℕ × ℕ)) → layout_of reading l parts ≡ Described e parts → AreDirectories true e l
+  described held.Directories e parts h = absurd (cc)
+  described held.Files e parts h = absurd (cc)
+  described (held.Described d) e parts h = same_encoding d.encoding.encoding e parts h
+
+  pub laid : (new big : Bool) (e : Encoding) (bytes : List ℕ) (i : FileEntryIter R E) → BeginsEntries reading new held.Directories big e bytes i → AreDirectories new e i.layout
+  laid false big e bytes i b = b.layout
+  laid true big e bytes i b = described i.layout e b.parts b.layout
 
   pub misses_directories : (new big : Bool) (e : Encoding) (bytes : List ℕ) (why : ReadError) (x : ConvertError) → MissesEntries new big bytes why → x ≡ from_read why → BeginOutcome new Directories big e bytes (Err x)
   misses_directories false big e bytes why x h q = h
@@ -76,26 +76,23 @@ module _ (R E : Type 0) (reading : R → Reading) where
   refuses_directories false big e bytes i x b refused q = convertible_old held.Directories Directories bytes i b (λ _. refl) refl tt refused
   refuses_directories true big e bytes i x b refused q = refuses_described big e bytes i x b refused q
 
-  same_encoding : (a b : Encoding) (parts : List (ℕ × ℕ)) → Described a parts ≡ Described b parts → a ≡ b
-  same_encoding a b parts h = cc
-
   begins_described : (big : Bool) (e : Encoding) (bytes : List ℕ) (i : FileEntryIter R E) → BeginsDescribed reading big e bytes i → IsConvertibleList reading i → BeginsList true Files big e bytes i
   begins_described big e bytes i b c = record {
     open_yet = record { parts = b.parts; described = b.described; open_yet = b.not_ended };
     outcome = (b.parts, b.layout, b.input, convertible_by i e b.parts c b.described b.layout);
   }
 
-  pub begins_files : (new : Bool) (l : HeldLayout R E) (r : Reading) (e : Encoding) (parts : List (ℕ × ℕ)) (i : FileEntryIter R E) → IsLaid new e l parts → BeginsBehind reading l r i → IsConvertibleList reading i → BeginsList new Files r.is_big e (left r) i
-  begins_files false held.Directories r e parts i h b c = record {
+  pub begins_files : (new : Bool) (l : HeldLayout R E) (r : Reading) (e : Encoding) (i : FileEntryIter R E) → AreDirectories new e l → BeginsBehind reading l r i → IsConvertibleList reading i → BeginsList new Files r.is_big e (left r) i
+  begins_files false held.Directories r e i h b c = record {
     open_yet = record { parts = []; described = subst (λ (l : HeldLayout R E). HasParts reading l []) (sym b.layout) tt; open_yet = b.not_ended };
     outcome = (ap (λ (l : HeldLayout R E). layout_of reading l []) b.layout, b.input);
   }
-  begins_files false held.Files r e parts i h b c = absurd (cc)
-  begins_files false (held.Described d) r e parts i h b c = absurd (cc)
-  begins_files true held.Directories r e parts i h b c = absurd (cc)
-  begins_files true held.Files r e parts i h b c = absurd (cc)
-  begins_files true (held.Described d) r e parts i h b c =
-      begins_described r.is_big e (left r) i (subst (λ (x : Encoding). BeginsDescribed reading r.is_big x (left r) i) (same_encoding d.encoding.encoding e parts h) b) c
+  begins_files false held.Files r e i h b c = absurd (cc)
+  begins_files false (held.Described d) r e i h b c = absurd (cc)
+  begins_files true held.Directories r e i h b c = absurd h
+  begins_files true held.Files r e i h b c = absurd h
+  begins_files true (held.Described d) r e i h b c =
+      begins_described r.is_big e (left r) i (subst (λ (x : Encoding). BeginsDescribed reading r.is_big x (left r) i) h b) c
 
   pub misses_behind : (l : HeldLayout R E) (r : Reading) (why : ReadError) (x : ConvertError) → MissesBehind l r why → x ≡ from_read why → FaultyBehind l r x
   misses_behind held.Directories r why x h q = h
@@ -107,13 +104,13 @@ module _ (R E : Type 0) (reading : R → Reading) where
   refuses_behind held.Files r i x b refused q = convertible_old held.Files Files (left r) i b (λ _. refl) refl tt refused
   refuses_behind (held.Described d) r i x b refused q = refuses_described r.is_big d.encoding.encoding (left r) i x b refused q
 
-  pub faulty_files : (new : Bool) (l : HeldLayout R E) (r : Reading) (e : Encoding) (parts : List (ℕ × ℕ)) (x : ConvertError) → IsLaid new e l parts → FaultyBehind l r x → BeginOutcome new Files r.is_big e (left r) (Err x)
-  faulty_files false held.Directories r e parts x h b = b
-  faulty_files false held.Files r e parts x h b = b
-  faulty_files false (held.Described d) r e parts x h b = absurd (cc)
-  faulty_files true held.Directories r e parts x h b = absurd b
-  faulty_files true held.Files r e parts x h b = absurd b
-  faulty_files true (held.Described d) r e parts x h b = b
+  pub faulty_files : (new : Bool) (l : HeldLayout R E) (r : Reading) (e : Encoding) (x : ConvertError) → AreDirectories new e l → FaultyBehind l r x → BeginOutcome new Files r.is_big e (left r) (Err x)
+  faulty_files false held.Directories r e x h b = b
+  faulty_files false held.Files r e x h b = b
+  faulty_files false (held.Described d) r e x h b = absurd (cc)
+  faulty_files true held.Directories r e x h b = absurd h
+  faulty_files true held.Files r e x h b = absurd h
+  faulty_files true (held.Described d) r e x h b = b
 
   -- what entries make, by a layout and an order that equal theirs, from a state that equals the one before
   pub walks_in : {S : Type 0} (image : Entry → S → Result S ConvertError) (i : FileEntryIter R E) (l : HeldLayout R E) (big : Bool) (parts : List (ℕ × ℕ)) (s t : S) (x : Result (S × List ℕ) ConvertError)

@@ -1,28 +1,40 @@
 -- What a header becomes, step by step.
-use Rattle.std.proofs.Common.{◌≡◌, ◌∙◌, sym, subst, ℕ, Bool, List, Result, Ok, Err, refl}
+use Rattle.std.proofs.Common.{◌≡◌, sym, subst, ℕ, Bool, List, Result, Ok, Err, refl}
 use Rattle.std.specs.Prelude.{nat_le}
 use Rattle.dw_base.specs.declared.common.Encoding.{Encoding}
 use Rattle.dw_base.specs.declared.common.LineEncoding.{LineEncoding}
-use Rattle.dw_base.specs.declared.ids.DirectoryId.{DirectoryId}
 use Rattle.dw_base.specs.declared.ids.FileId.{FileId}
 use Rattle.dw_line.specs.declared.line_string.LineString.{LineString}
 use Rattle.dw_read.specs.Reading.{Reading, left}
-use Rattle.dw_read_lines.specs.FileEntryIters.{layout_of, HasParts, BeginsEntries, BeginsBehind}
-use Rattle.dw_read_lines.specs.LineEntries.{Directories, Files, next_read}
+use Rattle.dw_read_lines.specs.FileEntryIters.{layout_of, HasParts, BeginsEntries}
+use Rattle.dw_read_lines.specs.LineEntries.{Directories, next_read}
 use Rattle.dw_read_lines.specs.declared.file_entries.FileEntryIter.{FileEntryIter}
 use Rattle.dw_read_lines.specs.declared.file_entries.Layout.{Layout as HeldLayout}
 use Rattle.dw_read_lines.specs.declared.file_entries.Layout.TheVariants as held
+use Rattle.dw_read_lines.specs.declared.header.LineProgramHeader.{LineProgramHeader}
 use Rattle.dw_sources.specs.declared.convert_error.ConvertError.{ConvertError}
-use Rattle.dw_convert_lines.specs.Entries.{IsSameList, IsConvertibleList, FaultyBehind, EntriesOutcome}
-use Rattle.dw_convert_lines.specs.EntryImages.{Converting, directory_image, file_image}
+use Rattle.dw_convert_lines.specs.Entries.{IsSameList, IsConvertibleList}
+use Rattle.dw_convert_lines.specs.EntryImages.{Converting}
 use Rattle.dw_convert_lines.specs.EntryNames.{Texts, Tables}
-use Rattle.dw_convert_lines.specs.HeaderImages.{Working, BeginOutcome, working_image, first_directories, first_files, FilesOutcome, DirectoriesOutcome, HeaderOutcome}
-use Rattle.dw_convert_lines.specs.Walks.{WalkOutcome}
-use Rattle.dw_convert_lines.proofs.Beginnings.{list_of, IsLaid, BeginsList, begins_directories, laid, begins_files, faulty_files, walks_in}
+use Rattle.dw_convert_lines.specs.HeaderImages.{Working, BeginOutcome, working_image, DirectoriesOutcome, HeaderOutcome}
+use Rattle.dw_convert_lines.specs.HeaderLists.{AreDirectories, AreOfHeader, ProgramMade, list_of, working_at}
+use Rattle.dw_convert_lines.proofs.Beginnings.{BeginsList, begins_directories, laid}
 
-module _ (R E : Type 0) (reading : R → Reading) (texts : Texts) (read : Encoding) (big order : Bool) (bytes : List ℕ) (e : Encoding) (parameters : LineEncoding) where
-  pub no_directories : (t : Tables) (x : ConvertError) → BeginOutcome (nat_le 5 read.version) Directories big read bytes (Err x) → HeaderOutcome texts read big order bytes e parameters t (Err x)
-  no_directories t x h = (Err x, h, refl)
+module _ (R E : Type 0) (reading : R → Reading) (texts : Texts) (h : LineProgramHeader R E) (e : Encoding) (parameters : LineEncoding) (t : Tables) where
+  abbrev read : Encoding
+  read = h.encoding.encoding
+
+  abbrev big : Bool
+  big = (reading h.tables).is_big
+
+  abbrev bytes : List ℕ
+  bytes = left (reading h.tables)
+
+  abbrev Outcome : Result (Converting FileId) ConvertError → Type 0
+  Outcome r = HeaderOutcome texts read big (reading h.parameters.operand_counts).is_big bytes e parameters t r
+
+  pub no_directories : (x : ConvertError) → BeginOutcome (nat_le 5 read.version) Directories big read bytes (Err x) → Outcome (Err x)
+  no_directories x k = (Err x, k, refl)
 
   -- an iterator over the directories of the header
   pub record BeginsHeader (i : FileEntryIter R E) : Type 0 where
@@ -31,105 +43,41 @@ module _ (R E : Type 0) (reading : R → Reading) (texts : Texts) (read : Encodi
     pub convertible : IsConvertibleList reading i
 
   abbrev listed : (i : FileEntryIter R E) → BeginsHeader i → BeginsList R E reading (nat_le 5 read.version) Directories big read bytes i
-  listed i h = begins_directories R E reading (nat_le 5 read.version) big read bytes i h.begins h.convertible
+  listed i b = begins_directories R E reading (nat_le 5 read.version) big read bytes i b.begins b.convertible
 
   abbrev parts_of : (i : FileEntryIter R E) → BeginsHeader i → List (ℕ × ℕ)
-  parts_of i h = (listed i h).open_yet.parts
+  parts_of i b = (listed i b).open_yet.parts
 
-  abbrev image_at : FileEntryIter R E → List (ℕ × ℕ) → Tables → Result Working ConvertError
-  image_at i parts t = working_image (nat_le 5 read.version) (nat_le 5 e.version) texts (next_read (reading i.input).is_big (layout_of reading i.layout parts)) i.remaining (left (reading i.input)) t
+  -- what the working directory becomes, from version 5 of the header on the first of the directories
+  abbrev pub IsWorking : Bool → FileEntryIter R E → Result Working ConvertError → Type 0
+  IsWorking new i r =
+      (parts : List (ℕ × ℕ)) → HasParts reading i.layout parts → working_image new (nat_le 5 e.version) texts (next_read (reading i.input).is_big (layout_of reading i.layout parts)) i.remaining (left (reading i.input)) t ≡ r
 
   -- the working directory, in the order of the header
-  image_in : (i : FileEntryIter R E) (h : BeginsHeader i) (t : Tables) (r : Result Working ConvertError) → ((parts : List (ℕ × ℕ)) → HasParts reading i.layout parts → image_at i parts t ≡ r)
-      → r ≡ working_image (nat_le 5 read.version) (nat_le 5 e.version) texts (next_read big (layout_of reading i.layout (parts_of i h))) i.remaining (left (reading i.input)) t
-  image_in i h t r f =
-      subst (λ (b : Bool). r ≡ working_image (nat_le 5 read.version) (nat_le 5 e.version) texts (next_read b (layout_of reading i.layout (parts_of i h))) i.remaining (left (reading i.input)) t) h.ordered
-      (sym (f (parts_of i h) (listed i h).open_yet.described))
+  image_in : (new : Bool) (i : FileEntryIter R E) (b : BeginsHeader i) (r : Result Working ConvertError) → new ≡ nat_le 5 read.version → IsWorking new i r
+      → r ≡ working_image (nat_le 5 read.version) (nat_le 5 e.version) texts (next_read big (layout_of reading i.layout (parts_of i b))) i.remaining (left (reading i.input)) t
+  image_in new i b r q f =
+      let g : IsWorking (nat_le 5 read.version) i r = subst (λ (n : Bool). IsWorking n i r) q f in
+      subst (λ (o : Bool). r ≡ working_image (nat_le 5 read.version) (nat_le 5 e.version) texts (next_read o (layout_of reading i.layout (parts_of i b))) i.remaining (left (reading i.input)) t) b.ordered
+      (sym (g (parts_of i b) (listed i b).open_yet.described))
 
-  pub no_working : (i : FileEntryIter R E) (t : Tables) (x : ConvertError) → BeginsHeader i → ((parts : List (ℕ × ℕ)) → HasParts reading i.layout parts → image_at i parts t ≡ Err x) → HeaderOutcome texts read big order bytes e parameters t (Err x)
-  no_working i t x h f = (Ok (list_of R E reading i (parts_of i h)), (listed i h).outcome, (Err x, image_in i h t (Err x) f, refl))
+  pub no_working : (new : Bool) (i : FileEntryIter R E) (x : ConvertError) → BeginsHeader i → new ≡ nat_le 5 read.version → IsWorking new i (Err x) → Outcome (Err x)
+  no_working new i x b q f = (Ok (list_of reading i (parts_of i b)), (listed i b).outcome, (Err x, image_in new i b (Err x) q f, refl))
 
-  abbrev pub working_at : LineString → Tables → FileEntryIter R E → Working
-  working_at name u j = record { name = name; tables = u; count = j.remaining; bytes = left (reading j.input) }
+  -- the rest of the list is laid out as all of it
+  pub laid_behind : (i j : FileEntryIter R E) → BeginsHeader i → IsSameList reading i j → AreOfHeader reading h j
+  laid_behind i j b same = subst (λ (l : HeldLayout R E). AreDirectories (nat_le 5 read.version) read l) (sym same.layout) (laid R E reading (nat_le 5 read.version) big read bytes i b.begins)
 
   -- the working directory was converted, and the rest of the list follows
-  pub record HasWorking (i : FileEntryIter R E) (t : Tables) (name : LineString) (u : Tables) (j : FileEntryIter R E) : Type 0 where
-    pub begins : BeginsHeader i
-    pub working : (parts : List (ℕ × ℕ)) → HasParts reading i.layout parts → image_at i parts t ≡ Ok (working_at name u j)
-    pub same : IsSameList reading i j
-
-  behind_working : (i : FileEntryIter R E) (t : Tables) (name : LineString) (u : Tables) (j : FileEntryIter R E) (r : Result (Converting FileId) ConvertError)
-      → (h : HasWorking i t name u j) → DirectoriesOutcome texts read big order bytes e parameters (list_of R E reading i (parts_of i h.begins)) (working_at name u j) r → HeaderOutcome texts read big order bytes e parameters t r
-  behind_working i t name u j r h d =
-      (Ok (list_of R E reading i (parts_of i h.begins)), (listed i h.begins).outcome, (Ok (working_at name u j), image_in i h.begins t (Ok (working_at name u j)) h.working, d))
-
-  abbrev Directory : Type 0
-  Directory = Converting DirectoryId
-
-  walks_directories : (i : FileEntryIter R E) (t : Tables) (name : LineString) (u : Tables) (j : FileEntryIter R E) (s : Directory) (x : Result (Directory × List ℕ) ConvertError)
-      → (h : HasWorking i t name u j) → s ≡ first_directories e parameters (working_at name u j) → EntriesOutcome reading (directory_image (nat_le 5 e.version) texts) j s x
-      → WalkOutcome (next_read big (layout_of reading i.layout (parts_of i h.begins))) (directory_image (nat_le 5 e.version) texts) j.remaining (left (reading j.input)) (first_directories e parameters (working_at name u j)) x
-  walks_directories i t name u j s x h q o =
-      walks_in R E reading (directory_image (nat_le 5 e.version) texts) j i.layout big (parts_of i h.begins) s (first_directories e parameters (working_at name u j)) x h.same.layout (h.same.order ∙ h.begins.ordered) (listed i h.begins).open_yet.described q o
-
-  pub no_directory : (i : FileEntryIter R E) (t : Tables) (name : LineString) (u : Tables) (j : FileEntryIter R E) (s : Directory) (x : ConvertError)
-      → HasWorking i t name u j → s ≡ first_directories e parameters (working_at name u j) → EntriesOutcome reading (directory_image (nat_le 5 e.version) texts) j s (Err x)
-      → HeaderOutcome texts read big order bytes e parameters t (Err x)
-  no_directory i t name u j s x h q o = behind_working i t name u j (Err x) h (Err x, walks_directories i t name u j s (Err x) h q o, refl)
-
-  -- the directories were converted, and k stands at their end
-  pub record HasDirectories (i : FileEntryIter R E) (t : Tables) (name : LineString) (u : Tables) (j : FileEntryIter R E) (s d : Directory) (k : FileEntryIter R E) : Type 0 where
-    pub working : HasWorking i t name u j
-    pub first : s ≡ first_directories e parameters (working_at name u j)
-    pub directories : EntriesOutcome reading (directory_image (nat_le 5 e.version) texts) j s (Ok (d, left (reading k.input)))
-    pub same : IsSameList reading j k
-
-  module _ (i : FileEntryIter R E) (t : Tables) (name : LineString) (u : Tables) (j : FileEntryIter R E) (s d : Directory) (k : FileEntryIter R E) (h : HasDirectories i t name u j s d k) where
-    behind_directories : (r : Result (Converting FileId) ConvertError) → FilesOutcome texts read big order bytes e parameters (d, left (reading k.input)) r → HeaderOutcome texts read big order bytes e parameters t r
-    behind_directories r f = behind_working i t name u j r h.working (Ok (d, left (reading k.input)), walks_directories i t name u j s (Ok (d, left (reading k.input))) h.working h.first h.directories, f)
-
-    order_behind : (reading k.input).is_big ≡ big
-    order_behind = h.same.order ∙ (h.working.same.order ∙ h.working.begins.ordered)
-
-    laid_behind : IsLaid R E reading (nat_le 5 read.version) read k.layout (parts_of i h.working.begins)
-    laid_behind =
-        subst (λ (l : HeldLayout R E). IsLaid R E reading (nat_le 5 read.version) read l (parts_of i h.working.begins)) (sym (h.same.layout ∙ h.working.same.layout))
-        (laid R E reading (nat_le 5 read.version) big read bytes i h.working.begins.begins h.working.begins.convertible)
-
-    pub no_files : (x : ConvertError) → FaultyBehind k.layout (reading k.input) x → HeaderOutcome texts read big order bytes e parameters t (Err x)
-    no_files x m =
-        behind_directories (Err x) (
-          Err x,
-          subst (λ (b : Bool). BeginOutcome (nat_le 5 read.version) Files b read (left (reading k.input)) (Err x)) order_behind
-              (faulty_files R E reading (nat_le 5 read.version) k.layout (reading k.input) read (parts_of i h.working.begins) x laid_behind m),
-          refl,
-        )
-
-    -- the files follow
-    pub record BeginsFiles (f : FileEntryIter R E) : Type 0 where
-      pub begins : BeginsBehind reading k.layout (reading k.input) f
-      pub ordered : (reading f.input).is_big ≡ (reading k.input).is_big
-      pub convertible : IsConvertibleList reading f
-
-    abbrev files_listed : (f : FileEntryIter R E) → BeginsFiles f → BeginsList R E reading (nat_le 5 read.version) Files (reading k.input).is_big read (left (reading k.input)) f
-    files_listed f b = begins_files R E reading (nat_le 5 read.version) k.layout (reading k.input) read (parts_of i h.working.begins) f laid_behind b.begins b.convertible
-
-    abbrev file_parts : (f : FileEntryIter R E) → BeginsFiles f → List (ℕ × ℕ)
-    file_parts f b = (files_listed f b).open_yet.parts
-
-    files_begin : (f : FileEntryIter R E) (b : BeginsFiles f) → BeginOutcome (nat_le 5 read.version) Files big read (left (reading k.input)) (Ok (list_of R E reading f (file_parts f b)))
-    files_begin f b = subst (λ (o : Bool). BeginOutcome (nat_le 5 read.version) Files o read (left (reading k.input)) (Ok (list_of R E reading f (file_parts f b)))) order_behind (files_listed f b).outcome
-
-    abbrev Image : Type 0
-    Image = Converting FileId
-
-    walks_files : (f : FileEntryIter R E) (b : BeginsFiles f) (v : Image) (x : Result (Image × List ℕ) ConvertError) → v ≡ first_files (nat_le 5 read.version) d → EntriesOutcome reading (file_image texts order (nat_le 5 e.version) d.ids) f v x
-        → WalkOutcome (next_read big (layout_of reading f.layout (file_parts f b))) (file_image texts order (nat_le 5 e.version) d.ids) f.remaining (left (reading f.input)) (first_files (nat_le 5 read.version) d) x
-    walks_files f b v x q o =
-        walks_in R E reading (file_image texts order (nat_le 5 e.version) d.ids) f f.layout big (file_parts f b) v (first_files (nat_le 5 read.version) d) x refl (b.ordered ∙ order_behind) (files_listed f b).open_yet.described q o
-
-    pub no_file : (f : FileEntryIter R E) (v : Image) (x : ConvertError) → BeginsFiles f → v ≡ first_files (nat_le 5 read.version) d → EntriesOutcome reading (file_image texts order (nat_le 5 e.version) d.ids) f v (Err x) → HeaderOutcome texts read big order bytes e parameters t (Err x)
-    no_file f v x b q o = behind_directories (Err x) (Ok (list_of R E reading f (file_parts f b)), files_begin f b, (Err x, walks_files f b v (Err x) q o, refl))
-
-    pub all_files : (f : FileEntryIter R E) (v x : Image) (rest : List ℕ) → BeginsFiles f → v ≡ first_files (nat_le 5 read.version) d → EntriesOutcome reading (file_image texts order (nat_le 5 e.version) d.ids) f v (Ok (x, rest)) → HeaderOutcome texts read big order bytes e parameters t (Ok x)
-    all_files f v x rest b q o = behind_directories (Ok x) (Ok (list_of R E reading f (file_parts f b)), files_begin f b, (Ok (x, rest), walks_files f b v (Ok (x, rest)) q o, refl))
+  pub behind_working : (new : Bool) (i j : FileEntryIter R E) (name : LineString) (u : Tables) (r : Result (Converting FileId) ConvertError)
+      → BeginsHeader i → new ≡ nat_le 5 read.version → IsWorking new i (Ok (working_at reading name u j)) → IsSameList reading i j → ProgramMade reading texts h e parameters j name u r → Outcome r
+  behind_working new i j name u r b q f same made =
+      let has : HasParts reading j.layout (parts_of i b) = subst (λ (l : HeldLayout R E). HasParts reading l (parts_of i b)) (sym same.layout) (listed i b).open_yet.described in
+      let d = made (parts_of i b) has in
+      let c : DirectoriesOutcome texts read (reading i.input).is_big (reading h.parameters.operand_counts).is_big bytes e parameters (list_of reading j (parts_of i b)) (working_at reading name u j) r =
+      subst (λ (o : Bool). DirectoriesOutcome texts read o (reading h.parameters.operand_counts).is_big bytes e parameters (list_of reading j (parts_of i b)) (working_at reading name u j) r) same.order d in
+      let a : DirectoriesOutcome texts read big (reading h.parameters.operand_counts).is_big bytes e parameters (list_of reading j (parts_of i b)) (working_at reading name u j) r =
+      subst (λ (o : Bool). DirectoriesOutcome texts read o (reading h.parameters.operand_counts).is_big bytes e parameters (list_of reading j (parts_of i b)) (working_at reading name u j) r) b.ordered c in
+      let z : DirectoriesOutcome texts read big (reading h.parameters.operand_counts).is_big bytes e parameters (list_of reading i (parts_of i b)) (working_at reading name u j) r =
+      subst (λ (l : HeldLayout R E). DirectoriesOutcome texts read big (reading h.parameters.operand_counts).is_big bytes e parameters (record { layout = layout_of reading l (parts_of i b); count = i.remaining; bytes = left (reading i.input) }) (working_at reading name u j) r) same.layout a in
+      (Ok (list_of reading i (parts_of i b)), (listed i b).outcome, (Ok (working_at reading name u j), image_in new i b (Ok (working_at reading name u j)) q f, z))

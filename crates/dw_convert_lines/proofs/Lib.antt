@@ -1,4 +1,5 @@
 pub mod Reasons
+pub mod Outcomes
 pub mod Texts
 pub mod Indices
 pub mod OldEntries
@@ -9,6 +10,8 @@ pub mod FormatLaws
 pub mod FormatWalks
 mod WorkedFormats
 pub mod Beginnings
+pub mod FilesMade
+pub mod EntriesMade
 pub mod Headers
 pub mod Told
 pub mod ReadingLaws

@@ -118,15 +118,19 @@ first_ids false = record { 0 = 0 } ∷ []
 abbrev pub first_files : Bool → Converting DirectoryId → Converting FileId
 first_files new s = record { program = s.program; ids = first_ids new; tables = s.tables }
 
+-- The files behind directories, which begin there, in a header of an encoding that was read and in a byte order. Checksums have the
+-- order `order`, and the target has references to strings where `refs` is true.
+abbrev pub FilesBehind : Texts → Encoding → Bool → Bool → Bool → Converting DirectoryId × List ℕ → Result (Converting FileId) ConvertError → Type 0
+FilesBehind texts read big order refs d =
+    Then (BeginOutcome (nat_le 5 read.version) Files big read d.1) (λ (f : EntryList).
+    Then (WalkOutcome (next_read big f.layout) (file_image texts order refs d.0.ids) f.count f.bytes (first_files (nat_le 5 read.version) d.0)) (λ (x : Converting FileId × List ℕ) r.
+    r ≡ Ok x.0))
+
 -- The tables of a header in bytes, of an encoding that was read and in a byte order, become those of a target. Checksums have the
 -- order `order`.
 module _ (texts : Texts) (read : Encoding) (big order : Bool) (bytes : List ℕ) (e : Encoding) (parameters : LineEncoding) where
-  -- the files behind directories, which begin there
   abbrev pub FilesOutcome : Converting DirectoryId × List ℕ → Result (Converting FileId) ConvertError → Type 0
-  FilesOutcome d =
-      Then (BeginOutcome (nat_le 5 read.version) Files big read d.1) (λ (f : EntryList).
-      Then (WalkOutcome (next_read big f.layout) (file_image texts order (nat_le 5 e.version) d.0.ids) f.count f.bytes (first_files (nat_le 5 read.version) d.0)) (λ (x : Converting FileId × List ℕ) r.
-      r ≡ Ok x.0))
+  FilesOutcome d = FilesBehind texts read big order (nat_le 5 e.version) d
 
   -- the directories of a list behind the working directory, and then the files
   abbrev pub DirectoriesOutcome : EntryList → Working → Result (Converting FileId) ConvertError → Type 0

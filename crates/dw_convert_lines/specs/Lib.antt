@@ -6,6 +6,7 @@ pub mod Walks
 pub mod FormatLists
 pub mod HeaderImages
 pub mod Entries
+pub mod HeaderLists
 pub mod ReadRows
 pub mod RegisterViews
 pub mod RegisterSteps

@@ -9,7 +9,8 @@ ghost use Rattle.dw_read_lines.specs.declared.file_entries.Layout.TheVariants as
 ghost use Rattle.dw_sources.specs.declared.convert_error.ConvertError.TheVariants.{NoMemory};
 ghost use Rattle.dw_convert_lines.specs.Entries.{IsOpen, IsSameList, IsConvertibleList, FaultyBehind};
 ghost use Rattle.dw_convert_lines.specs.HeaderImages.{IsWritable, IsReadable, EncodingOutcome, working_image, new_program, first_ids, BeginOutcome, HeaderOutcome};
-ghost use Rattle.dw_convert_lines.specs.Views.{texts_of, tables, converting};
+ghost use Rattle.dw_convert_lines.specs.HeaderLists.{AreOfHeader, FilesMade, EntriesMade, ProgramMade};
+ghost use Rattle.dw_convert_lines.specs.Views.{texts_of, tables, converting, IsTarget};
 
 use crate::entries::{convert_directories, convert_files};
 use crate::format_list::is_convertible;
@@ -208,6 +209,135 @@ fn is_big<R: Reader>(header: &LineProgramHeader<R>) -> bool
     header.standard_opcode_lengths().endian().is_big_endian()
 }
 
+/// Adds the files behind directories to the program, and answers their ids by their numbers.
+fn convert_files_behind<R: Reader>(
+    alloc: Global,
+    dwarf: &Dwarf<R>,
+    header: &LineProgramHeader<R>,
+    version: u16,
+    directories: &[DirectoryId],
+    entries: &FileEntryIter<R>,
+    program: &mut LineProgram,
+    line_strings: &mut LineStringTable,
+    strings: &mut StringTable,
+) -> ConvertResult<Vec<FileId>>
+    requires laid { AreOfHeader R.reading header.now entries.now }
+    requires target { IsTarget version directories.now program.old }
+    ensures ok { IfOk result (λ files. FilesMade R.reading (texts_of R.reading dwarf.now)
+        header.now (nat_le 5 version) entries.now
+        (converting program.old directories.now strings.old line_strings.old)
+        (Ok (converting program.new files.items strings.new line_strings.new))) }
+    ensures err { IfErr result (λ e. (e ≡ NoMemory) ⊎ FilesMade R.reading
+        (texts_of R.reading dwarf.now) header.now (nat_le 5 version) entries.now
+        (converting program.old directories.now strings.old line_strings.old) (Err e)) }
+{
+    let mut listed = begin_files(entries)?;
+    let is_new = tells_working_directory(header);
+    let mut files = first_ids(alloc, is_new)?;
+    let is_big = is_big(header);
+    convert_files(
+        alloc,
+        dwarf,
+        version,
+        is_big,
+        directories,
+        &mut listed,
+        program,
+        &mut files,
+        line_strings,
+        strings,
+    )?;
+    Ok(files)
+}
+
+/// Adds the directories that follow to the program and the files behind them, and answers the ids
+/// of the files by their numbers.
+fn convert_entries<R: Reader>(
+    alloc: Global,
+    dwarf: &Dwarf<R>,
+    header: &LineProgramHeader<R>,
+    version: u16,
+    entries: &mut FileEntryIter<R>,
+    program: &mut LineProgram,
+    line_strings: &mut LineStringTable,
+    strings: &mut StringTable,
+) -> ConvertResult<Vec<FileId>>
+    requires begun { IsOpen R.reading entries.old }
+    requires laid { AreOfHeader R.reading header.now entries.old }
+    requires target { IsTarget version (record { 0 = 0 } ∷ []) program.old }
+    ensures ok { IfOk result (λ files. EntriesMade R.reading (texts_of R.reading dwarf.now)
+        header.now (nat_le 5 version) entries.old
+        (converting program.old (record { 0 = 0 } ∷ []) strings.old line_strings.old)
+        (Ok (converting program.new files.items strings.new line_strings.new))) }
+    ensures err { IfErr result (λ e. (e ≡ NoMemory) ⊎ EntriesMade R.reading
+        (texts_of R.reading dwarf.now) header.now (nat_le 5 version) entries.old
+        (converting program.old (record { 0 = 0 } ∷ []) strings.old line_strings.old)
+        (Err e)) }
+{
+    let mut directories = first_directories(alloc)?;
+    convert_directories(
+        alloc,
+        dwarf,
+        version,
+        entries,
+        program,
+        &mut directories,
+        line_strings,
+        strings,
+    )?;
+    let files = convert_files_behind(
+        alloc,
+        dwarf,
+        header,
+        version,
+        directories.as_slice(),
+        entries,
+        program,
+        line_strings,
+        strings,
+    )?;
+    Ok(files)
+}
+
+/// A program of a working directory with the directories that follow it and the files behind them,
+/// and the ids of the files by their numbers.
+fn program_with_entries<R: Reader>(
+    alloc: Global,
+    dwarf: &Dwarf<R>,
+    header: &LineProgramHeader<R>,
+    encoding: Encoding,
+    line_encoding: LineEncoding,
+    working: LineString,
+    entries: &mut FileEntryIter<R>,
+    line_strings: &mut LineStringTable,
+    strings: &mut StringTable,
+) -> ConvertResult<(LineProgram, Vec<FileId>)>
+    requires parameters { IsWritable line_encoding }
+    requires name { IsName working }
+    requires begun { IsOpen R.reading entries.old }
+    requires laid { AreOfHeader R.reading header.now entries.old }
+    ensures ok { IfOk result (λ x. ProgramMade R.reading (texts_of R.reading dwarf.now)
+        header.now encoding line_encoding entries.old working
+        (tables strings.old line_strings.old)
+        (Ok (converting x.0 x.1.items strings.new line_strings.new))) }
+    ensures err { IfErr result (λ e. (e ≡ NoMemory) ⊎ ProgramMade R.reading
+        (texts_of R.reading dwarf.now) header.now encoding line_encoding entries.old working
+        (tables strings.old line_strings.old) (Err e)) }
+{
+    let mut program = new_program(alloc, encoding, line_encoding, working)?;
+    let files = convert_entries(
+        alloc,
+        dwarf,
+        header,
+        encoding.version,
+        entries,
+        &mut program,
+        line_strings,
+        strings,
+    )?;
+    Ok((program, files))
+}
+
 /// A program with the directories and files of a header, and the ids of the files by their
 /// numbers.
 pub(crate) fn convert_header<R: Reader>(
@@ -232,44 +362,26 @@ pub(crate) fn convert_header<R: Reader>(
         (left (R.reading header.now.tables)) encoding line_encoding
         (tables strings.old line_strings.old) (Err e)) }
 {
-    let version = encoding.version;
     let is_new = tells_working_directory(header);
     let mut entries = begin_directories(header)?;
     let working = working_directory(
         alloc,
         dwarf,
         is_new,
-        version,
+        encoding.version,
         &mut entries,
         line_strings,
         strings,
     )?;
-    let mut program = new_program(alloc, encoding, line_encoding, working)?;
-    let mut directories = first_directories(alloc)?;
-    convert_directories(
+    program_with_entries(
         alloc,
         dwarf,
-        version,
+        header,
+        encoding,
+        line_encoding,
+        working,
         &mut entries,
-        &mut program,
-        &mut directories,
         line_strings,
         strings,
-    )?;
-    let mut listed = begin_files(&entries)?;
-    let mut files = first_ids(alloc, is_new)?;
-    let is_big = is_big(header);
-    convert_files(
-        alloc,
-        dwarf,
-        version,
-        is_big,
-        directories.as_slice(),
-        &mut listed,
-        &mut program,
-        &mut files,
-        line_strings,
-        strings,
-    )?;
-    Ok((program, files))
+    )
 }
