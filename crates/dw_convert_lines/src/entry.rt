@@ -1,13 +1,15 @@
 //! Directories and files (DWARF 5, 6.2.4).
 
-ghost use Rattle.std.specs.Prelude.{◌≡◌, ◌⊎◌, nat_le, true, Some, IfOk, IfErr, IfSome, OnOk, Ok, Err};
+ghost use Rattle.std.specs.Prelude.{◌≡◌, ◌≢◌, ◌⊎◌, ◌≤◌, [], nat_le, true, Some, IfOk, IfErr, IfSome, OnOk, Ok, Err};
 ghost use Rattle.dw_line.specs.LinePrograms.{IsInfo};
 ghost use Rattle.dw_line.specs.Names.{IsName};
+ghost use Rattle.dw_line.specs.declared.line_string.LineString.TheVariants.{String};
 ghost use Rattle.dw_read.specs.Took.{option_of};
 ghost use Rattle.dw_read.specs.Values.{value_of};
 ghost use Rattle.dw_read_lines.specs.LineEntryViews.{entry_of};
 ghost use Rattle.dw_sources.specs.declared.convert_error.ConvertError.TheVariants.{NoMemory};
 ghost use Rattle.dw_convert_lines.specs.EntryImages.{source_image, directory_image, directory_among, info_image, file_image};
+ghost use Rattle.dw_convert_lines.specs.EntryNames.{listed_image};
 ghost use Rattle.dw_convert_lines.specs.Views.{texts_of, tables, converting, IsTarget};
 
 use crate::name::{convert_listed, convert_name};
@@ -42,14 +44,7 @@ pub(crate) fn convert_directory<R: Reader>(
         (texts_of R.reading dwarf.now) (entry_of R.reading entry)
         (converting program.old ids.old.items strings.old line_strings.old) ≡ Err e) }
 {
-    let name = convert_listed(
-        alloc,
-        dwarf,
-        version,
-        entry.path_name,
-        line_strings,
-        strings,
-    )?;
+    let name = directory_name(alloc, dwarf, version, entry, line_strings, strings)?;
     match program.add_directory(name) {
         Ok(id) => {
             ids.push(id)?;
@@ -57,6 +52,28 @@ pub(crate) fn convert_directory<R: Reader>(
         }
         Err(_) => Err(ConvertError::NoMemory),
     }
+}
+
+/// The name of a directory.
+fn directory_name<R: Reader>(
+    alloc: Global,
+    dwarf: &Dwarf<R>,
+    version: u16,
+    entry: FileEntry<R>,
+    line_strings: &mut LineStringTable,
+    strings: &mut StringTable,
+) -> ConvertResult<LineString>
+    ensures ok { IfOk result (λ s. listed_image (nat_le 5 version) (texts_of R.reading dwarf.now)
+        (tables strings.old line_strings.old) (entry_of R.reading entry).path
+        ≡ Ok (s, tables strings.new line_strings.new)) }
+    ensures text { IfOk result IsName }
+    ensures full { IfOk result (λ s. version ≤ 4 → s ≢ String []) }
+    ensures err { IfErr result (λ e. (e ≡ NoMemory) ⊎ listed_image (nat_le 5 version)
+        (texts_of R.reading dwarf.now) (tables strings.old line_strings.old)
+        (entry_of R.reading entry).path ≡ Err e) }
+{
+    let path = path_of(entry);
+    convert_listed(alloc, dwarf, version, &path, line_strings, strings)
 }
 
 /// Adds a file to the program, and its id to those of the files before it.
@@ -82,26 +99,54 @@ pub(crate) fn convert_file<R: Reader>(
         is_big (nat_le 5 version) directories.now (entry_of R.reading entry)
         (converting program.old ids.old.items strings.old line_strings.old) ≡ Err e) }
 {
-    let FileEntry {
-        path_name,
-        directory_index,
-        timestamp,
-        size,
-        md5,
-        source,
-    } = entry;
-    let name = convert_listed(alloc, dwarf, version, path_name, line_strings, strings)?;
-    let number = convert_number(directory_index)?;
+    add_file(
+        alloc,
+        dwarf,
+        version,
+        is_big,
+        directories,
+        &entry,
+        program,
+        ids,
+        line_strings,
+        strings,
+    )
+}
+
+/// Adds a file to the program by what was read of it, and its id to those of the files before it.
+fn add_file<R: Reader>(
+    alloc: Global,
+    dwarf: &Dwarf<R>,
+    version: u16,
+    is_big: bool,
+    directories: &[DirectoryId],
+    entry: &FileEntry<R>,
+    program: &mut LineProgram,
+    ids: &mut Vec<FileId>,
+    line_strings: &mut LineStringTable,
+    strings: &mut StringTable,
+) -> ConvertResult<()>
+    requires { IsTarget version directories.now program.old }
+    ensures ok { OnOk result (file_image (texts_of R.reading dwarf.now) is_big (nat_le 5 version)
+        directories.now (entry_of R.reading entry.now)
+        (converting program.old ids.old.items strings.old line_strings.old)
+        ≡ Ok (converting program.new ids.new.items strings.new line_strings.new)) }
+    ensures target { OnOk result (IsTarget version directories.now program.new) }
+    ensures err { IfErr result (λ e. (e ≡ NoMemory) ⊎ file_image (texts_of R.reading dwarf.now)
+        is_big (nat_le 5 version) directories.now (entry_of R.reading entry.now)
+        (converting program.old ids.old.items strings.old line_strings.old) ≡ Err e) }
+{
+    let name = convert_listed(
+        alloc,
+        dwarf,
+        version,
+        &entry.path_name,
+        line_strings,
+        strings,
+    )?;
+    let number = convert_number(&entry.directory_index)?;
     let directory = directory_among(directories, number)?;
-    let rest = FileEntry {
-        path_name: None,
-        directory_index: None,
-        timestamp,
-        size,
-        md5,
-        source,
-    };
-    let info = convert_info(alloc, dwarf, version, is_big, rest, line_strings, strings)?;
+    let info = convert_info(alloc, dwarf, version, is_big, entry, line_strings, strings)?;
     match program.add_file(name, directory, Some(info)) {
         Ok(id) => {
             ids.push(id)?;
@@ -109,6 +154,13 @@ pub(crate) fn convert_file<R: Reader>(
         }
         Err(_) => Err(ConvertError::NoMemory),
     }
+}
+
+/// The name of a directory or a file.
+pub(crate) fn path_of<R: Reader>(entry: FileEntry<R>) -> Option<AttributeValue<R>>
+    ensures { result ≡ entry.path_name }
+{
+    entry.path_name
 }
 
 /// The directory of a number.
@@ -128,27 +180,20 @@ fn convert_info<R: Reader>(
     dwarf: &Dwarf<R>,
     version: u16,
     is_big: bool,
-    entry: FileEntry<R>,
+    entry: &FileEntry<R>,
     line_strings: &mut LineStringTable,
     strings: &mut StringTable,
 ) -> ConvertResult<FileInfo>
     ensures ok { IfOk result (λ i. info_image (texts_of R.reading dwarf.now) is_big
-        (nat_le 5 version) (tables strings.old line_strings.old) (entry_of R.reading entry)
+        (nat_le 5 version) (tables strings.old line_strings.old) (entry_of R.reading entry.now)
         ≡ Ok (i, tables strings.new line_strings.new)) }
     ensures text { IfOk result (λ i. IsInfo (Some i)) }
     ensures err { IfErr result (λ e. (e ≡ NoMemory) ⊎ info_image (texts_of R.reading dwarf.now)
         is_big (nat_le 5 version) (tables strings.old line_strings.old)
-        (entry_of R.reading entry) ≡ Err e) }
+        (entry_of R.reading entry.now) ≡ Err e) }
 {
-    let FileEntry {
-        timestamp,
-        size,
-        md5,
-        source,
-        ..
-    } = entry;
-    let timestamp = convert_number(timestamp)?;
-    let size = convert_number(size)?;
+    let timestamp = convert_number(&entry.timestamp)?;
+    let size = convert_number(&entry.size)?;
     if version < 5 {
         return Ok(FileInfo {
             timestamp,
@@ -157,8 +202,8 @@ fn convert_info<R: Reader>(
             source: None,
         });
     }
-    let md5 = convert_checksum(md5, is_big)?;
-    let source = convert_source(alloc, dwarf, source, line_strings, strings)?;
+    let md5 = convert_checksum(&entry.md5, is_big)?;
+    let source = convert_source(alloc, dwarf, &entry.source, line_strings, strings)?;
     Ok(FileInfo {
         timestamp,
         size,
@@ -171,21 +216,23 @@ fn convert_info<R: Reader>(
 fn convert_source<R: Reader>(
     alloc: Global,
     dwarf: &Dwarf<R>,
-    source: Option<AttributeValue<R>>,
+    source: &Option<AttributeValue<R>>,
     line_strings: &mut LineStringTable,
     strings: &mut StringTable,
 ) -> ConvertResult<Option<LineString>>
     ensures ok { IfOk result (λ s. source_image true (texts_of R.reading dwarf.now)
-        (tables strings.old line_strings.old) (option_of (value_of R.reading) source)
+        (tables strings.old line_strings.old) (option_of (value_of R.reading) source.now)
         ≡ Ok (s, tables strings.new line_strings.new)) }
     ensures text { IfOk result (λ s. IfSome s IsName) }
     ensures err { IfErr result (λ e. (e ≡ NoMemory) ⊎ source_image true
         (texts_of R.reading dwarf.now) (tables strings.old line_strings.old)
-        (option_of (value_of R.reading) source) ≡ Err e) }
+        (option_of (value_of R.reading) source.now) ≡ Err e) }
 {
-    let Some(source) = source else {
-        return Ok(None);
-    };
-    let text = convert_name(alloc, dwarf, 5, Some(source), line_strings, strings)?;
-    Ok(Some(text))
+    match source {
+        None => Ok(None),
+        Some(_) => {
+            let text = convert_name(alloc, dwarf, 5, source, line_strings, strings)?;
+            Ok(Some(text))
+        }
+    }
 }

@@ -13,6 +13,7 @@ ghost use Rattle.dw_convert_lines.specs.HeaderLists.{AreOfHeader, FilesMade, Ent
 ghost use Rattle.dw_convert_lines.specs.Views.{texts_of, tables, converting, IsTarget};
 
 use crate::entries::{convert_directories, convert_files};
+use crate::entry::path_of;
 use crate::format_list::is_convertible;
 use crate::name::{convert_name, inline};
 use dw_base::{DirectoryId, Encoding, Endianity, FileId, LineEncoding};
@@ -144,7 +145,7 @@ fn working_directory<R: Reader>(
             alloc,
             dwarf,
             version,
-            entry.path_name,
+            &path_of(entry),
             line_strings,
             strings,
         )?;

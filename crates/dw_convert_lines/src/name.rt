@@ -25,17 +25,17 @@ pub(crate) fn convert_name<R: Reader>(
     alloc: Global,
     dwarf: &Dwarf<R>,
     version: u16,
-    name: Option<AttributeValue<R>>,
+    name: &Option<AttributeValue<R>>,
     line_strings: &mut LineStringTable,
     strings: &mut StringTable,
 ) -> ConvertResult<LineString>
     ensures ok { IfOk result (λ s. name_image (nat_le 5 version) (texts_of R.reading dwarf.now)
-        (tables strings.old line_strings.old) (option_of (value_of R.reading) name)
+        (tables strings.old line_strings.old) (option_of (value_of R.reading) name.now)
         ≡ Ok (s, tables strings.new line_strings.new)) }
     ensures text { IfOk result IsName }
     ensures err { IfErr result (λ e. (e ≡ NoMemory) ⊎ name_image (nat_le 5 version)
         (texts_of R.reading dwarf.now) (tables strings.old line_strings.old)
-        (option_of (value_of R.reading) name) ≡ Err e) }
+        (option_of (value_of R.reading) name.now) ≡ Err e) }
 {
     match name {
         Some(AttributeValue::String(text)) => inline(alloc, ended(text.to_slice())),
@@ -56,18 +56,18 @@ pub(crate) fn convert_listed<R: Reader>(
     alloc: Global,
     dwarf: &Dwarf<R>,
     version: u16,
-    name: Option<AttributeValue<R>>,
+    name: &Option<AttributeValue<R>>,
     line_strings: &mut LineStringTable,
     strings: &mut StringTable,
 ) -> ConvertResult<LineString>
     ensures ok { IfOk result (λ s. listed_image (nat_le 5 version) (texts_of R.reading dwarf.now)
-        (tables strings.old line_strings.old) (option_of (value_of R.reading) name)
+        (tables strings.old line_strings.old) (option_of (value_of R.reading) name.now)
         ≡ Ok (s, tables strings.new line_strings.new)) }
     ensures text { IfOk result IsName }
     ensures full { IfOk result (λ s. version ≤ 4 → s ≢ String []) }
     ensures err { IfErr result (λ e. (e ≡ NoMemory) ⊎ listed_image (nat_le 5 version)
         (texts_of R.reading dwarf.now) (tables strings.old line_strings.old)
-        (option_of (value_of R.reading) name) ≡ Err e) }
+        (option_of (value_of R.reading) name.now) ≡ Err e) }
 {
     let name = convert_name(alloc, dwarf, version, name, line_strings, strings)?;
     if version < 5 && is_empty(&name) {

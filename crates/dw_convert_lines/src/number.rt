@@ -9,30 +9,30 @@ use dw_read::{AttributeValue, Reader};
 use dw_sources::{ConvertError, ConvertResult};
 
 /// The number that is told, or 0.
-pub(crate) fn convert_number<R: Reader>(number: Option<AttributeValue<R>>) -> ConvertResult<u64>
-    ensures { result ≡ number_image (option_of (value_of R.reading) number) }
+pub(crate) fn convert_number<R: Reader>(number: &Option<AttributeValue<R>>) -> ConvertResult<u64>
+    ensures { result ≡ number_image (option_of (value_of R.reading) number.now) }
 {
     match number {
         None => Ok(0),
-        Some(AttributeValue::Udata(number)) => Ok(number),
-        Some(AttributeValue::Data1(number)) => Ok(number as u64),
-        Some(AttributeValue::Data2(number)) => Ok(number as u64),
-        Some(AttributeValue::Data4(number)) => Ok(number as u64),
-        Some(AttributeValue::Data8(number)) => Ok(number),
+        Some(AttributeValue::Udata(number)) => Ok(*number),
+        Some(AttributeValue::Data1(number)) => Ok(*number as u64),
+        Some(AttributeValue::Data2(number)) => Ok(*number as u64),
+        Some(AttributeValue::Data4(number)) => Ok(*number as u64),
+        Some(AttributeValue::Data8(number)) => Ok(*number),
         Some(_) => Err(ConvertError::UnsupportedLineProgram),
     }
 }
 
 /// A checksum, where there is one.
 pub(crate) fn convert_checksum<R: Reader>(
-    checksum: Option<AttributeValue<R>>,
+    checksum: &Option<AttributeValue<R>>,
     is_big: bool,
 ) -> ConvertResult<Option<[u8; 16]>>
-    ensures { result ≡ checksum_image is_big (option_of (value_of R.reading) checksum) }
+    ensures { result ≡ checksum_image is_big (option_of (value_of R.reading) checksum.now) }
 {
     match checksum {
         None => Ok(None),
-        Some(AttributeValue::Data16(number)) => Ok(Some(checksum_bytes(number, is_big))),
+        Some(AttributeValue::Data16(number)) => Ok(Some(checksum_bytes(*number, is_big))),
         Some(_) => Err(ConvertError::UnsupportedLineProgram),
     }
 }

@@ -1,13 +1,17 @@
-use Rattle.std.proofs.Common.{◌≡◌, sym, subst, refl, inl, inr, ℕ, Ok}
+use Rattle.std.proofs.Common.{◌≡◌, sym, subst, refl, inl, inr, ℕ, Option, Ok, Err}
 use Rattle.std.specs.Prelude.{nat_le}
 use Rattle.dw_read.specs.Reading.{left}
+use Rattle.dw_read.specs.Took.{option_of}
+use Rattle.dw_read.specs.Values.{value_of}
 use Rattle.dw_read.specs.declared.error.ReadError.{ReadError}
+use Rattle.dw_read.specs.declared.value.AttributeValue.{AttributeValue}
 use Rattle.dw_read_lines.specs.FileEntryIters.{layout_of, HasParts}
 use Rattle.dw_read_lines.specs.LineEntries.{next_read}
 use Rattle.dw_read_lines.specs.LineEntryViews.{entry_of}
 use Rattle.dw_read_lines.specs.declared.file_entries.Layout.{Layout as HeldLayout}
 use Rattle.dw_sources.specs.ConvertErrors.{from_read}
 use Rattle.dw_sources.specs.declared.convert_error.ConvertError.{ConvertError}
+use Rattle.dw_convert_lines.specs.EntryNames.{name_image}
 use Rattle.dw_convert_lines.specs.HeaderImages.{working_image}
 use Rattle.dw_convert_lines.specs.Views.{texts_of, tables}
 use Rattle.dw_convert_lines.proofs.EntrySteps.{passes, closes, read_here, closed_here, refused_here, order_passed}
@@ -23,10 +27,11 @@ returns-then-is_new-clause-ok g c =
     let reading = g.R.Reader.reading in
     let old = c.args.entries.now in
     let p = passes _ _ reading _ _ _ _ c.in_ok-entry.ensures c.in-Some.is in
+    let named = subst (λ (o : Option (AttributeValue _ _)). name_image (nat_le 5 c.args.version) (texts_of reading c.args.dwarf.now) (tables c.args.strings.now c.args.line_strings.now) (option_of (value_of reading) o) ≡ Ok (c.in_ok-name.name, tables c.convert_name.new.strings c.convert_name.new.line_strings)) c.path_of.ensures c.in_ok-name.ensures.ok in
     λ parts has. subst (λ (k : ℕ). working_image c.args.is_new (nat_le 5 c.args.version) (texts_of reading c.args.dwarf.now) (next_read (reading old.input).is_big (layout_of reading old.layout parts)) old.remaining (left (reading old.input)) (tables c.args.strings.now c.args.line_strings.now)
     ≡ Ok (record { name = c.in_ok-name.name; tables = tables c.convert_name.new.strings c.convert_name.new.line_strings; count = k; bytes = left (reading c.next.new.self.input) }))
     (sym p.remaining)
-    (working_first _ _ _ _ _ _ (entry_of reading c.in-Some.entry) _ _ _ _ c.if-is_new.true (read_here _ _ reading _ _ _ _ parts refl refl has _ p) c.in_ok-name.ensures.ok)
+    (working_first _ _ _ _ _ _ (entry_of reading c.in-Some.entry) _ _ _ _ c.if-is_new.true (read_here _ _ reading _ _ _ _ parts refl refl has _ p) named)
 
 pub returns-then-is_new-clause-same : goal.returns-then-is_new-clause-same
 returns-then-is_new-clause-same g c =
@@ -55,7 +60,7 @@ returns-in_err-name-clause-err g c =
     let e = is_err _ why c.from_residual-in_err-name.ensures in
     rw e (elim c.in_err-name.ensures.err [
       | inl h ↦ inl h
-      | inr h ↦ inr (λ parts has. working_refused _ _ _ _ _ _ (entry_of reading c.in-Some.entry) _ why _ c.if-is_new.true (read_here _ _ reading _ _ _ _ parts refl refl has _ p) h)
+      | inr h ↦ inr (λ parts has. working_refused _ _ _ _ _ _ (entry_of reading c.in-Some.entry) _ why _ c.if-is_new.true (read_here _ _ reading _ _ _ _ parts refl refl has _ p) (subst (λ (o : Option (AttributeValue _ _)). name_image (nat_le 5 c.args.version) (texts_of reading c.args.dwarf.now) (tables c.args.strings.now c.args.line_strings.now) (option_of (value_of reading) o) ≡ Err why) c.path_of.ensures h))
     ])
 
 pub returns-in_default-clause-err : goal.returns-in_default-clause-err
