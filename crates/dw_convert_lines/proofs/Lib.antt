@@ -5,6 +5,7 @@ pub mod Indices
 pub mod OldEntries
 pub mod Walking
 pub mod EntrySteps
+pub mod FileSteps
 pub mod WorkingLaws
 pub mod FormatLaws
 pub mod FormatWalks
