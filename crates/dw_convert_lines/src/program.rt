@@ -6,7 +6,7 @@ ghost use Rattle.dw_sources.specs.declared.convert_error.ConvertError.TheVariant
 ghost use Rattle.dw_convert_lines.specs.HeaderImages.{IsWritable};
 ghost use Rattle.dw_convert_lines.specs.ReadPrograms.{ProgramOutcome, RowsOutcome, LinesOutcome};
 ghost use Rattle.dw_convert_lines.specs.RowImages.{AreFiles};
-ghost use Rattle.dw_convert_lines.specs.RowOutcomes.{IsBegun, is_fresh};
+ghost use Rattle.dw_convert_lines.specs.RowOutcomes.{IsBegun, IsFresh, is_fresh};
 ghost use Rattle.dw_convert_lines.specs.Views.{texts_of, tables, converting};
 
 use crate::header::{convert_header, target_encoding};
@@ -14,7 +14,7 @@ use crate::rows::convert_rows;
 use dw_base::{Address, Encoding, FileId, LineEncoding};
 use dw_line::LineProgram;
 use dw_read::Reader;
-use dw_read_lines::IncompleteLineProgram;
+use dw_read_lines::{IncompleteLineProgram, LineProgramHeader};
 use dw_read_units::Dwarf;
 use dw_sources::ConvertResult;
 use dw_strings::{LineStringTable, StringTable};
@@ -144,18 +144,34 @@ impl<R: Reader> ConvertLineProgram<'_, R> {
     {
         let ConvertLineProgram {
             read,
-            mut program,
+            program,
             files,
             ..
         } = self;
-        convert_rows(
-            read.header(),
-            files.as_slice(),
-            &mut program,
-            convert_address,
-        )?;
-        Ok((program, files))
+        with_rows(read.header(), program, files, convert_address)
     }
+}
+
+/// A program, whose files have these ids by the numbers that were read, with the sequences that the
+/// instructions behind a header show.
+fn with_rows<R: Reader, F: Fn(u64) -> Option<Address>>(
+    header: &LineProgramHeader<R>,
+    mut program: LineProgram,
+    files: Vec<FileId>,
+    convert_address: &F,
+) -> ConvertResult<(LineProgram, Vec<FileId>)>
+    requires callable { F.IsAlwaysCallable convert_address.now }
+    requires fresh { IsFresh program }
+    requires files { AreFiles header.now.encoding.encoding.version files.items
+        (file_count_of program.program) }
+    ensures ok { IfOk result (λ x. RowsOutcome R.reading (F.post convert_address.now) header.now
+        files.items program (Ok x.0)) }
+    ensures files { IfOk result (λ x. x.1 ≡ files) }
+    ensures err { IfErr result (λ e. (e ≡ NoMemory) ⊎ RowsOutcome R.reading
+        (F.post convert_address.now) header.now files.items program (Err e)) }
+{
+    convert_rows(header, files.as_slice(), &mut program, convert_address)?;
+    Ok((program, files))
 }
 
 /// Converts a program that was read as a whole, as `read_line_program` and then
@@ -180,7 +196,7 @@ pub fn convert_line_program<R: Reader, F: Fn(u64) -> Option<Address>>(
         (F.post convert_address.now) program.now (texts_of R.reading dwarf.now) encoding
         line_encoding (tables strings.old line_strings.old) (Err e)) }
 {
-    let (mut target, files) = begin_program(
+    let (target, files) = begin_program(
         alloc,
         dwarf,
         program,
@@ -189,11 +205,5 @@ pub fn convert_line_program<R: Reader, F: Fn(u64) -> Option<Address>>(
         line_strings,
         strings,
     )?;
-    convert_rows(
-        program.header(),
-        files.as_slice(),
-        &mut target,
-        convert_address,
-    )?;
-    Ok((target, files))
+    with_rows(program.header(), target, files, convert_address)
 }
