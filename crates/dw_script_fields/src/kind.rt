@@ -6,7 +6,7 @@ ghost use Rattle.dw_script_fields.specs.Kinds.{kind_of};
 use crate::table::find_name;
 
 /// The kind of a value, which says what the line's other fields are.
-#[derive(Clone, Copy, Debug, PartialEq, Eq)]
+#[derive(Clone, Copy)]
 pub(crate) enum Kind {
     Address,
     Block,
@@ -41,7 +41,7 @@ pub(crate) enum Kind {
 }
 
 /// The kind of a number that the standard gives meanings.
-#[derive(Clone, Copy, Debug, PartialEq, Eq)]
+#[derive(Clone, Copy)]
 pub(crate) enum ConstantKind {
     Encoding,
     DecimalSign,
