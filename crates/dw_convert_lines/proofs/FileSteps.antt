@@ -13,10 +13,10 @@ use Rattle.dw_convert_lines.specs.EntryImages.{Converting, number_image, directo
 use Rattle.dw_convert_lines.specs.EntryNames.{Texts, Tables, listed_image}
 use Rattle.dw_convert_lines.specs.Results.{◌=>◌}
 
-stops : {A B : Type 0} (r : Result A ConvertError) (f : A → Result B ConvertError) (e : ConvertError) → r ≡ Err e → (r => f) ≡ Err e
+pub stops : {A B : Type 0} (r : Result A ConvertError) (f : A → Result B ConvertError) (e : ConvertError) → r ≡ Err e → (r => f) ≡ Err e
 stops r f e h = ap (λ q. q => f) h
 
-goes_on : {A B : Type 0} (r : Result A ConvertError) (f : A → Result B ConvertError) (v : A) → r ≡ Ok v → (r => f) ≡ f v
+pub goes_on : {A B : Type 0} (r : Result A ConvertError) (f : A → Result B ConvertError) (v : A) → r ≡ Ok v → (r => f) ≡ f v
 goes_on r f v h = ap (λ q. q => f) h
 
 module _ (texts : Texts) (big refs : Bool) (directories : List DirectoryId) (x : Entry) (s : Converting FileId) where

@@ -1,4 +1,4 @@
-use Rattle.std.proofs.Common.{◌≡◌, sym, subst, ap, refl, Ok, Err}
+use Rattle.std.proofs.Common.{sym, subst, ap, refl, Ok, Err}
 use Rattle.dw_line.specs.LinePrograms.{file_count_of}
 use Rattle.dw_read_lines.specs.declared.header.LineProgramHeader.{LineProgramHeader}
 use Rattle.dw_convert_lines.specs.ReadPrograms.{RowsOutcome}

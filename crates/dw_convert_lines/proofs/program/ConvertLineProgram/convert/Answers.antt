@@ -1,5 +1,5 @@
 use Rattle.std.proofs.Common.{sym, subst}
-use Rattle.std.specs.Prelude.{IfOk, Ok, Err}
+use Rattle.std.specs.Prelude.{Ok, Err}
 use Rattle.dw_line.specs.LinePrograms.{file_count_of}
 use Rattle.dw_read_lines.specs.declared.header.LineProgramHeader.{LineProgramHeader}
 use Rattle.dw_convert_lines.specs.ReadPrograms.{RowsOutcome}
