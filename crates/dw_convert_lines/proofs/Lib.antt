@@ -6,6 +6,7 @@ pub mod OldEntries
 pub mod Walking
 pub mod EntrySteps
 pub mod FileSteps
+pub mod FileTargets
 pub mod InfoSteps
 pub mod WorkingLaws
 pub mod FormatLaws

@@ -1,4 +1,4 @@
-use Rattle.std.proofs.Common.{inl, inr}
+use Rattle.std.proofs.Common.{inl, inr, Some}
 use Rattle.std.specs.Prelude.{nat_le}
 use Rattle.dw_base.specs.declared.ids.FileId.{FileId}
 use Rattle.dw_line.specs.declared.line_string.FileInfo.{FileInfo}
@@ -9,6 +9,7 @@ use Rattle.dw_convert_lines.specs.EntryImages.{Converting}
 use Rattle.dw_convert_lines.specs.EntryNames.{Tables}
 use Rattle.dw_convert_lines.specs.Views.{texts_of, tables, converting}
 use Rattle.dw_convert_lines.proofs.FileSteps.{name_refused, number_refused, directory_refused, info_refused, file_made}
+use Rattle.dw_convert_lines.proofs.FileTargets.{target_kept}
 use Rattle.dw_convert_lines.proofs.Reasons.{is_err}
 use Rattle.dw_convert_lines.proofs.entry.add_file.Goals as goal
 
@@ -76,3 +77,7 @@ returns-in_ok-push-in-Ok-clause-ok g c =
     let info : FileInfo × Tables = (c.in_ok-info.info, tables c.convert_info.new.strings c.convert_info.new.line_strings) in
     file_made texts c.args.is_big refs c.args.directories.now x s name c.in_ok-name.ensures.ok c.in_ok-number.number c.in_ok-number.ensures c.in_ok-directory.directory c.in_ok-directory.ensures info
     c.add_file.new.self c.in-Ok.id c.push.new.self.items c.in_ok-info.ensures.ok c.in-Ok.ensures.ok c.in-Ok.ensures.id c.in_ok-push-in-Ok.ensures.items
+
+pub returns-in_ok-push-in-Ok-clause-target : goal.returns-in_ok-push-in-Ok-clause-target
+returns-in_ok-push-in-Ok-clause-target g c =
+    target_kept c.in_ok-name.name c.in_ok-directory.directory (Some c.in_ok-info.info) c.args.version c.args.directories.now c.args.program.now c.add_file.new.self c.requires c.in-Ok.ensures.ok
