@@ -3,7 +3,7 @@
 use crate::ids::{UnitEntryId, UnitId};
 
 /// An address of the target.
-#[derive(Clone, Copy, Debug, PartialEq, Eq, Hash)]
+#[derive(Clone, Copy, PartialEq, Eq, Hash)]
 pub enum Address {
     /// An address that is known.
     Constant(u64),
@@ -12,7 +12,7 @@ pub enum Address {
 }
 
 /// An entry that is named by its place in `.debug_info`.
-#[derive(Clone, Copy, Debug, PartialEq, Eq, Hash)]
+#[derive(Clone, Copy, PartialEq, Eq, Hash)]
 pub enum DebugInfoRef {
     /// An entry of another object, under a symbol.
     Symbol(usize),

@@ -4,7 +4,7 @@ ghost use Rattle.std.specs.Prelude.{◌≡◌, true, pos, negsuc};
 ghost use Rattle.dw_base.specs.Numbers.{word_of};
 
 /// The format of a unit or a section: 32-bit or 64-bit (DWARF 5, 7.4).
-#[derive(Clone, Copy, Debug, PartialEq, Eq, Hash)]
+#[derive(Clone, Copy, PartialEq, Eq, Hash)]
 pub enum Format {
     Dwarf32,
     Dwarf64,
@@ -23,7 +23,7 @@ impl Format {
 }
 
 /// What the spelling of a unit's values depends on, beside the byte order.
-#[derive(Clone, Copy, Debug, PartialEq, Eq, Hash)]
+#[derive(Clone, Copy, PartialEq, Eq, Hash)]
 pub struct Encoding {
     /// The bytes of an address on the target.
     pub address_size: u8,
@@ -34,7 +34,7 @@ pub struct Encoding {
 }
 
 /// The parameters of a line program (DWARF 5, 6.2.4).
-#[derive(Clone, Copy, Debug, PartialEq, Eq, Hash)]
+#[derive(Clone, Copy, PartialEq, Eq, Hash)]
 pub struct LineEncoding {
     /// The bytes of the smallest instruction of the target.
     pub minimum_instruction_length: u8,
@@ -70,5 +70,5 @@ impl Default for LineEncoding {
 }
 
 /// A register of the target, by its number in the target's DWARF mapping.
-#[derive(Clone, Copy, Debug, PartialEq, Eq, Hash)]
+#[derive(Clone, Copy, PartialEq, Eq, Hash)]
 pub struct Register(pub u16);

@@ -12,7 +12,7 @@ pub trait Endianity: Copy {
 }
 
 /// The lowest byte first.
-#[derive(Clone, Copy, Debug, PartialEq, Eq, Hash)]
+#[derive(Clone, Copy, PartialEq, Eq)]
 pub struct LittleEndian;
 
 impl Endianity for LittleEndian {
@@ -24,7 +24,7 @@ impl Endianity for LittleEndian {
 }
 
 /// The highest byte first.
-#[derive(Clone, Copy, Debug, PartialEq, Eq, Hash)]
+#[derive(Clone, Copy, PartialEq, Eq)]
 pub struct BigEndian;
 
 impl Endianity for BigEndian {
@@ -36,7 +36,7 @@ impl Endianity for BigEndian {
 }
 
 /// A byte order that is chosen when the program runs.
-#[derive(Clone, Copy, Debug, PartialEq, Eq, Hash)]
+#[derive(Clone, Copy, PartialEq, Eq)]
 pub enum RunTimeEndian {
     Little,
     Big,

@@ -4,6 +4,7 @@ ghost use Rattle.std.specs.Prelude.{◌≡◌};
 
 use crate::constants::DwEhPe;
 use std::alloc::{AllocError, AllocFailed};
+use std::fmt::{self, Display, Formatter};
 use thiserror::Error as ThisError;
 
 /// The result of a call that builds or writes.
@@ -13,77 +14,53 @@ pub type Result<T> = std::result::Result<T, Error>;
 #[derive(Clone, Copy, Debug, PartialEq, Eq, ThisError)]
 pub enum Error {
     /// No memory could be had.
-    #[error("out of memory")]
     NoMemory,
     /// The writer failed, and has counted that.
-    #[error("the writer failed")]
     WriteFault,
     /// A patch begins past a section's end.
-    #[error("a patch begins past the end of its section")]
     OffsetOutOfBounds,
     /// A patch begins inside a section and ends past its end.
-    #[error("a patch ends past the end of its section")]
     LengthOutOfBounds,
     /// A string has a zero byte, or an attribute names a line program where none is in use.
-    #[error("an attribute's value can't be written")]
     InvalidAttributeValue,
     /// A number doesn't fit its field, or a total its limit.
-    #[error("a value is too large for its encoding")]
     ValueTooLarge,
     /// The width of an address or of a field isn't 1, 2, 4 or 8 bytes.
-    #[error("a width of {0} bytes is not supported")]
     UnsupportedWordSize(u8),
     /// The version of a unit, a line program or a frame entry has no spelling.
-    #[error("version {0} is not supported")]
     UnsupportedVersion(u16),
     /// A length is too large for the 32-bit format.
-    #[error("a length is too large for the 32-bit format")]
     InitialLengthOverflow,
     /// A symbol's address was given to a writer that records no relocations.
-    #[error("a symbol's address needs a relocation")]
     InvalidAddress,
     /// A reference names nothing that is written.
-    #[error("a reference names nothing that is written")]
     InvalidReference,
     /// A part is there that only this version or a later one has.
-    #[error("version {0} is needed")]
     NeedVersion(u16),
     /// The strings of a line program have forms that can't stand together.
-    #[error("the strings of a line program have different forms")]
     LineStringFormMismatch,
     /// A list has an item that its version can't spell.
-    #[error("a list has an item that its version has no spelling for")]
     InvalidRange,
     /// A line program's encoding is not its unit's.
-    #[error("a line program and its unit have different encodings")]
     IncompatibleLineProgramEncoding,
     /// The offset of a frame instruction falls, or isn't a multiple of the code alignment factor.
-    #[error("the code offset {0} can't be factored")]
     InvalidFrameCodeOffset(u32),
     /// An offset of a frame instruction isn't a multiple of the data alignment factor.
-    #[error("the data offset {0} can't be factored")]
     InvalidFrameDataOffset(i32),
     /// A pointer's encoding has no spelling.
-    #[error("the pointer encoding {0:?} is not supported")]
     UnsupportedPointerEncoding(DwEhPe),
     /// A frame's expression names an entry by its place in a unit.
-    #[error("a frame's expression names an entry of a unit")]
     UnsupportedCfiExpressionReference,
     /// An expression names an entry that is placed after its own.
-    #[error("an expression names an entry that is written later")]
     UnsupportedExpressionForwardReference,
     /// A pair of offsets stands in a list without a base address.
-    #[error("a pair of offsets has no base address")]
     MissingBaseAddress,
     /// A pair of addresses stands in a list with a base address.
-    #[error("a pair of addresses stands under a base address")]
     UnexpectedBaseAddress,
     /// A branch of an expression has no target.
-    #[error("a branch has no target")]
     UnsetBranchTarget,
     /// A frame description has a language-specific data area and its common entry no encoding for
     /// it, or the reverse.
-    #[error("a frame entry and its common entry disagree on a language-specific data area")]
     LsdaMismatch,
 }
 
@@ -121,6 +98,89 @@ impl Error {
             Error::LsdaMismatch => "LsdaMismatch",
         }
     }
+
+    // What is printed of a variant that holds nothing; the others are printed with their number.
+    fn text(&self) -> &'static str {
+        match self {
+            Error::NoMemory => "out of memory",
+            Error::WriteFault => "the writer failed",
+            Error::OffsetOutOfBounds => "a patch begins past the end of its section",
+            Error::LengthOutOfBounds => "a patch ends past the end of its section",
+            Error::InvalidAttributeValue => "an attribute's value can't be written",
+            Error::ValueTooLarge => "a value is too large for its encoding",
+            Error::InitialLengthOverflow => "a length is too large for the 32-bit format",
+            Error::InvalidAddress => "a symbol's address needs a relocation",
+            Error::InvalidReference => "a reference names nothing that is written",
+            Error::LineStringFormMismatch => "the strings of a line program have different forms",
+            Error::InvalidRange => "a list has an item that its version has no spelling for",
+            Error::IncompatibleLineProgramEncoding =>
+                "a line program and its unit have different encodings",
+            Error::UnsupportedCfiExpressionReference =>
+                "a frame's expression names an entry of a unit",
+            Error::UnsupportedExpressionForwardReference =>
+                "an expression names an entry that is written later",
+            Error::MissingBaseAddress => "a pair of offsets has no base address",
+            Error::UnexpectedBaseAddress => "a pair of addresses stands under a base address",
+            Error::UnsetBranchTarget => "a branch has no target",
+            Error::LsdaMismatch =>
+                "a frame entry and its common entry disagree on a language-specific data area",
+            Error::UnsupportedWordSize(_)
+            | Error::UnsupportedVersion(_)
+            | Error::NeedVersion(_)
+            | Error::InvalidFrameCodeOffset(_)
+            | Error::InvalidFrameDataOffset(_)
+            | Error::UnsupportedPointerEncoding(_) => "",
+        }
+    }
+}
+
+impl Display for Error {
+    fn fmt<W: fmt::Write>(&self, f: &mut Formatter<W>) -> fmt::Result {
+        match self {
+            Error::UnsupportedWordSize(width) => number(
+                f,
+                "a width of ",
+                width,
+                " bytes is not supported",
+            ),
+            Error::UnsupportedVersion(version) => number(
+                f,
+                "version ",
+                version,
+                " is not supported",
+            ),
+            Error::NeedVersion(version) => number(f, "version ", version, " is needed"),
+            Error::InvalidFrameCodeOffset(offset) => number(
+                f,
+                "the code offset ",
+                offset,
+                " can't be factored",
+            ),
+            Error::InvalidFrameDataOffset(offset) => number(
+                f,
+                "the data offset ",
+                offset,
+                " can't be factored",
+            ),
+            Error::UnsupportedPointerEncoding(encoding) => number(
+                f,
+                "the pointer encoding DwEhPe(",
+                &encoding.0,
+                ") is not supported",
+            ),
+            _ => f.write_str(self.text()),
+        }
+    }
+}
+
+// Prints a text with a number in it.
+fn number<W: fmt::Write, N: Display>(
+    f: &mut Formatter<W>,
+    before: &str,
+    number: &N,
+    behind: &str,
+) -> fmt::Result {
+    write!(f, "{before}{number}{behind}")
 }
 
 impl From<AllocError> for Error {

@@ -18,7 +18,7 @@ pub fn one_fault_more(faults: u64) -> u64
 
 /// Which calls of a writer, a source or a sink are to fail, by their numbers from 0, how many
 /// calls there were and how many failed.
-#[derive(Debug, Drop)]
+#[derive(Drop)]
 pub struct FaultPlan {
     failing: Vec<u64>,
     calls: u64,

@@ -3,7 +3,7 @@
 ghost use Rattle.std.specs.Prelude.{◌≡◌, ◌+◌, ◌<◌, ◌≤◌};
 
 /// A unit of a `UnitTable`.
-#[derive(Clone, Copy, Debug, PartialEq, Eq, Hash)]
+#[derive(Clone, Copy, PartialEq, Eq, Hash)]
 pub struct UnitId(pub usize);
 
 impl UnitId {
@@ -23,7 +23,7 @@ impl UnitId {
 }
 
 /// An entry of a unit.
-#[derive(Clone, Copy, Debug, PartialEq, Eq, Hash)]
+#[derive(Clone, Copy, PartialEq, Eq, Hash)]
 pub struct UnitEntryId(pub usize);
 
 impl UnitEntryId {
@@ -43,7 +43,7 @@ impl UnitEntryId {
 }
 
 /// A string of a `StringTable`.
-#[derive(Clone, Copy, Debug, PartialEq, Eq, Hash)]
+#[derive(Clone, Copy, PartialEq, Eq, Hash)]
 pub struct StringId(pub usize);
 
 impl StringId {
@@ -63,7 +63,7 @@ impl StringId {
 }
 
 /// A string of a `LineStringTable`.
-#[derive(Clone, Copy, Debug, PartialEq, Eq, Hash)]
+#[derive(Clone, Copy, PartialEq, Eq, Hash)]
 pub struct LineStringId(pub usize);
 
 impl LineStringId {
@@ -83,7 +83,7 @@ impl LineStringId {
 }
 
 /// A file of a line program.
-#[derive(Clone, Copy, Debug, PartialEq, Eq, Hash)]
+#[derive(Clone, Copy, PartialEq, Eq, Hash)]
 pub struct FileId(pub usize);
 
 impl FileId {
@@ -117,7 +117,7 @@ impl FileId {
 }
 
 /// A directory of a line program.
-#[derive(Clone, Copy, Debug, PartialEq, Eq, Hash)]
+#[derive(Clone, Copy, PartialEq, Eq, Hash)]
 pub struct DirectoryId(pub usize);
 
 impl DirectoryId {
@@ -137,7 +137,7 @@ impl DirectoryId {
 }
 
 /// A list of a `RangeListTable`.
-#[derive(Clone, Copy, Debug, PartialEq, Eq, Hash)]
+#[derive(Clone, Copy, PartialEq, Eq, Hash)]
 pub struct RangeListId(pub usize);
 
 impl RangeListId {
@@ -157,7 +157,7 @@ impl RangeListId {
 }
 
 /// A list of a `LocationListTable`.
-#[derive(Clone, Copy, Debug, PartialEq, Eq, Hash)]
+#[derive(Clone, Copy, PartialEq, Eq, Hash)]
 pub struct LocationListId(pub usize);
 
 impl LocationListId {
@@ -177,7 +177,7 @@ impl LocationListId {
 }
 
 /// A common information entry of a `FrameTable`.
-#[derive(Clone, Copy, Debug, PartialEq, Eq, Hash)]
+#[derive(Clone, Copy, PartialEq, Eq, Hash)]
 pub struct CieId(pub usize);
 
 impl CieId {
