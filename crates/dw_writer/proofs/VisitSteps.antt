@@ -1,5 +1,6 @@
 -- One call after others.
-use Rattle.std.proofs.Common.{◌≡◌, ℕ, ◌+◌, ◌<◌, ◌≤◌, Result, Ok, Err, None, List, [], ◌∷◌, length, get_or, drop, refl, sym, subst, arith, zero, suc, add-one, drop-cons}
+use Rattle.std.proofs.Common.{◌≡◌, ℕ, ◌+◌, ◌<◌, ◌≤◌, Result, Ok, Err, None, List, [], ◌∷◌, length, get_or, drop, refl, sym, ◌∙◌, subst, arith, zero, suc, add-one, drop-cons}
+use Rattle.std.specs.Prelude.{IfOk, IfErr}
 use Rattle.std.specs.List.{AllByRecursion, FoldsTo}
 use Rattle.std.proofs.lemmas.List.{drop_all}
 use Rattle.dw_base.specs.declared.section_id.SectionId.{SectionId}
@@ -37,10 +38,25 @@ module _ {F R E : Type 0} (shows : SectionId → R → Type 0) (step : F → Sec
   Visits-fails {f} {g} {id} {w} {ids} shown called was is =
       subst (λ k. Visits shows step f (id ∷ ids) k g) (sym is) (fails shown (subst (λ k. step f id w k g) was called))
 
-  -- the last call, and its result
-  pub Visits-last : {f g : F} {id : SectionId} {w : R} (r : Result (Unit {0}) E) → shows id w → step f id w r g → Visits shows step f (id ∷ []) r g
-  Visits-last (Ok tt) shown called = goes_on shown called ends
-  Visits-last (Err e) shown called = fails shown called
+  -- what the calls at these ids make of the result of the calls before them
+  abbrev pub Goes : F → Result (Unit {0}) E → List SectionId → Result (Unit {0}) E → F → Type 0
+  Goes f (Ok u) ids r last = Visits shows step f ids r last
+  Goes f (Err e) ids r last = (r ≡ Err e) × (last ≡ f)
+
+  -- past the last id
+  pub Goes-ends : (f : F) (s : Result (Unit {0}) E) → Goes f s [] s f
+  Goes-ends f (Ok u) = ends
+  Goes-ends f (Err e) = (refl, refl)
+
+  -- a call unless one before it failed, and then the calls at the other ids
+  pub Goes-on : (f g last : F) (id : SectionId) (w : R) (ids : List SectionId) (s t r : Result (Unit {0}) E)
+      → shows id w → IfOk s (λ _. step f id w t g) → IfErr s (λ e. (t ≡ Err e) × (g ≡ f))
+      → Goes g t ids r last → Goes f s (id ∷ ids) r last
+  Goes-on f g last id w ids (Ok u) (Ok v) r shown called failed rest = goes_on shown called rest
+  Goes-on f g last id w ids (Ok u) (Err e) r shown called failed rest =
+      subst (λ k. Visits shows step f (id ∷ ids) r k) (sym rest.1) (Visits-fails shown called refl rest.0)
+  Goes-on f g last id w ids (Err e) t r shown called failed rest =
+      let after : (r ≡ Err e) × (last ≡ g) = subst (λ k. Goes g k ids r last) failed.0 rest in (after.0, after.1 ∙ failed.1)
 
   -- where no call fails, each section is called at
   pub Visits-ok : {f last : F} {ids : List SectionId} → Visits shows step f ids (Ok tt) last

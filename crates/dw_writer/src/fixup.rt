@@ -8,7 +8,7 @@ use std::alloc::Global;
 use std::marker::Model;
 
 /// A place that gets the offset of an entry in `.debug_info`, once that is known.
-#[derive(Clone, Copy, Debug, PartialEq, Eq, Hash)]
+#[derive(Clone, Copy, PartialEq, Eq)]
 pub struct DebugInfoFixup {
     /// Where the number stands, in the section that the list of fixups belongs to.
     pub offset: usize,
@@ -21,7 +21,7 @@ pub struct DebugInfoFixup {
 }
 
 /// The fixups of one section, in the order in which they were found.
-#[derive(Debug, Drop)]
+#[derive(Drop)]
 pub struct FixupList {
     fixups: Vec<DebugInfoFixup>,
 }

@@ -16,7 +16,7 @@ use dw_base::{Address, DwEhPe, Error, Result, SectionId};
 
 /// A number that a linker puts in: its target's value and the addend are added to what stands in
 /// its place.
-#[derive(Clone, Copy, Debug, PartialEq, Eq)]
+#[derive(Clone, Copy, PartialEq, Eq)]
 pub struct Relocation {
     /// Where the number begins, in bytes from the start of what the writer has written.
     pub offset: usize,
@@ -31,7 +31,7 @@ pub struct Relocation {
 }
 
 /// What a relocation takes its value from.
-#[derive(Clone, Copy, Debug, PartialEq, Eq)]
+#[derive(Clone, Copy, PartialEq, Eq)]
 pub enum RelocationTarget {
     /// A symbol, by the number that the writer's user gave it.
     Symbol(usize),

@@ -18,7 +18,7 @@ use dw_base::{Result, SectionId};
 use std::alloc::Global;
 
 /// A writer for each section, and the references that are fixed up once every unit is written.
-#[derive(Debug, Drop)]
+#[derive(Drop)]
 pub struct Sections<W> {
     pub debug_abbrev: DebugAbbrev<W>,
     pub debug_str: DebugStr<W>,
@@ -47,16 +47,19 @@ impl<W: Writer + Clone> Sections<W> {
         ensures fixups { IfOk result NoFixups }
         ensures err { IfErr result (λ e. e ≡ NoMemory) }
     {
+        let (debug_abbrev, debug_str, debug_line_str) = clones(&section)?;
+        let (debug_line, debug_ranges, debug_rnglists) = clones(&section)?;
+        let (debug_loc, debug_loclists, debug_info) = clones(&section)?;
         Ok(Sections {
-            debug_abbrev: DebugAbbrev(section.clone()?),
-            debug_str: DebugStr(section.clone()?),
-            debug_line_str: DebugLineStr(section.clone()?),
-            debug_line: DebugLine(section.clone()?),
-            debug_ranges: DebugRanges(section.clone()?),
-            debug_rnglists: DebugRngLists(section.clone()?),
-            debug_loc: DebugLoc(section.clone()?),
-            debug_loclists: DebugLocLists(section.clone()?),
-            debug_info: DebugInfo(section.clone()?),
+            debug_abbrev: DebugAbbrev(debug_abbrev),
+            debug_str: DebugStr(debug_str),
+            debug_line_str: DebugLineStr(debug_line_str),
+            debug_line: DebugLine(debug_line),
+            debug_ranges: DebugRanges(debug_ranges),
+            debug_rnglists: DebugRngLists(debug_rnglists),
+            debug_loc: DebugLoc(debug_loc),
+            debug_loclists: DebugLocLists(debug_loclists),
+            debug_info: DebugInfo(debug_info),
             debug_frame: DebugFrame(section.clone()?),
             eh_frame: EhFrame(section),
             debug_info_fixups: FixupList::new(alloc),
@@ -64,6 +67,17 @@ impl<W: Writer + Clone> Sections<W> {
             debug_loclists_fixups: FixupList::new(alloc),
         })
     }
+}
+
+// Three clones of a writer.
+fn clones<W: Writer + Clone>(section: &W) -> Result<(W, W, W)>
+    requires { (w : W) → W.is_clone section.now w → W.meaning w ≡ W.meaning section.now }
+    ensures first { IfOk result (λ three. W.meaning three.0 ≡ W.meaning section.now) }
+    ensures second { IfOk result (λ three. W.meaning three.1 ≡ W.meaning section.now) }
+    ensures third { IfOk result (λ three. W.meaning three.2 ≡ W.meaning section.now) }
+    ensures err { IfErr result (λ e. e ≡ NoMemory) }
+{
+    Ok((section.clone()?, section.clone()?, section.clone()?))
 }
 
 impl<W: Writer> Sections<W> {

@@ -7,7 +7,7 @@ use crate::writer::Writer;
 use dw_base::{DebugAbbrevOffset, SectionId};
 
 /// `.debug_abbrev`: the attributes and tags that entries share.
-#[derive(Debug, Drop)]
+#[derive(Drop)]
 pub struct DebugAbbrev<W>(pub W);
 
 impl<W> From<W> for DebugAbbrev<W> {

@@ -7,7 +7,7 @@ use crate::writer::Writer;
 use dw_base::{DebugFrameOffset, EhFrameOffset, SectionId};
 
 /// `.debug_frame`: frame descriptions.
-#[derive(Debug, Drop)]
+#[derive(Drop)]
 pub struct DebugFrame<W>(pub W);
 
 impl<W> From<W> for DebugFrame<W> {
@@ -52,7 +52,7 @@ impl<W: Writer> Section<W> for DebugFrame<W> {
 }
 
 /// `.eh_frame`: frame descriptions that unwinding reads at run time.
-#[derive(Debug, Drop)]
+#[derive(Drop)]
 pub struct EhFrame<W>(pub W);
 
 impl<W> From<W> for EhFrame<W> {

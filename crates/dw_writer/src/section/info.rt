@@ -7,7 +7,7 @@ use crate::writer::Writer;
 use dw_base::{DebugInfoOffset, SectionId};
 
 /// `.debug_info`: units of entries.
-#[derive(Debug, Drop)]
+#[derive(Drop)]
 pub struct DebugInfo<W>(pub W);
 
 impl<W> From<W> for DebugInfo<W> {

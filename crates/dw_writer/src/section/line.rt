@@ -7,7 +7,7 @@ use crate::writer::Writer;
 use dw_base::{DebugLineOffset, SectionId};
 
 /// `.debug_line`: line programs.
-#[derive(Debug, Drop)]
+#[derive(Drop)]
 pub struct DebugLine<W>(pub W);
 
 impl<W> From<W> for DebugLine<W> {

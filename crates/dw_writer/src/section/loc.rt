@@ -7,7 +7,7 @@ use crate::writer::Writer;
 use dw_base::{LocationListsOffset, SectionId};
 
 /// `.debug_loc`: location lists up to version 4.
-#[derive(Debug, Drop)]
+#[derive(Drop)]
 pub struct DebugLoc<W>(pub W);
 
 impl<W> From<W> for DebugLoc<W> {
@@ -52,7 +52,7 @@ impl<W: Writer> Section<W> for DebugLoc<W> {
 }
 
 /// `.debug_loclists`: location lists from version 5 on.
-#[derive(Debug, Drop)]
+#[derive(Drop)]
 pub struct DebugLocLists<W>(pub W);
 
 impl<W> From<W> for DebugLocLists<W> {

@@ -7,7 +7,7 @@ use crate::writer::Writer;
 use dw_base::{RangeListsOffset, SectionId};
 
 /// `.debug_ranges`: range lists up to version 4.
-#[derive(Debug, Drop)]
+#[derive(Drop)]
 pub struct DebugRanges<W>(pub W);
 
 impl<W> From<W> for DebugRanges<W> {
@@ -52,7 +52,7 @@ impl<W: Writer> Section<W> for DebugRanges<W> {
 }
 
 /// `.debug_rnglists`: range lists from version 5 on.
-#[derive(Debug, Drop)]
+#[derive(Drop)]
 pub struct DebugRngLists<W>(pub W);
 
 impl<W> From<W> for DebugRngLists<W> {

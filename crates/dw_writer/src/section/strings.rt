@@ -7,7 +7,7 @@ use crate::writer::Writer;
 use dw_base::{DebugLineStrOffset, DebugStrOffset, SectionId};
 
 /// `.debug_str`: strings, each ended by a zero byte.
-#[derive(Debug, Drop)]
+#[derive(Drop)]
 pub struct DebugStr<W>(pub W);
 
 impl<W> From<W> for DebugStr<W> {
@@ -52,7 +52,7 @@ impl<W: Writer> Section<W> for DebugStr<W> {
 }
 
 /// `.debug_line_str`: the strings of line programs.
-#[derive(Debug, Drop)]
+#[derive(Drop)]
 pub struct DebugLineStr<W>(pub W);
 
 impl<W> From<W> for DebugLineStr<W> {

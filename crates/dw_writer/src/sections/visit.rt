@@ -1,6 +1,6 @@
 //! A closure that is called at each section.
 
-ghost use Rattle.std.specs.Prelude.{◌≡◌, Some};
+ghost use Rattle.std.specs.Prelude.{◌≡◌, Some, Err, IfOk, IfErr};
 ghost use Rattle.dw_writer.specs.Sections.{section_of};
 ghost use Rattle.dw_writer.specs.Visits.{Visits, written_ids};
 
@@ -64,16 +64,67 @@ impl<W: Writer> Sections<W> {
             eh_frame,
             ..
         } = self;
-        f(SectionId::DebugAbbrev, debug_abbrev.section_mut())?;
-        f(SectionId::DebugStr, debug_str.section_mut())?;
-        f(SectionId::DebugLineStr, debug_line_str.section_mut())?;
-        f(SectionId::DebugLine, debug_line.section_mut())?;
-        f(SectionId::DebugRanges, debug_ranges.section_mut())?;
-        f(SectionId::DebugRngLists, debug_rnglists.section_mut())?;
-        f(SectionId::DebugLoc, debug_loc.section_mut())?;
-        f(SectionId::DebugLocLists, debug_loclists.section_mut())?;
-        f(SectionId::DebugInfo, debug_info.section_mut())?;
-        f(SectionId::DebugFrame, debug_frame.section_mut())?;
-        f(SectionId::EhFrame, eh_frame.section_mut())
+        let done = Ok(());
+        let done = call_after(
+            &mut f,
+            done,
+            SectionId::DebugAbbrev,
+            debug_abbrev.section_mut(),
+        );
+        let done = call_after(&mut f, done, SectionId::DebugStr, debug_str.section_mut());
+        let done = call_after(
+            &mut f,
+            done,
+            SectionId::DebugLineStr,
+            debug_line_str.section_mut(),
+        );
+        let done = call_after(&mut f, done, SectionId::DebugLine, debug_line.section_mut());
+        let done = call_after(
+            &mut f,
+            done,
+            SectionId::DebugRanges,
+            debug_ranges.section_mut(),
+        );
+        let done = call_after(
+            &mut f,
+            done,
+            SectionId::DebugRngLists,
+            debug_rnglists.section_mut(),
+        );
+        let done = call_after(&mut f, done, SectionId::DebugLoc, debug_loc.section_mut());
+        let done = call_after(
+            &mut f,
+            done,
+            SectionId::DebugLocLists,
+            debug_loclists.section_mut(),
+        );
+        let done = call_after(&mut f, done, SectionId::DebugInfo, debug_info.section_mut());
+        let done = call_after(
+            &mut f,
+            done,
+            SectionId::DebugFrame,
+            debug_frame.section_mut(),
+        );
+        call_after(&mut f, done, SectionId::EhFrame, eh_frame.section_mut())
+    }
+}
+
+// Calls `f` at a section, unless a call before this one failed: then its error stays.
+fn call_after<'a, W: Writer, F, E>(
+    f: &mut F,
+    before: std::result::Result<(), E>,
+    id: SectionId,
+    section: &'a mut W,
+) -> std::result::Result<(), E>
+where
+    F: FnMut(SectionId, &'a mut W) -> std::result::Result<(), E>,
+    requires { F.IsAlwaysCallable f.old }
+    ensures callable { F.IsAlwaysCallable f.new }
+    ensures called { IfOk before (λ _. F.step f.old id section.entry result f.new) }
+    ensures failed { IfErr before (λ e. (result ≡ Err e) × (f.new ≡ f.old)) }
+{
+    match before {
+        Ok(()) => f(id, section),
+        Err(error) => Err(error),
     }
 }
