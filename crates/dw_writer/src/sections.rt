@@ -47,9 +47,10 @@ impl<W: Writer + Clone> Sections<W> {
         ensures fixups { IfOk result NoFixups }
         ensures err { IfErr result (λ e. e ≡ NoMemory) }
     {
-        let (debug_abbrev, debug_str, debug_line_str) = clones(&section)?;
-        let (debug_line, debug_ranges, debug_rnglists) = clones(&section)?;
-        let (debug_loc, debug_loclists, debug_info) = clones(&section)?;
+        let (debug_abbrev, debug_str, debug_line_str, debug_line, debug_ranges) = clones(&section)?;
+        let (debug_rnglists, debug_loc, debug_loclists, debug_info, debug_frame) = clones(
+            &section,
+        )?;
         Ok(Sections {
             debug_abbrev: DebugAbbrev(debug_abbrev),
             debug_str: DebugStr(debug_str),
@@ -60,7 +61,7 @@ impl<W: Writer + Clone> Sections<W> {
             debug_loc: DebugLoc(debug_loc),
             debug_loclists: DebugLocLists(debug_loclists),
             debug_info: DebugInfo(debug_info),
-            debug_frame: DebugFrame(section.clone()?),
+            debug_frame: DebugFrame(debug_frame),
             eh_frame: EhFrame(section),
             debug_info_fixups: FixupList::new(alloc),
             debug_loc_fixups: FixupList::new(alloc),
@@ -69,15 +70,23 @@ impl<W: Writer + Clone> Sections<W> {
     }
 }
 
-// Three clones of a writer.
-fn clones<W: Writer + Clone>(section: &W) -> Result<(W, W, W)>
+// Five clones of a writer.
+fn clones<W: Writer + Clone>(section: &W) -> Result<(W, W, W, W, W)>
     requires { (w : W) → W.is_clone section.now w → W.meaning w ≡ W.meaning section.now }
-    ensures first { IfOk result (λ three. W.meaning three.0 ≡ W.meaning section.now) }
-    ensures second { IfOk result (λ three. W.meaning three.1 ≡ W.meaning section.now) }
-    ensures third { IfOk result (λ three. W.meaning three.2 ≡ W.meaning section.now) }
+    ensures first { IfOk result (λ five. W.meaning five.0 ≡ W.meaning section.now) }
+    ensures second { IfOk result (λ five. W.meaning five.1 ≡ W.meaning section.now) }
+    ensures third { IfOk result (λ five. W.meaning five.2 ≡ W.meaning section.now) }
+    ensures fourth { IfOk result (λ five. W.meaning five.3 ≡ W.meaning section.now) }
+    ensures fifth { IfOk result (λ five. W.meaning five.4 ≡ W.meaning section.now) }
     ensures err { IfErr result (λ e. e ≡ NoMemory) }
 {
-    Ok((section.clone()?, section.clone()?, section.clone()?))
+    Ok((
+        section.clone()?,
+        section.clone()?,
+        section.clone()?,
+        section.clone()?,
+        section.clone()?,
+    ))
 }
 
 impl<W: Writer> Sections<W> {
