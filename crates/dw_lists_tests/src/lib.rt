@@ -1,6 +1,14 @@
-//! The tests of `dw_lists`. They stand over the finished crate: beside its code they would have it
-//! proved a second time.
+//! The tests of expressions and lists: of `dw_expr`, `dw_lists` and `dw_read_back`. They stand over
+//! the finished crates: beside their code they would have it proved a second time.
 #![tactic(auto)]
 
 #[cfg(test)]
-mod tests;
+mod calls;
+#[cfg(test)]
+mod expressions;
+#[cfg(test)]
+mod locations;
+#[cfg(test)]
+mod ranges;
+#[cfg(test)]
+mod read_back;

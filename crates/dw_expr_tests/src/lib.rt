@@ -1,8 +1,0 @@
-//! The tests of `dw_expr`. They stand over the finished crate: beside its code they would have it
-//! proved a second time.
-#![tactic(auto)]
-
-#[cfg(test)]
-mod items;
-#[cfg(test)]
-mod tests;

@@ -1,5 +1,0 @@
-use Rattle.dw_lists_read_back.proofs.Entries.{entries_are_one}
-use Rattle.dw_lists_read_back.proofs.laws.list_entries_are_one.Goals as goal
-
-pub returns : goal.returns
-returns c = entries_are_one

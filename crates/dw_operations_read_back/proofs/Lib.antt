@@ -1,6 +1,0 @@
-mod Rows
-mod Codes
-mod Numbers
-mod Operands
-mod Law
-mod Worked

@@ -1,0 +1,16 @@
+mod Walks
+mod Items
+mod Fewer
+mod There
+mod Entries
+mod Lists
+mod Locations
+mod Steps
+mod Told
+mod Whole
+mod Rows
+mod Codes
+mod Numbers
+mod Operands
+mod Law
+mod Worked
