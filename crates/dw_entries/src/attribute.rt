@@ -7,7 +7,7 @@ use crate::value::AttributeValue;
 use dw_base::{DwAt, Result};
 
 /// A named value of an entry.
-#[derive(Clone, Debug, PartialEq, Eq, Drop)]
+#[derive(Clone, PartialEq, Eq, Drop)]
 pub struct Attribute {
     pub(crate) name: DwAt,
     pub(crate) value: AttributeValue,

@@ -13,7 +13,7 @@ use dw_base::{
 use dw_expr::Expression;
 
 /// What stands for a value in an entry, by how it is laid out (DWARF 5, 7.5.5).
-#[derive(Clone, Copy, Debug, PartialEq, Eq)]
+#[derive(Clone, Copy)]
 pub enum Content<'a> {
     /// No bytes at all.
     Nothing,

@@ -13,7 +13,7 @@ use dw_base::constants::{DW_AT_loclists_base, DW_AT_rnglists_base, DW_AT_stmt_li
 use dw_base::{DwAt, Result};
 
 /// What a unit has of its own in sections that units share.
-#[derive(Clone, Copy, Debug, PartialEq, Eq)]
+#[derive(Clone, Copy)]
 pub struct OwnParts {
     /// A line program that is in use.
     pub line_program: bool,
@@ -22,7 +22,7 @@ pub struct OwnParts {
 }
 
 /// Which lists a unit of version 5 has.
-#[derive(Clone, Copy, Debug, PartialEq, Eq)]
+#[derive(Clone, Copy)]
 pub struct OwnLists {
     /// Some range list.
     pub ranges: bool,

@@ -10,7 +10,7 @@ use crate::entry::DebuggingInformationEntry;
 use std::alloc::{AllocError, Global};
 
 /// A step of a walk through the tree in preorder.
-#[derive(Clone, Copy, Debug, PartialEq, Eq)]
+#[derive(Clone, Copy, PartialEq, Eq)]
 pub enum Item {
     /// The entry at an index.
     Open(usize),

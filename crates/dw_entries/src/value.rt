@@ -31,7 +31,7 @@ use dw_writer::Bytes;
 
 /// The value of an attribute. The form in which it is written follows from it and from the unit's
 /// encoding.
-#[derive(Debug, Drop)]
+#[derive(Drop)]
 pub enum AttributeValue {
     /// An address of the target, in as many bytes as the unit's addresses have.
     Address(Address),

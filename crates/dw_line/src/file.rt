@@ -22,7 +22,7 @@ use dw_writer::Writer;
 use std::hash::{Hash, Hasher};
 
 /// A file of a program. Files are the same where their names and directories are.
-#[derive(Debug, Drop)]
+#[derive(Drop)]
 pub(crate) struct FileEntry {
     pub(crate) name: LineString,
     pub(crate) directory: DirectoryId,
@@ -89,7 +89,7 @@ impl Hash for FileEntry {
 }
 
 /// Which parts of files are written besides the name and the directory, and the form of texts.
-#[derive(Clone, Copy, Debug)]
+#[derive(Clone, Copy)]
 pub(crate) struct Columns {
     pub(crate) timestamp: bool,
     pub(crate) size: bool,

@@ -38,7 +38,7 @@ use std::marker::Model;
 /// program.generate_row()?;
 /// program.end_sequence(4)?;
 /// ```
-#[derive(Debug, Drop)]
+#[derive(Drop)]
 pub struct LineProgram {
     program: Option<Program>,
     row: LineRow,

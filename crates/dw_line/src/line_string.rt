@@ -11,7 +11,7 @@ use std::hash::{Hash, Hasher};
 
 /// The name of a directory or a file, or the text of a file (DWARF 5, 6.2.4.1). Up to version 4
 /// only `String` can be written.
-#[derive(Debug, Drop)]
+#[derive(Drop)]
 pub enum LineString {
     /// The string itself, without a zero byte (`DW_FORM_string`).
     String(Bytes),
@@ -92,7 +92,7 @@ impl Hash for LineString {
 
 /// What is known of a file besides its name. A program is written in version 5 to have a checksum
 /// or a text.
-#[derive(Debug, Drop)]
+#[derive(Drop)]
 pub struct FileInfo {
     /// When the file was last changed, in a way of the implementation, or 0.
     pub timestamp: u64,

@@ -29,7 +29,7 @@ use std::marker::Model;
 use std::mem;
 
 /// A program's parameters, its directories and files, and its sequences.
-#[derive(Debug, Drop)]
+#[derive(Drop)]
 pub(crate) struct Program {
     encoding: Encoding,
     line_encoding: LineEncoding,

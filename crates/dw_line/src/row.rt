@@ -19,7 +19,7 @@ use dw_base::{FileId, Result};
 use dw_writer::Writer;
 
 /// A row of a line program (DWARF 5, 6.2.2).
-#[derive(Clone, Copy, Debug, PartialEq, Eq)]
+#[derive(Clone, Copy, PartialEq, Eq)]
 pub struct LineRow {
     /// The address of the instruction, in bytes from the sequence's address on.
     pub address_offset: u64,

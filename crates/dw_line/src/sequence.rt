@@ -18,7 +18,7 @@ use dw_writer::Writer;
 use std::marker::Model;
 
 /// Rows whose addresses rise from one address on.
-#[derive(Debug, Drop)]
+#[derive(Drop)]
 pub(crate) struct LineSequence {
     address: Option<Address>,
     rows: Vec<LineRow>,
