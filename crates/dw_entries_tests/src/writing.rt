@@ -26,45 +26,45 @@ fn is_spelled(bytes: &[u8], hex: &str) -> bool {
     digits.next().is_none()
 }
 
-/// Strings of `.debug_str` at 0 and 2.
-fn strings(alloc: Global) -> Result<StringTable> {
-    let mut strings = StringTable::new(alloc);
+/// Adds strings of `.debug_str` at 0 and 2, and of `.debug_line_str` at 0 and 5.
+fn add_strings(strings: &mut StringTable, line_strings: &mut LineStringTable) -> Result<()> {
     strings.add(b"s")?;
     strings.add(b"b.c")?;
-    Ok(strings)
-}
-
-/// Strings of `.debug_line_str` at 0 and 5.
-fn line_strings(alloc: Global) -> Result<LineStringTable> {
-    let mut strings = LineStringTable::new(alloc);
-    strings.add(b"/tmp")?;
-    strings.add(b"a.c")?;
-    Ok(strings)
+    line_strings.add(b"/tmp")?;
+    line_strings.add(b"a.c")?;
+    Ok(())
 }
 
 /// Writes a program for a unit of an encoding, and gives its place.
+fn write_over<W: Writer>(
+    strings: &mut StringTable,
+    line_strings: &mut LineStringTable,
+    program: &LineProgram,
+    unit: Encoding,
+    w: &mut DebugLine<W>,
+) -> Result<usize> {
+    add_strings(strings, line_strings)?;
+    let place = program.write(w, unit, line_strings, strings)?;
+    Ok(place.0)
+}
+
+/// The same over tables that it owns, so that no `?` stands beside them.
 fn write<W: Writer>(
     alloc: Global,
     program: &LineProgram,
     unit: Encoding,
     w: &mut DebugLine<W>,
 ) -> Result<usize> {
-    let strings = strings(alloc)?;
-    let line_strings = line_strings(alloc)?;
-    let place = program.write(w, unit, &line_strings, &strings)?;
-    Ok(place.0)
+    let mut strings = StringTable::new(alloc);
+    let mut line_strings = LineStringTable::new(alloc);
+    write_over(&mut strings, &mut line_strings, program, unit, w)
 }
 
 /// Tells that a program is written as these bytes.
-pub fn is_written(
-    alloc: Global,
-    program: &LineProgram,
-    endian: RunTimeEndian,
-    hex: &str,
-) -> Result<bool> {
+pub fn is_written(alloc: Global, program: &LineProgram, endian: RunTimeEndian, hex: &str) -> bool {
     let mut w = DebugLine::from(EndianVec::new(alloc, endian));
-    let place = write(alloc, program, program.encoding(), &mut w)?;
-    Ok(place == 0 && is_spelled(w.0.slice(), hex))
+    let place = write(alloc, program, program.encoding(), &mut w);
+    place == Ok(0) && is_spelled(w.0.slice(), hex)
 }
 
 /// Tells that a writer of relocations gets these bytes, and these relocations.
@@ -73,23 +73,16 @@ pub fn is_relocated(
     program: &LineProgram,
     hex: &str,
     relocations: &[Relocation],
-) -> Result<bool> {
+) -> bool {
     let mut w = DebugLine::from(RelocVec::new(alloc, RunTimeEndian::Little));
-    write(alloc, program, program.encoding(), &mut w)?;
-    Ok(is_spelled(w.0.slice(), hex) && w.0.relocations() == relocations)
+    let place = write(alloc, program, program.encoding(), &mut w);
+    place == Ok(0) && is_spelled(w.0.slice(), hex) && w.0.relocations() == relocations
 }
 
 /// Why a program is refused for a unit of an encoding.
 pub fn refusal(alloc: Global, program: &LineProgram, unit: Encoding) -> Option<Error> {
     let mut w = DebugLine::from(EndianVec::new(alloc, RunTimeEndian::Little));
     write(alloc, program, unit, &mut w).err()
-}
-
-/// The place of a second program behind a first one.
-pub fn second_place(alloc: Global, program: &LineProgram) -> Result<usize> {
-    let mut w = DebugLine::from(EndianVec::new(alloc, RunTimeEndian::Little));
-    write(alloc, program, program.encoding(), &mut w)?;
-    write(alloc, program, program.encoding(), &mut w)
 }
 
 /// What a write answers where this call of the writer fails, if it leaves what stood before it.
