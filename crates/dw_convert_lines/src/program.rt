@@ -170,8 +170,11 @@ fn with_rows<R: Reader, F: Fn(u64) -> Option<Address>>(
     ensures err { IfErr result (λ e. (e ≡ NoMemory) ⊎ RowsOutcome R.reading
         (F.post convert_address.now) header.now files.items program (Err e)) }
 {
-    convert_rows(header, files.as_slice(), &mut program, convert_address)?;
-    Ok((program, files))
+    // With a `?`, what is owned here is dropped on more paths, which take longer to prove.
+    match convert_rows(header, files.as_slice(), &mut program, convert_address) {
+        Ok(()) => Ok((program, files)),
+        Err(why) => Err(why),
+    }
 }
 
 /// Converts a program that was read as a whole, as `read_line_program` and then

@@ -1,4 +1,4 @@
-use Rattle.std.proofs.Common.{inl, inr, Some}
+use Rattle.std.proofs.Common.{subst, inl, inr, ℕ, ◌≤◌, Some}
 use Rattle.std.specs.Prelude.{nat_le}
 use Rattle.dw_base.specs.declared.ids.FileId.{FileId}
 use Rattle.dw_line.specs.declared.line_string.FileInfo.{FileInfo}
@@ -81,3 +81,15 @@ returns-in_ok-push-in-Ok-clause-ok g c =
 pub returns-in_ok-push-in-Ok-clause-target : goal.returns-in_ok-push-in-Ok-clause-target
 returns-in_ok-push-in-Ok-clause-target g c =
     target_kept c.in_ok-name.name c.in_ok-directory.directory (Some c.in_ok-info.info) c.args.version c.args.directories.now c.args.program.now c.add_file.new.self c.requires c.in-Ok.ensures.ok
+
+pub add_file-requires-clause-there : goal.add_file-requires-clause-there
+add_file-requires-clause-there g c = c.requires.there
+
+pub add_file-requires-clause-text : goal.add_file-requires-clause-text
+add_file-requires-clause-text g c = c.in_ok-name.ensures.text
+
+pub add_file-requires-clause-named : goal.add_file-requires-clause-named
+add_file-requires-clause-named g c = λ old. c.in_ok-name.ensures.full (subst (λ (v : ℕ). v ≤ 4) c.requires.encoded old)
+
+pub add_file-requires-clause-source : goal.add_file-requires-clause-source
+add_file-requires-clause-source g c = c.in_ok-info.ensures.text

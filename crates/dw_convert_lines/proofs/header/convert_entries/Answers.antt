@@ -56,3 +56,6 @@ returns-clause-ok g c =
     let x : Converting FileId = converting c.convert_files_behind.new.program c.in_ok-files.files.items c.convert_files_behind.new.strings c.convert_files_behind.new.line_strings in
     with_files _ _ reading texts h refs c.args.entries.now s first q d k (Ok x) c.in_ok-convert_directories.ensures.ok c.in_ok-convert_directories.ensures.same
     (subst (λ (ids : List DirectoryId). FilesMade reading texts h refs k (converting c.convert_directories.new.program ids c.convert_directories.new.strings c.convert_directories.new.line_strings) (Ok x)) c.as_slice.ensures.value c.in_ok-files.ensures.ok)
+
+pub convert_directories-requires-clause-begun : goal.convert_directories-requires-clause-begun
+convert_directories-requires-clause-begun g c = c.requires.begun

@@ -26,3 +26,15 @@ returns-clause-ok g c =
     let texts = texts_of reading c.args.dwarf.now in
     let x : Converting FileId = converting c.convert_entries.new.program c.in_ok-files.files.items c.convert_entries.new.strings c.convert_entries.new.line_strings in
     subst (λ (p : LineProgramValue). EntriesMade reading texts c.args.header.now (nat_le 5 c.args.encoding.version) c.args.entries.now (converting p (record { 0 = 0 } ∷ []) c.args.strings.now c.args.line_strings.now) (Ok x)) c.in_ok-program.ensures.ok c.in_ok-files.ensures.ok
+
+pub new_program-requires-clause-parameters : goal.new_program-requires-clause-parameters
+new_program-requires-clause-parameters g c = c.requires.parameters
+
+pub new_program-requires-clause-name : goal.new_program-requires-clause-name
+new_program-requires-clause-name g c = c.requires.name
+
+pub convert_entries-requires-clause-begun : goal.convert_entries-requires-clause-begun
+convert_entries-requires-clause-begun g c = c.requires.begun
+
+pub convert_entries-requires-clause-laid : goal.convert_entries-requires-clause-laid
+convert_entries-requires-clause-laid g c = c.requires.laid

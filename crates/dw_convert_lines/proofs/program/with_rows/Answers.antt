@@ -1,27 +1,23 @@
 use Rattle.std.proofs.Common.{sym, subst, inl, inr, List, Ok, Err}
 use Rattle.dw_base.specs.declared.ids.FileId.{FileId}
 use Rattle.dw_line.specs.LinePrograms.{file_count_of}
-use Rattle.dw_sources.specs.declared.convert_error.ConvertError.{ConvertError}
 use Rattle.dw_convert_lines.specs.ReadPrograms.{RowsOutcome}
 use Rattle.dw_convert_lines.specs.RowImages.{AreFiles}
-use Rattle.dw_convert_lines.proofs.Reasons.{is_err}
 use Rattle.dw_convert_lines.proofs.program.with_rows.Goals as goal
 
 pub convert_rows-requires-clause-files : goal.convert_rows-requires-clause-files
 convert_rows-requires-clause-files g c =
     subst (λ (ids : List FileId). AreFiles c.args.header.now.encoding.encoding.version ids (file_count_of c.args.program.program)) (sym c.as_slice.ensures.value) c.requires.files
 
-pub returns-in_err-convert_rows-clause-err : goal.returns-in_err-convert_rows-clause-err
-returns-in_err-convert_rows-clause-err g c =
+pub returns-in-Err-clause-err : goal.returns-in-Err-clause-err
+returns-in-Err-clause-err g c =
     let answers = goal.F-post g c.args.convert_address.now in
-    let why : ConvertError = c.in_err-convert_rows.field-0.0 in
-    let e = is_err _ why c.from_residual.ensures in
-    rw e (elim c.in_err-convert_rows.ensures.err [
+    elim c.in-Err.ensures.err [
       | inl n ↦ inl n
-      | inr n ↦ inr (subst (λ (ids : List FileId). RowsOutcome g.R.Reader.reading answers c.args.header.now ids c.args.program (Err why)) c.as_slice.ensures.value n)
-    ])
+      | inr n ↦ inr (subst (λ (ids : List FileId). RowsOutcome g.R.Reader.reading answers c.args.header.now ids c.args.program (Err c.in-Err.why)) c.as_slice.ensures.value n)
+    ]
 
-pub returns-clause-ok : goal.returns-clause-ok
-returns-clause-ok g c =
+pub returns-in-Ok-clause-ok : goal.returns-in-Ok-clause-ok
+returns-in-Ok-clause-ok g c =
     let answers = goal.F-post g c.args.convert_address.now in
-    subst (λ (ids : List FileId). RowsOutcome g.R.Reader.reading answers c.args.header.now ids c.args.program (Ok c.convert_rows.new.program)) c.as_slice.ensures.value c.in_ok-convert_rows.ensures.ok
+    subst (λ (ids : List FileId). RowsOutcome g.R.Reader.reading answers c.args.header.now ids c.args.program (Ok c.convert_rows.new.program)) c.as_slice.ensures.value c.in-Ok.ensures.ok
