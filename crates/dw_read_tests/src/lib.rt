@@ -1,5 +1,5 @@
-//! The tests of `dw_read`. They stand over the finished crate: beside its code they would have it
-//! proved a second time.
+//! The tests of all crates that read. They stand over the finished crates: beside their code they
+//! would have each proved a second time.
 #![tactic(auto)]
 
 #[cfg(test)]

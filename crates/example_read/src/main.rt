@@ -4,8 +4,6 @@
 mod listing;
 mod row;
 mod show;
-#[cfg(test)]
-mod tests;
 mod walk;
 
 use listing::Listing;

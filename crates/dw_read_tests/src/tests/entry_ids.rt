@@ -1,17 +1,20 @@
-use dw_base::{LittleEndian, UnitSectionOffset};
+//! The numbers of entries.
+
+use crate::tests::sections::{Bytes, NONE, sections};
+use dw_base::UnitSectionOffset;
 use dw_entry_ids::number_units;
-use dw_read::{EndianSlice, ReadError, ReadResult};
-use dw_read_units::Dwarf;
+use dw_read::ReadResult;
 use std::alloc::Global;
 
 /// Declarations 1, a unit with children, 2, a base type without, and 3, a variable with children.
-const ABBREVIATIONS: &[u8] = b"\x01\x11\x01\x00\x00\x02\x24\x00\x00\x00\x03\x34\x01\x00\x00\x00";
+pub(crate) const ABBREVIATIONS: &[u8] =
+    b"\x01\x11\x01\x00\x00\x02\x24\x00\x00\x00\x03\x34\x01\x00\x00\x00";
 
 /// A unit of version 4, whose root begins at 11 and has a base type, and a variable with another;
 /// and one of version 5 at 17, whose root begins at 29 and has a variable without children of its
 /// own, and a base type.
 const UNITS: &[u8] = b"\x0d\x00\x00\x00\x04\x00\x00\x00\x00\x00\x08\x01\x02\x03\x02\x00\x00\
-\x0d\x00\x00\x00\x05\x00\x01\x08\x00\x00\x00\x00\x01\x03\x00\x02\x00";
+    \x0d\x00\x00\x00\x05\x00\x01\x08\x00\x00\x00\x00\x01\x03\x00\x02\x00";
 
 /// The units and numbers of the entries at the places where one begins.
 const ENTRIES: [(usize, usize, usize); 7] = [
@@ -23,26 +26,6 @@ const ENTRIES: [(usize, usize, usize); 7] = [
     (30, 1, 1),
     (32, 1, 2),
 ];
-
-fn section(bytes: &[u8]) -> EndianSlice<'_, LittleEndian> {
-    EndianSlice::new(bytes, LittleEndian)
-}
-
-fn sections(info: &[u8]) -> Dwarf<EndianSlice<'_, LittleEndian>> {
-    Dwarf {
-        debug_abbrev: section(ABBREVIATIONS),
-        debug_str: section(b""),
-        debug_line_str: section(b""),
-        debug_line: section(b""),
-        debug_ranges: section(b""),
-        debug_rnglists: section(b""),
-        debug_loc: section(b""),
-        debug_loclists: section(b""),
-        debug_info: section(info),
-        debug_addr: section(b""),
-        debug_str_offsets: section(b""),
-    }
-}
 
 /// What the table has at a place.
 fn wanted(place: usize) -> Option<(usize, usize)> {
@@ -57,7 +40,11 @@ fn wanted(place: usize) -> Option<(usize, usize)> {
 /// How many entries each of two units has, and the first place at which another answer stands than
 /// the table has.
 fn numbered(alloc: Global) -> ReadResult<(usize, usize, usize, Option<usize>)> {
-    let dwarf = sections(UNITS);
+    let dwarf = sections(&Bytes {
+        info: UNITS,
+        abbrev: ABBREVIATIONS,
+        ..NONE
+    });
     let found = number_units(alloc, &dwarf)?;
     let units = found.units.as_slice();
     let [first, second] = units else {
@@ -76,31 +63,4 @@ fn numbered(alloc: Global) -> ReadResult<(usize, usize, usize, Option<usize>)> {
 #[test]
 fn numbers_the_entries_of_units(rt: HostRuntime) {
     assert_eq!(rt; numbered(rt.alloc()), Ok((2, 4, 3, None)));
-}
-
-/// Units that can't be read, with the reason.
-const REFUSED: [(&[u8], ReadError); 4] = [
-    (b"\x0d\x00\x00\x00\x04\x00", ReadError::UnexpectedEof),
-    (
-        b"\x08\x00\x00\x00\x04\x00\x00\x00\x00\x00\x08\x00",
-        ReadError::MissingUnitDie,
-    ),
-    (
-        b"\x09\x00\x00\x00\x04\x00\x00\x00\x00\x00\x08\x01\x07",
-        ReadError::UnknownAbbreviation(7),
-    ),
-    (
-        b"\x08\x00\x00\x00\x04\x00\x00\x00\x00\x00\x08\x01\
-\x07\x00\x00\x00\x06\x00\x00\x00\x00\x00\x08",
-        ReadError::UnknownVersion(6),
-    ),
-];
-
-#[test]
-fn tells_why_units_are_not_read(rt: HostRuntime) {
-    for (info, reason) in REFUSED {
-        let dwarf = sections(info);
-        let answer = number_units(rt.alloc(), &dwarf).err();
-        assert_eq!(rt; answer, Some(reason), "{reason:?}");
-    }
 }
