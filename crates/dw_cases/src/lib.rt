@@ -31,7 +31,9 @@
 #![tactic(auto)]
 
 pub mod convert;
+pub mod converted_expressions;
 pub mod converted_lists;
+pub mod converted_programs;
 pub mod converted_values;
 pub mod expressions;
 pub mod headers;

@@ -3,9 +3,9 @@
 
 use crate::tests::run_over;
 use dw_cases::{
-    convert, converted_lists, converted_values, expressions, headers, limits, lines, links,
-    locations, ranges, references, refusals, refused_conversions, refused_locations, strings,
-    trees, values,
+    convert, converted_expressions, converted_lists, converted_programs, converted_values,
+    expressions, headers, limits, lines, links, locations, ranges, references, refusals,
+    refused_conversions, refused_locations, strings, trees, values,
 };
 use std::alloc::{AllocError, Global};
 use std::fmt::Write;
@@ -483,6 +483,16 @@ fn converts_values(rt: HostRuntime) -> Result<(), Fail> {
 #[test]
 fn converts_lists(rt: HostRuntime) -> Result<(), Fail> {
     run_table(&rt, rt.alloc(), converted_lists::CASES)
+}
+
+#[test]
+fn converts_expressions(rt: HostRuntime) -> Result<(), Fail> {
+    run_table(&rt, rt.alloc(), converted_expressions::CASES)
+}
+
+#[test]
+fn converts_programs(rt: HostRuntime) -> Result<(), Fail> {
+    run_table(&rt, rt.alloc(), converted_programs::CASES)
 }
 
 #[test]
