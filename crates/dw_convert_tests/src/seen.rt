@@ -1,44 +1,10 @@
 //! Values as they are read.
 
-use crate::writing::Written;
-use dw_base::RunTimeEndian;
-use dw_read::{AttributeValue, EndianSlice, ReadError, ReadResult, Reader};
-use dw_read_units::{Dwarf, Unit};
-use std::alloc::Global;
-
-pub(crate) type Slice<'a> = EndianSlice<'a, RunTimeEndian>;
+use crate::layouts::Slice;
+use dw_read::{AttributeValue, Reader};
 
 /// The variant of a value, and its number. Bytes are one in big-endian order.
 pub(crate) type Seen = (&'static str, u64);
-
-/// A reader of these bytes. No proof but this function's knows what it reads.
-fn reader(bytes: &[u8], endian: RunTimeEndian) -> Slice<'_> {
-    EndianSlice::new(bytes, endian)
-}
-
-/// The sections, to be read.
-pub(crate) fn read(sections: &Written, endian: RunTimeEndian) -> Dwarf<Slice<'_>> {
-    Dwarf {
-        debug_abbrev: reader(sections.debug_abbrev.0.slice(), endian),
-        debug_str: reader(sections.debug_str.0.slice(), endian),
-        debug_line_str: reader(sections.debug_line_str.0.slice(), endian),
-        debug_line: reader(b"", endian),
-        debug_ranges: reader(sections.debug_ranges.0.slice(), endian),
-        debug_rnglists: reader(sections.debug_rnglists.0.slice(), endian),
-        debug_loc: reader(sections.debug_loc.0.slice(), endian),
-        debug_loclists: reader(sections.debug_loclists.0.slice(), endian),
-        debug_info: reader(sections.debug_info.0.slice(), endian),
-        debug_addr: reader(b"", endian),
-        debug_str_offsets: reader(b"", endian),
-    }
-}
-
-pub(crate) fn first<'a>(alloc: Global, dwarf: &Dwarf<Slice<'a>>) -> ReadResult<Unit<Slice<'a>>> {
-    let Some(header) = dwarf.units().next()? else {
-        return Err(ReadError::UnexpectedEof);
-    };
-    dwarf.unit(alloc, header)
-}
 
 /// The number that bytes are.
 fn number_of(bytes: &Slice<'_>) -> u64 {

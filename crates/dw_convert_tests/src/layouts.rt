@@ -5,7 +5,7 @@ use dw_read::EndianSlice;
 
 pub(crate) type Slice<'a> = EndianSlice<'a, RunTimeEndian>;
 
-/// In what an expression is written: an encoding and an order of bytes.
+/// In what a unit is written: an encoding and an order of bytes.
 #[derive(Clone, Copy)]
 pub(crate) struct Layout {
     pub(crate) encoding: Encoding,

@@ -1,6 +1,8 @@
 //! The values: under which name each is set, how it is read, and what it becomes.
 
-use crate::reading::Seen;
+use crate::items::constant;
+use crate::seen::Seen;
+use crate::tables::Named;
 use dw_base::constants::*;
 use dw_base::{
     Address, DebugInfoOffset, DebugMacinfoOffset, DebugMacroOffset, DebugStrOffset,
@@ -8,7 +10,6 @@ use dw_base::{
     StringId,
 };
 use dw_entries::AttributeValue;
-use dw_expr::Expression;
 use dw_writer::Bytes;
 use std::alloc::Global;
 
@@ -16,7 +17,7 @@ use std::alloc::Global;
 pub(crate) type Row = (DwAt, Seen);
 
 /// How many values there are.
-pub(crate) const VALUES: usize = 35;
+pub(crate) const VALUES: usize = 37;
 
 /// Values that are read alike in each version.
 const ROWS: [Row; 28] = [
@@ -54,11 +55,11 @@ const ROWS: [Row; 28] = [
 ];
 
 /// The others. Below version 4 an expression is a block, and up to version 4 a list is named by its
-/// place, behind another list: four addresses, and as many with a length of two bytes and an
-/// expression of two. Strings stand behind others with their zeros.
+/// place, behind others: four addresses for each, and of locations as many with a length of two
+/// bytes and an expression of two. Strings stand behind others with their zeros.
 pub(crate) fn row(number: usize, encoding: Encoding) -> Row {
     let version = encoding.version;
-    let lists = 4 * encoding.address_size as u64;
+    let size = encoding.address_size as u64;
     match number {
         0..28 => ROWS[number],
         28 if version >= 4 => (DW_AT_location, ("Exprloc", 0x1039)),
@@ -68,21 +69,37 @@ pub(crate) fn row(number: usize, encoding: Encoding) -> Row {
         31 => (DW_AT_name, ("DebugStrRef", 5)),
         32 => (DW_AT_name, ("DebugLineStrRef", 8)),
         33 if version == 5 => (DW_AT_location, ("DebugLocListsIndex", 1)),
-        33 => (DW_AT_location, ("SecOffset", lists + 4)),
-        _ if version == 5 => (DW_AT_ranges, ("DebugRngListsIndex", 1)),
-        _ => (DW_AT_ranges, ("SecOffset", lists)),
+        33 => (DW_AT_location, ("SecOffset", 4 * size + 4)),
+        34 if version == 5 => (DW_AT_ranges, ("DebugRngListsIndex", 1)),
+        34 => (DW_AT_ranges, ("SecOffset", 4 * size)),
+        35 if version == 5 => (DW_AT_location, ("DebugLocListsIndex", 2)),
+        35 => (DW_AT_location, ("SecOffset", 8 * size + 8)),
+        _ if version == 5 => (DW_AT_ranges, ("DebugRngListsIndex", 2)),
+        _ => (DW_AT_ranges, ("SecOffset", 8 * size)),
     }
 }
 
 /// How a list is read by its name too: in version 5 still by its index.
 pub(crate) fn list(number: usize, encoding: Encoding) -> Option<Seen> {
-    let lists = 4 * encoding.address_size as u64;
+    let (_, (kind, place)) = row(number, encoding);
     match (number, encoding.version) {
-        (33, 5) => Some(("DebugLocListsIndex", 1)),
-        (34, 5) => Some(("DebugRngListsIndex", 1)),
-        (33, _) => Some(("LocationListsRef", lists + 4)),
-        (34, _) => Some(("RangeListsRef", lists)),
+        (33..VALUES, 5) => Some((kind, place)),
+        (33 | 35, _) => Some(("LocationListsRef", place)),
+        (34 | 36, _) => Some(("RangeListsRef", place)),
         _ => None,
+    }
+}
+
+/// What a value names in a table.
+pub(crate) fn named(number: usize) -> Named {
+    match number {
+        31 => Named::String,
+        32 => Named::LineString,
+        33 => Named::ShortLocations,
+        34 => Named::ShortRanges,
+        35 => Named::LongLocations,
+        36 => Named::LongRanges,
+        _ => Named::Nothing,
     }
 }
 
@@ -133,13 +150,6 @@ fn four(alloc: Global) -> Result<Bytes> {
     Bytes::new(alloc, &[1, 2, 3, 4])
 }
 
-/// The expression that is 57.
-pub(crate) fn constant(alloc: Global) -> Result<Expression> {
-    let mut expression = Expression::new(alloc);
-    expression.op_constu(57)?;
-    Ok(expression)
-}
-
 /// What a value becomes, where the version makes nothing else of it, and it names no table.
 fn plain(alloc: Global, number: usize) -> Result<AttributeValue> {
     Ok(match number {
@@ -148,7 +158,7 @@ fn plain(alloc: Global, number: usize) -> Result<AttributeValue> {
         14 => AttributeValue::Block(four(alloc)?),
         15 => AttributeValue::String(four(alloc)?),
         16..28 => code(number),
-        28 => AttributeValue::Exprloc(constant(alloc)?),
+        28 => AttributeValue::Exprloc(constant(alloc, 57)?),
         29 => AttributeValue::FlagPresent,
         _ => AttributeValue::ImplicitConst(0x12),
     })
@@ -159,17 +169,18 @@ fn in_table(number: usize, index: usize) -> AttributeValue {
     match number {
         31 => AttributeValue::StringRef(StringId(index)),
         32 => AttributeValue::LineStringRef(LineStringId(index)),
-        33 => AttributeValue::LocationListRef(LocationListId(index)),
+        33 | 35 => AttributeValue::LocationListRef(LocationListId(index)),
         _ => AttributeValue::RangeListRef(RangeListId(index)),
     }
 }
 
-/// The value that is set: in tables the second.
+/// The value that is set: in tables the second or the third.
 pub(crate) fn value(alloc: Global, number: usize) -> Result<AttributeValue> {
-    if number > 30 {
-        return Ok(in_table(number, 1));
+    match number {
+        0..31 => plain(alloc, number),
+        31..35 => Ok(in_table(number, 1)),
+        _ => Ok(in_table(number, 2)),
     }
-    plain(alloc, number)
 }
 
 /// What comes back. A flag without bytes has one below version 4, and a constant of the declaration
@@ -178,7 +189,7 @@ pub(crate) fn wanted(alloc: Global, number: usize, version: u16) -> Result<Attri
     match number {
         29 if version < 4 => Ok(AttributeValue::Flag(true)),
         30 if version < 5 => Ok(AttributeValue::Language(DwLang(0x12))),
-        31..VALUES => Ok(in_table(number, 0)),
-        _ => plain(alloc, number),
+        0..31 => plain(alloc, number),
+        _ => Ok(in_table(number, 0)),
     }
 }

@@ -1,7 +1,7 @@
-//! The calls that add operations: six groups of six, what each adds, and how it is read.
+//! The calls that add operations, six groups of six, and how what each adds is read.
 
-use crate::places::{ENTRY, REFERENCE};
-use crate::reading::Seen;
+use crate::entries::{ENTRY, REFERENCE};
+use crate::operation_tests::Seen;
 use dw_base::constants::*;
 use dw_base::{Address, DwOp, Register, Result};
 use dw_expr::{Expression, Operation};
@@ -101,19 +101,6 @@ fn add_memory(x: &mut Expression, number: usize) -> Result<()> {
     }
 }
 
-fn memory(number: usize) -> Operation {
-    let space = number % 2 == 1;
-    match number / 2 {
-        0 => Operation::Deref { space },
-        1 => Operation::DerefSize { space, size: 2 },
-        _ => Operation::DerefType {
-            space,
-            size: 2,
-            base: ENTRY,
-        },
-    }
-}
-
 fn add_stack(x: &mut Expression, number: usize) -> Result<()> {
     match number {
         0 => x.op_pick(0),
@@ -122,17 +109,6 @@ fn add_stack(x: &mut Expression, number: usize) -> Result<()> {
         3 => x.op_plus_uconst(23),
         4 => x.op_constu(23),
         _ => x.op_consts(-23),
-    }
-}
-
-fn stack(number: usize) -> Operation {
-    match number {
-        0 => Operation::Pick(0),
-        1 => Operation::Pick(1),
-        2 => Operation::Pick(2),
-        3 => Operation::PlusConstant(23),
-        4 => Operation::UnsignedConstant(23),
-        _ => Operation::SignedConstant(-23),
     }
 }
 
@@ -147,39 +123,14 @@ fn add_register(x: &mut Expression, number: usize) -> Result<()> {
     }
 }
 
-fn register(number: usize) -> Operation {
-    match number {
-        0 => Operation::Register(Register(23)),
-        1 => Operation::Register(Register(123)),
-        2 => Operation::RegisterOffset(Register(23), 34),
-        3 => Operation::RegisterOffset(Register(123), 34),
-        4 => Operation::RegisterType(Register(23), ENTRY),
-        _ => Operation::FrameOffset(34),
-    }
-}
-
-fn add_entry(x: &mut Expression, number: usize, byte: Bytes) -> Result<()> {
+fn add_entry(alloc: Global, x: &mut Expression, number: usize) -> Result<()> {
     match number {
         0 => x.op_call(ENTRY),
         1 => x.op_call_ref(REFERENCE),
         2 => x.op_variable_value(REFERENCE),
         3 => x.op_implicit_pointer(REFERENCE, 23),
         4 => x.op_gnu_parameter_ref(ENTRY),
-        _ => x.op_const_type(ENTRY, byte),
-    }
-}
-
-fn entry(number: usize, byte: Bytes) -> Operation {
-    match number {
-        0 => Operation::Call(ENTRY),
-        1 => Operation::CallRef(REFERENCE),
-        2 => Operation::VariableValue(REFERENCE),
-        3 => Operation::ImplicitPointer {
-            entry: REFERENCE,
-            byte_offset: 23,
-        },
-        4 => Operation::ParameterRef(ENTRY),
-        _ => Operation::ConstantType(ENTRY, byte),
+        _ => x.op_const_type(ENTRY, Bytes::new(alloc, &[23])?),
     }
 }
 
@@ -194,45 +145,20 @@ fn add_piece(x: &mut Expression, number: usize) -> Result<()> {
     }
 }
 
-fn piece(number: usize) -> Operation {
-    match number {
-        0 => Operation::Convert(None),
-        1 => Operation::Convert(Some(ENTRY)),
-        2 => Operation::Reinterpret(None),
-        3 => Operation::Reinterpret(Some(ENTRY)),
-        4 => Operation::Piece { size_in_bytes: 23 },
-        _ => Operation::BitPiece {
-            size_in_bits: 23,
-            bit_offset: 34,
-        },
-    }
-}
-
 /// An expression of register 23.
 fn inner(alloc: Global) -> Result<Expression> {
     let operations = vec![in alloc; Operation::Register(Register(23))]?;
     Ok(Expression::from_operations(alloc, operations))
 }
 
-fn add_value(x: &mut Expression, number: usize, byte: Bytes, inner: Expression) -> Result<()> {
+fn add_value(alloc: Global, x: &mut Expression, number: usize) -> Result<()> {
     match number {
         0 => x.op_addr(Address::Constant(23)),
-        1 => x.op_implicit_value(byte),
-        2 => x.op_entry_value(inner),
+        1 => x.op_implicit_value(Bytes::new(alloc, &[23])?),
+        2 => x.op_entry_value(inner(alloc)?),
         3 => x.op_wasm_local(1000),
         4 => x.op_wasm_global(1000),
         _ => x.op_wasm_stack(1000),
-    }
-}
-
-fn value(number: usize, byte: Bytes, inner: Expression) -> Operation {
-    match number {
-        0 => Operation::Address(Address::Constant(23)),
-        1 => Operation::ImplicitValue(byte),
-        2 => Operation::EntryValue(inner),
-        3 => Operation::WasmLocal(1000),
-        4 => Operation::WasmGlobal(1000),
-        _ => Operation::WasmStack(1000),
     }
 }
 
@@ -243,21 +169,8 @@ pub(crate) fn add(alloc: Global, x: &mut Expression, number: usize) -> Result<()
         0 => add_memory(x, within),
         1 => add_stack(x, within),
         2 => add_register(x, within),
-        3 => add_entry(x, within, Bytes::new(alloc, &[23])?),
+        3 => add_entry(alloc, x, within),
         4 => add_piece(x, within),
-        _ => add_value(x, within, Bytes::new(alloc, &[23])?, inner(alloc)?),
+        _ => add_value(alloc, x, within),
     }
-}
-
-/// The operation that the call of this number is to add.
-pub(crate) fn operation(alloc: Global, number: usize) -> Result<Operation> {
-    let within = number % 6;
-    Ok(match number / 6 {
-        0 => memory(within),
-        1 => stack(within),
-        2 => register(within),
-        3 => entry(within, Bytes::new(alloc, &[23])?),
-        4 => piece(within),
-        _ => value(within, Bytes::new(alloc, &[23])?, inner(alloc)?),
-    })
 }

@@ -1,43 +1,9 @@
 //! Sections that are cut, and sections of which a byte is turned.
 
-use crate::tests::{Evens, FIVE_AT, FOUR, first, moved, section, sections};
-use dw_base::{LocationListsOffset, RangeListsOffset};
-use dw_convert::{expression, location_list, range_list};
-use dw_read::{Expression, ReadError};
-use dw_read_units::UnitRef;
+use crate::refusal_tests::{FIVE, FOUR, Kind, refusal};
+use dw_read::ReadError;
 use dw_sources::ConvertError;
 use std::alloc::Global;
-
-/// What is converted of the bytes: an expression, a range list or a location list.
-#[derive(Clone, Copy)]
-enum Kind {
-    Expression,
-    Ranges,
-    Locations,
-}
-
-/// Why bytes aren't converted, in the unit of `info`.
-fn refusal(alloc: Global, kind: Kind, info: &[u8], bytes: &[u8]) -> Option<ConvertError> {
-    let dwarf = sections(info, bytes);
-    let unit = match first(alloc, &dwarf) {
-        Ok(unit) => unit,
-        Err(error) => return Some(ConvertError::Read(error)),
-    };
-    let both = UnitRef {
-        dwarf: &dwarf,
-        unit: &unit,
-    };
-    match kind {
-        Kind::Expression => {
-            let read = Expression(section(bytes));
-            expression(alloc, read, both.encoding(), Some(both), &moved, &Evens).err()
-        }
-        Kind::Ranges => range_list(alloc, both, RangeListsOffset(0), &moved).err(),
-        Kind::Locations => {
-            location_list(alloc, both, LocationListsOffset(0), &moved, &Evens).err()
-        }
-    }
-}
 
 // An address, two indices, a constant, an entry's place, a nested expression and a piece.
 const EXPRESSION: &[u8] = b"\x03\x00\x10\x00\x00\xa1\x01\xa2\x01\x10\x80\x01\x9a\x02\x00\x00\x00\
@@ -63,13 +29,13 @@ const OLD_LOCATIONS: &[u8] = b"\x01\x00\x00\x00\x02\x00\x00\x00\x01\x00\x30\
 const WHOLE: [(Kind, &[u8], &[u8], &[usize]); 5] = [
     (
         Kind::Expression,
-        FIVE_AT,
+        FIVE,
         EXPRESSION,
         &[0, 5, 7, 9, 12, 17, 21, 23],
     ),
-    (Kind::Ranges, FIVE_AT, RANGES, &[32]),
+    (Kind::Ranges, FIVE, RANGES, &[32]),
     (Kind::Ranges, FOUR, OLD_RANGES, &[32]),
-    (Kind::Locations, FIVE_AT, LOCATIONS, &[45]),
+    (Kind::Locations, FIVE, LOCATIONS, &[45]),
     (Kind::Locations, FOUR, OLD_LOCATIONS, &[39]),
 ];
 
@@ -141,10 +107,10 @@ const OLD_LOCATIONS_TURNED: &[u8] = b"\
 
 /// What is converted, in which unit, and what comes of it where a byte is turned.
 const TURNED: [(Kind, &[u8], &[u8], &[u8]); 5] = [
-    (Kind::Expression, FIVE_AT, EXPRESSION, EXPRESSION_TURNED),
-    (Kind::Ranges, FIVE_AT, RANGES, RANGES_TURNED),
+    (Kind::Expression, FIVE, EXPRESSION, EXPRESSION_TURNED),
+    (Kind::Ranges, FIVE, RANGES, RANGES_TURNED),
     (Kind::Ranges, FOUR, OLD_RANGES, OLD_RANGES_TURNED),
-    (Kind::Locations, FIVE_AT, LOCATIONS, LOCATIONS_TURNED),
+    (Kind::Locations, FIVE, LOCATIONS, LOCATIONS_TURNED),
     (Kind::Locations, FOUR, OLD_LOCATIONS, OLD_LOCATIONS_TURNED),
 ];
 

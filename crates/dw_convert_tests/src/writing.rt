@@ -1,0 +1,86 @@
+//! A unit whose root has one value, and how it is written.
+
+use crate::layouts::Layout;
+use crate::reading::Texts;
+use crate::tables::{add_lists, add_strings};
+use crate::values::{row, value};
+use dw_base::constants::DW_AT_sibling;
+use dw_base::{DwAt, Error, Result, RunTimeEndian};
+use dw_entries::AttributeValue;
+use dw_line::LineProgram;
+use dw_strings::{LineStringTable, StringTable};
+use dw_unit::{Unit, UnitTable};
+use dw_writer::{EndianVec, Sections};
+use std::alloc::Global;
+
+pub(crate) type Written = Sections<EndianVec<RunTimeEndian>>;
+
+/// The bytes of sections, to be read.
+pub(crate) fn texts_of(sections: &Written) -> Texts<'_> {
+    Texts {
+        abbrev: sections.debug_abbrev.0.slice(),
+        info: sections.debug_info.0.slice(),
+        addr: b"",
+        str: sections.debug_str.0.slice(),
+        line_str: sections.debug_line_str.0.slice(),
+        line: b"",
+        ranges: sections.debug_ranges.0.slice(),
+        rnglists: sections.debug_rnglists.0.slice(),
+        loc: sections.debug_loc.0.slice(),
+        loclists: sections.debug_loclists.0.slice(),
+    }
+}
+
+/// Sets an attribute of the root.
+fn set(unit: &mut Unit, name: DwAt, value: AttributeValue) -> Result<()> {
+    if unit.count() == 0 || name.0 == 0 || name == DW_AT_sibling {
+        return Err(Error::InvalidReference);
+    }
+    unit.get_mut(unit.root()).set(name, value)
+}
+
+/// Gives a unit its lists, and its root the value of a number.
+fn fill(alloc: Global, unit: &mut Unit, number: usize, layout: Layout) -> Result<()> {
+    let version = layout.encoding.version;
+    add_lists(alloc, version, &mut unit.ranges, &mut unit.locations)?;
+    let (name, _) = row(number, layout.encoding);
+    set(unit, name, value(alloc, number)?)
+}
+
+/// A table of the unit whose root has the value of a number.
+fn add_unit(alloc: Global, units: &mut UnitTable, number: usize, layout: Layout) -> Result<()> {
+    let mut unit = Unit::new(alloc, layout.encoding, LineProgram::none())?;
+    fill(alloc, &mut unit, number, layout)?;
+    units.add(unit)?;
+    Ok(())
+}
+
+/// Writes units and strings.
+fn write_strings(
+    strings: &StringTable,
+    line_strings: &LineStringTable,
+    sections: &mut Written,
+) -> Result<()> {
+    strings.write(&mut sections.debug_str)?;
+    line_strings.write(&mut sections.debug_line_str)
+}
+
+fn write_units(alloc: Global, units: &mut UnitTable, sections: &mut Written) -> Result<()> {
+    let mut strings = StringTable::new(alloc);
+    let mut line_strings = LineStringTable::new(alloc);
+    add_strings(&mut strings, &mut line_strings)?;
+    units.write(sections, &line_strings, &strings)?;
+    write_strings(&strings, &line_strings, sections)
+}
+
+/// Writes a unit whose root has the value of a number, and the strings.
+pub(crate) fn write(
+    alloc: Global,
+    number: usize,
+    layout: Layout,
+    sections: &mut Written,
+) -> Result<()> {
+    let mut units = UnitTable::new(alloc);
+    add_unit(alloc, &mut units, number, layout)?;
+    write_units(alloc, &mut units, sections)
+}
