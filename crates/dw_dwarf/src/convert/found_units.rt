@@ -59,7 +59,10 @@ impl<R: Reader> FoundUnits<R> {
     {
         'units: for numbered in &self.found.units {
             let unit = new_unit(alloc, numbered.unit.header.encoding(), numbered.entries)?;
-            units.add(unit).map_err(|_| ConvertError::NoMemory)?;
+            match units.add(unit) {
+                Ok(_) => {}
+                Err(_) => return Err(ConvertError::NoMemory),
+            }
         }
         Ok(())
     }

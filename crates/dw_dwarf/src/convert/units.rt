@@ -103,8 +103,8 @@ fn convert_numbered<R: Reader, F: Fn(u64) -> Option<Address>>(
         line_strings,
         convert_address,
         &refs,
-    )?;
-    Ok(unit)
+    )
+    .and(Ok(unit))
 }
 
 /// A unit of its root alone, with so many ids.

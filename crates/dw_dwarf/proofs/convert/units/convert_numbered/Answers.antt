@@ -1,5 +1,6 @@
-use Rattle.std.proofs.Common.{◌≡◌, ◌∙◌, ap, refl, inl, inr, ⊎_elim}
-use Rattle.std.proofs.lemmas.Result.{err_from_is_err_and}
+use Rattle.std.proofs.Common.{◌≡◌, ◌∙◌, ap, refl, inl, inr, ⊎_elim, Ok, Err}
+use Rattle.std.specs.Prelude.{Result, OnOk, IfOk, IfErr}
+use Rattle.std.specs.Result.{result_and}
 use Rattle.dw_dwarf.specs.NewUnits.{unit_with, unit_for}
 use Rattle.dw_dwarf.proofs.Ready.{can_convert}
 use Rattle.dw_dwarf.proofs.Rooted.{rooted}
@@ -13,13 +14,26 @@ convert_unit-requires-clause-ready g c =
     let new : c.in_ok-unit.unit ≡ unit_for c.args.numbered.now = c.in_ok-unit.ensures.ok ∙ ap (λ e. unit_with e c.args.numbered.now.entries) c.encoding.ensures in
     can_convert g.R.Reader.reading c.args.dwarf.now c.args.numbered.now c.requires.numbered.unit _ c.in_ok-unit.unit c.requires.numbered.numbered refl (ap (λ u. u.reserved) new) (ap (λ u. u.entries) new) (ap (λ u. u.is_freed) new)
 
-pub returns-in_err-convert_unit-clause-err : goal.returns-in_err-convert_unit-clause-err
-returns-in_err-convert_unit-clause-err g c =
+-- what is told of a unit that was converted is told of the answer, which hands it out
+module _ {T U E : Type 0} (x : U) where
+  and_ok : {P : Type 0} (Q : U → Type 0) (r : Result T E) → OnOk r P → (P → Q x) → IfOk (result_and r (Ok x)) Q
+  and_ok Q (Ok y) p f = f p
+  and_ok Q (Err e) p f = tt
+
+  and_err : {P Q : E → Type 0} (r : Result T E) → IfErr r P → ((e : E) → P e → Q e) → IfErr (result_and r (Ok x)) Q
+  and_err (Ok y) p f = tt
+  and_err (Err e) p f = f e p
+
+pub returns-clause-err : goal.returns-clause-err
+returns-clause-err g c =
     let new : c.in_ok-unit.unit ≡ unit_for c.args.numbered.now = c.in_ok-unit.ensures.ok ∙ ap (λ e. unit_with e c.args.numbered.now.entries) c.encoding.ensures in
-    let p = err_from_is_err_and c.from_residual-in_err-convert_unit.result c.from_residual-in_err-convert_unit.ensures.1 in
-    rw (p.1, p.2) (⊎_elim inl (λ r. inr (record { read = _; of = record { file = refl; unit = refl }; refuses = rw new at r })) c.in_err-convert_unit.ensures.err)
+    rw c.and.ensures
+    (and_err c.convert_unit.new.unit c.convert_unit.result c.convert_unit.ensures.err
+    (λ e. ⊎_elim inl (λ r. inr (record { read = _; of = record { file = refl; unit = refl }; refuses = rw new at r }))))
 
 pub returns-clause-ok : goal.returns-clause-ok
 returns-clause-ok g c =
     let new : c.in_ok-unit.unit ≡ unit_for c.args.numbered.now = c.in_ok-unit.ensures.ok ∙ ap (λ e. unit_with e c.args.numbered.now.entries) c.encoding.ensures in
-    record { read = _; of = record { file = refl; unit = refl }; becomes = rw new at c.in_ok-convert_unit.ensures.ok }
+    rw c.and.ensures
+    (and_ok c.convert_unit.new.unit _ c.convert_unit.result c.convert_unit.ensures.ok
+    (λ becomes. record { read = _; of = record { file = refl; unit = refl }; becomes = rw new at becomes }))

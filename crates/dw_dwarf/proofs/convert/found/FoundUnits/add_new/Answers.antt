@@ -1,4 +1,7 @@
-use Rattle.std.proofs.Common.{◌≡◌, sym, subst, ◌≤◌, ◌<◌, length, get_or}
+use Rattle.std.proofs.Common.{◌≡◌, ◌∙◌, sym, ap, subst, ◌≤◌, ◌<◌, ◌+◌, length, get_or, take, ◌++◌, ◌∷◌, [], append_assoc}
+use Rattle.std.proofs.lemmas.List.{take_more, map-append}
+use Rattle.std.specs.Prelude.{map}
+use Rattle.dw_dwarf.specs.NewUnits.{unit_with, unit_for}
 use Rattle.dw_dwarf.proofs.convert.found.FoundUnits.add_new.Goals as goal
 
 pub new_unit-requires : goal.new_unit-requires
@@ -7,3 +10,15 @@ new_unit-requires g c =
     let l = subst (λ xs. c.units.numbered-index < length xs) items c.units-test.true in
     let is = subst (λ xs. c.numbered-item.result ≡ get_or xs c.units.numbered-index c.numbered-item.result) items c.numbered-item.is in
     subst (λ n. 1 ≤ n.entries) (sym is) (c.args.self.now.readable c.units.numbered-index c.numbered-item.result l).2
+
+pub units-preserved : goal.units-preserved
+units-preserved g c =
+    let items = c.deref-numbered-items.result.now in
+    let k = c.units.numbered-index in
+    let x = c.numbered-item.result in
+    let new : c.in_ok-unit.unit ≡ unit_for x = c.in_ok-unit.ensures.ok ∙ ap (λ e. unit_with e x.entries) c.encoding.ensures in
+    let more : map unit_for (take k items) ++ c.in_ok-unit.unit ∷ [] ≡ map unit_for (take (k + 1) items) =
+    ap (λ u. map unit_for (take k items) ++ u ∷ []) new ∙ sym (map-append unit_for (take k items) (x ∷ []))
+    ∙ ap (λ ys. map unit_for ys) (ap (λ y. take k items ++ y ∷ []) c.numbered-item.is ∙ sym (take_more items k x c.units-test.true)) in
+    c.in-Ok.ensures.ok ∙ ap (λ us. us ++ c.in_ok-unit.unit ∷ []) c.units.invariant
+    ∙ append_assoc c.args.units.now (map unit_for (take k items)) (c.in_ok-unit.unit ∷ []) ∙ ap (λ ys. c.args.units.now ++ ys) more
