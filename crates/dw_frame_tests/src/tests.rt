@@ -1,9 +1,9 @@
 //! Tables of entries, made of plans that stand in tables of cases.
 
 mod conversions;
-mod damage;
-mod encodings;
 mod instructions;
+mod linked_frames;
+mod linked_sets;
 mod returning;
 mod rules;
 mod sections;
@@ -11,7 +11,7 @@ mod sections;
 use dw_base::constants::DW_EH_PE_absptr;
 use dw_base::{Address, DwEhPe, Encoding, Format, Register, Result, RunTimeEndian, SectionId};
 use dw_frame::{CommonInformationEntry, FrameDescriptionEntry, FrameTable};
-use dw_writer::{DebugFrame, EhFrame, EndianVec, Writer};
+use dw_writer::{DebugFrame, EhFrame, EndianVec};
 use rules::Rule;
 use std::alloc::Global;
 
@@ -27,7 +27,7 @@ struct Plan<'a> {
     fde_address_encoding: DwEhPe,
     signal_trampoline: bool,
     cie: &'a [Rule],
-    address: u64,
+    address: Address,
     length: u32,
     lsda: Option<Address>,
     fde: &'a [(u32, Rule)],
@@ -50,11 +50,19 @@ const PLAIN: Plan<'static> = Plan {
     fde_address_encoding: DW_EH_PE_absptr,
     signal_trampoline: false,
     cie: &[],
-    address: 0x1000,
+    address: Address::Constant(0x1000),
     length: 0x10,
     lsda: None,
     fde: &[],
 };
+
+/// Adds instructions to a CIE.
+fn instruct(alloc: Global, cie: &mut CommonInformationEntry, rules: &[Rule]) -> Result<()> {
+    for rule in rules {
+        cie.add_instruction(rule.instruction(alloc)?)?;
+    }
+    Ok(())
+}
 
 /// A copy of the CIE of a plan.
 fn cie_of(alloc: Global, plan: &Plan<'_>) -> Result<CommonInformationEntry> {
@@ -69,20 +77,23 @@ fn cie_of(alloc: Global, plan: &Plan<'_>) -> Result<CommonInformationEntry> {
     cie.lsda_encoding = plan.lsda_encoding;
     cie.fde_address_encoding = plan.fde_address_encoding;
     cie.signal_trampoline = plan.signal_trampoline;
-    for rule in plan.cie {
-        cie.add_instruction(rule.instruction(alloc)?)?;
-    }
+    instruct(alloc, &mut cie, plan.cie)?;
     cie.try_clone()
+}
+
+/// Adds instructions to an FDE, at their offsets.
+fn move_on(alloc: Global, fde: &mut FrameDescriptionEntry, rules: &[(u32, Rule)]) -> Result<()> {
+    for (offset, rule) in rules {
+        fde.add_instruction(*offset, rule.instruction(alloc)?)?;
+    }
+    Ok(())
 }
 
 /// A copy of the FDE of a plan.
 fn fde_of(alloc: Global, plan: &Plan<'_>) -> Result<FrameDescriptionEntry> {
-    let address = Address::Constant(plan.address);
-    let mut fde = FrameDescriptionEntry::new(alloc, address, plan.length);
+    let mut fde = FrameDescriptionEntry::new(alloc, plan.address, plan.length);
     fde.lsda = plan.lsda;
-    for (offset, rule) in plan.fde {
-        fde.add_instruction(*offset, rule.instruction(alloc)?)?;
-    }
+    move_on(alloc, &mut fde, plan.fde)?;
     fde.try_clone()
 }
 
@@ -91,22 +102,26 @@ fn add(alloc: Global, frames: &mut FrameTable, plan: &Plan<'_>) -> Result<()> {
     frames.add_fde(cie, fde_of(alloc, plan)?)
 }
 
-fn table_of(alloc: Global, plans: &[Plan<'_>]) -> Result<FrameTable> {
-    let mut frames = FrameTable::new(alloc);
+fn add_all(alloc: Global, frames: &mut FrameTable, plans: &[Plan<'_>]) -> Result<()> {
     for plan in plans {
-        add(alloc, &mut frames, plan)?;
+        add(alloc, frames, plan)?;
     }
-    Ok(frames)
+    Ok(())
 }
 
-/// Writes a table to `.eh_frame`, or else to `.debug_frame`.
-fn write<W: Writer + Drop>(frames: &FrameTable, id: SectionId, w: W) -> Result<W> {
+/// `.eh_frame`, or else `.debug_frame`, that holds a table.
+fn write(
+    alloc: Global,
+    frames: &FrameTable,
+    id: SectionId,
+    endian: RunTimeEndian,
+) -> Result<EndianVec<RunTimeEndian>> {
     if id == SectionId::EhFrame {
-        let mut section = EhFrame(w);
+        let mut section = EhFrame(EndianVec::new(alloc, endian));
         frames.write_eh_frame(&mut section)?;
         Ok(section.0)
     } else {
-        let mut section = DebugFrame(w);
+        let mut section = DebugFrame(EndianVec::new(alloc, endian));
         frames.write_debug_frame(&mut section)?;
         Ok(section.0)
     }
@@ -118,13 +133,20 @@ fn section_of(
     plans: &[Plan<'_>],
     id: SectionId,
 ) -> Result<EndianVec<RunTimeEndian>> {
-    let frames = table_of(alloc, plans)?;
-    write(&frames, id, EndianVec::new(alloc, RunTimeEndian::Little))
+    let mut frames = FrameTable::new(alloc);
+    add_all(alloc, &mut frames, plans)?;
+    write(alloc, &frames, id, RunTimeEndian::Little)
 }
 
 /// Whether a table is written as these bytes.
-fn is_section(alloc: Global, frames: &FrameTable, id: SectionId, bytes: &[u8]) -> Result<bool> {
-    let section = write(frames, id, EndianVec::new(alloc, RunTimeEndian::Little))?;
+fn is_section(
+    alloc: Global,
+    frames: &FrameTable,
+    id: SectionId,
+    endian: RunTimeEndian,
+    bytes: &[u8],
+) -> Result<bool> {
+    let section = write(alloc, frames, id, endian)?;
     Ok(section.slice() == bytes)
 }
 

@@ -3,13 +3,7 @@
 #![tactic(auto)]
 
 mod error;
-#[cfg(test)]
-mod fixtures;
-#[cfg(test)]
-mod refusal_tests;
 mod tables;
-#[cfg(test)]
-mod tests;
 
 pub use error::LinkFrameError;
 pub use tables::link_tables;

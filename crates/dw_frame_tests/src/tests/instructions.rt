@@ -6,24 +6,15 @@ use super::{PLAIN, Plan, section_of};
 use dw_base::{Error, Result, SectionId};
 use std::alloc::Global;
 
-/// Whether an entry of `.debug_frame` has these instructions at a place, and then no more than
-/// padding.
-fn has_instructions(
-    alloc: Global,
-    plan: Plan<'_>,
-    entry: usize,
-    at: usize,
-    instructions: &[u8],
-) -> Result<bool> {
-    let section = section_of(alloc, &[plan], SectionId::DebugFrame)?;
-    let bytes = section.slice();
+/// Whether an entry of a section has these instructions at a place, and then no more than padding.
+fn has_instructions(bytes: &[u8], entry: usize, at: usize, instructions: &[u8]) -> bool {
     // The entry's first byte is the lowest of the length that follows its field of four bytes.
     let length = bytes.get(entry).copied().unwrap_or(0) as usize;
     let end = entry.saturating_add(4).saturating_add(length);
     let found = bytes.get(at..end).unwrap_or(&[]);
     match found.strip_prefix(instructions) {
-        Some(padding) => Ok([0; 8].starts_with(padding)),
-        None => Ok(false),
+        Some(padding) => [0; 8].starts_with(padding),
+        None => false,
     }
 }
 
@@ -40,11 +31,12 @@ fn is_spelled(alloc: Global, data_factor: i8, cie: &[Rule], bytes: &[u8]) -> Res
     } else {
         13
     };
-    has_instructions(alloc, plan, 0, at, bytes)
+    let section = section_of(alloc, &[plan], SectionId::DebugFrame)?;
+    Ok(has_instructions(section.slice(), 0, at, bytes))
 }
 
 /// Factors of data offsets and instructions, with their bytes, or why they are refused.
-const SPELLED: [(i8, &[Rule], Result<bool>, &[u8]); 38] = [
+const SPELLED: &[(i8, &[Rule], Result<bool>, &[u8])] = &[
     // Rules of the frame.
     (-8, &[Rule::Cfa(7, 8)], Ok(true), &[0x0c, 0x07, 0x08]),
     (-8, &[Rule::Cfa(7, -16)], Ok(true), &[0x12, 0x07, 0x02]),
@@ -171,39 +163,46 @@ const SPELLED: [(i8, &[Rule], Result<bool>, &[u8]); 38] = [
     ),
 ];
 
+/// The table, behind a function so that no proof but this one's looks into it.
+fn spelled() -> &'static [(i8, &'static [Rule], Result<bool>, &'static [u8])] {
+    SPELLED
+}
+
 #[test]
 fn spells_instructions(rt: HostRuntime) {
-    for (number, case) in SPELLED.iter().enumerate() {
+    for (number, case) in spelled().iter().enumerate() {
         let (data_factor, instructions, wanted, bytes) = *case;
         let answer = is_spelled(rt.alloc(), data_factor, instructions, bytes);
         assert_eq!(rt; (number, answer), (number, wanted));
     }
 }
 
-/// Whether an FDE that remembers its state at each of these offsets has these instructions.
-fn advances(alloc: Global, code_factor: u8, offsets: &[u32], bytes: &[u8]) -> Result<bool> {
-    let mut steps = Vec::new(alloc);
-    for offset in offsets {
-        steps.push((*offset, Rule::RememberState))?;
-    }
+/// Whether an FDE that remembers its state at some offsets has these instructions.
+fn advances(alloc: Global, code_factor: u8, fde: &[(u32, Rule)], bytes: &[u8]) -> Result<bool> {
     let plan = Plan {
         code_factor,
-        data_factor: 1,
-        address: 0,
-        length: 0,
-        fde: steps.as_slice(),
+        fde,
         ..PLAIN
     };
+    let section = section_of(alloc, &[plan], SectionId::DebugFrame)?;
     // The CIE takes 16 bytes, and what stands before the instructions of the FDE 24.
-    has_instructions(alloc, plan, 16, 40, bytes)
+    Ok(has_instructions(section.slice(), 16, 40, bytes))
 }
 
-/// Factors of code offsets and offsets, with the instructions, or why they are refused.
-const ADVANCES: [(u8, &[u32], Result<bool>, &[u8]); 5] = [
+/// The state is remembered at these offsets.
+macro_rules! at {
+    ($($offset:expr),*) => {
+        &[$(($offset, Rule::RememberState)),*]
+    };
+}
+
+/// Factors of code offsets and what holds at offsets, with the instructions, or why they are
+/// refused.
+const ADVANCES: &[(u8, &[(u32, Rule)], Result<bool>, &[u8])] = &[
     // The ways are 0x3f, 0x40, 0xff, 0x100, 0xffff and 0x10000, and then none.
     (
         1,
-        &[0x3f, 0x7f, 0x17e, 0x27e, 0x1_027d, 0x2_027d, 0x2_027d],
+        at![0x3f, 0x7f, 0x17e, 0x27e, 0x1_027d, 0x2_027d, 0x2_027d],
         Ok(true),
         &[
             0x7f, 0x0a, 0x02, 0x40, 0x0a, 0x02, 0xff, 0x0a, 0x03, 0x00, 0x01, 0x0a, 0x03, 0xff,
@@ -212,23 +211,27 @@ const ADVANCES: [(u8, &[u32], Result<bool>, &[u8]); 5] = [
     ),
     (
         2,
-        &[22, 152, 666, 131740],
+        at![22, 152, 666, 131740],
         Ok(true),
         &[
             0x4b, 0x0a, 0x02, 0x41, 0x0a, 0x03, 0x01, 0x01, 0x0a, 0x04, 0x01, 0x00, 0x01, 0x00,
             0x0a,
         ],
     ),
-    (1, &[4, 3], Err(Error::InvalidFrameCodeOffset(3)), &[]),
-    (4, &[4, 6], Err(Error::InvalidFrameCodeOffset(6)), &[]),
-    (0, &[0, 1], Err(Error::InvalidFrameCodeOffset(1)), &[]),
+    (1, at![4, 3], Err(Error::InvalidFrameCodeOffset(3)), &[]),
+    (4, at![4, 6], Err(Error::InvalidFrameCodeOffset(6)), &[]),
+    (0, at![0, 1], Err(Error::InvalidFrameCodeOffset(1)), &[]),
 ];
+
+fn advancing() -> &'static [(u8, &'static [(u32, Rule)], Result<bool>, &'static [u8])] {
+    ADVANCES
+}
 
 #[test]
 fn advances_by_each_width(rt: HostRuntime) {
-    for (number, case) in ADVANCES.iter().enumerate() {
-        let (code_factor, offsets, wanted, bytes) = *case;
-        let answer = advances(rt.alloc(), code_factor, offsets, bytes);
+    for (number, case) in advancing().iter().enumerate() {
+        let (code_factor, fde, wanted, bytes) = *case;
+        let answer = advances(rt.alloc(), code_factor, fde, bytes);
         assert_eq!(rt; (number, answer), (number, wanted));
     }
 }

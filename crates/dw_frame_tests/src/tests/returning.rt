@@ -3,11 +3,10 @@
 
 use super::conversions::read_in;
 use super::rules::{Body, Rule};
-use super::{PLAIN, Plan, add, write};
+use super::{PLAIN, Plan, add, is_section, write};
 use dw_base::constants::DW_EH_PE_absptr;
 use dw_base::{Address, DwEhPe, Encoding, Format, Register, Result, RunTimeEndian, SectionId};
 use dw_frame::FrameTable;
-use dw_writer::EndianVec;
 use std::alloc::Global;
 
 /// The versions of each section.
@@ -30,34 +29,55 @@ const LAYOUTS: [(Format, u8, RunTimeEndian); 8] = [
     (Format::Dwarf64, 8, RunTimeEndian::Big),
 ];
 
-/// The table of plans in one encoding.
-fn table_in(alloc: Global, plans: &[Plan<'_>], encoding: Encoding) -> Result<FrameTable> {
-    let mut frames = FrameTable::new(alloc);
-    for plan in plans {
-        add(alloc, &mut frames, &Plan { encoding, ..*plan })?;
-    }
-    Ok(frames)
-}
-
-/// Each field of the entries of a table.
-fn text_of(alloc: Global, frames: &FrameTable) -> Result<String> {
-    Ok(format!(in alloc; "{frames:?}")?)
-}
-
-/// Whether a table of plans comes back from its section.
-fn comes_back(
-    alloc: Global,
-    plans: &[Plan<'_>],
+/// A section of some version, and how it is laid out.
+#[derive(Clone, Copy)]
+struct Kind {
     encoding: Encoding,
     id: SectionId,
     endian: RunTimeEndian,
-) -> Result<bool> {
-    let frames = table_in(alloc, plans, encoding)?;
-    let section = write(&frames, id, EndianVec::new(alloc, endian))?;
-    let Ok(back) = read_in(alloc, id, endian, encoding.address_size, section.slice()) else {
-        return Ok(false);
+}
+
+/// Adds plans in one encoding.
+fn add_in(
+    alloc: Global,
+    frames: &mut FrameTable,
+    plans: &[Plan<'_>],
+    encoding: Encoding,
+) -> Result<()> {
+    for plan in plans {
+        add(alloc, frames, &Plan { encoding, ..*plan })?;
+    }
+    Ok(())
+}
+
+/// Whether a section is read as a table that writes the same section, in which each CIE of the
+/// plans stands already: the entries come back equal.
+fn is_read(
+    alloc: Global,
+    bytes: &[u8],
+    counts: [usize; 2],
+    plans: &[Plan<'_>],
+    kind: Kind,
+) -> bool {
+    let size = kind.encoding.address_size;
+    let Ok(mut back) = read_in(alloc, kind.id, kind.endian, size, bytes) else {
+        return false;
     };
-    Ok(text_of(alloc, &back)? == text_of(alloc, &frames)?)
+    let is_same = is_section(alloc, &back, kind.id, kind.endian, bytes);
+    let counted = [back.cie_count(), back.fde_count()];
+    let added = add_in(alloc, &mut back, plans, kind.encoding);
+    (is_same, counted, added, back.cie_count()) == (Ok(true), counts, Ok(()), counts[0])
+}
+
+/// Whether a table of plans comes back from its section.
+fn comes_back(alloc: Global, plans: &[Plan<'_>], kind: Kind) -> bool {
+    let mut frames = FrameTable::new(alloc);
+    let added = add_in(alloc, &mut frames, plans, kind.encoding);
+    let counts = [frames.cie_count(), frames.fde_count()];
+    let Ok(section) = write(alloc, &frames, kind.id, kind.endian) else {
+        return false;
+    };
+    added.is_ok() && is_read(alloc, section.slice(), counts, plans, kind)
 }
 
 /// The first layout in which a table of a version doesn't come back.
@@ -73,7 +93,12 @@ fn first_changed(
             format,
             version,
         };
-        if comes_back(alloc, plans, encoding, id, endian) != Ok(true) {
+        let kind = Kind {
+            encoding,
+            id,
+            endian,
+        };
+        if !comes_back(alloc, plans, kind) {
             return Some((format, address_size, endian));
         }
     }
@@ -91,7 +116,7 @@ macro_rules! augmented {
             lsda_encoding: Some($encoding),
             fde_address_encoding: $encoding,
             signal_trampoline: true,
-            address: $address,
+            address: Address::Constant($address),
             length: $length,
             lsda: Some(Address::Constant($data)),
             ..PLAIN
@@ -115,7 +140,7 @@ const INSTRUCTED: Plan<'static> = Plan {
 const PLANS: &[Plan<'static>] = &[
     PLAIN,
     Plan {
-        address: 0x2000,
+        address: Address::Constant(0x2000),
         length: 0x20,
         ..PLAIN
     },
@@ -188,63 +213,14 @@ const PLANS: &[Plan<'static>] = &[
     },
 ];
 
+fn plans() -> &'static [Plan<'static>] {
+    PLANS
+}
+
 #[test]
 fn gives_tables_back(rt: HostRuntime) {
     for (version, id) in VERSIONS {
-        let changed = first_changed(rt.alloc(), PLANS, version, id);
+        let changed = first_changed(rt.alloc(), plans(), version, id);
         assert_eq!(rt; (version, id, changed), (version, id, None));
-    }
-}
-
-/// Instructions, and where they stand in an FDE with the factor 2: behind advances of each width.
-const RULES: [(u32, Rule); 24] = [
-    (0, Rule::Cfa(7, 8)),
-    (2, Rule::Cfa(FAR, 0)),
-    (0x7e, Rule::Cfa(7, -8)),
-    (0x80, Rule::CfaRegister(FAR)),
-    (0x1fe, Rule::CfaOffset(16)),
-    (0x200, Rule::CfaOffset(0)),
-    (0x1fffe, Rule::CfaOffset(-16)),
-    (0x20000, Rule::CfaExpression(Body::Zero)),
-    (0x20000, Rule::Restore(ONE)),
-    (4, Rule::Restore(FAR)),
-    (4, Rule::Undefined(ONE)),
-    (4, Rule::SameValue(FAR)),
-    (4, Rule::Offset(ONE, 16)),
-    (4, Rule::Offset(ONE, -8)),
-    (4, Rule::Offset(FAR, 8)),
-    (4, Rule::ValOffset(ONE, 24)),
-    (4, Rule::ValOffset(FAR, -24)),
-    (4, Rule::Register(ONE, FAR)),
-    (4, Rule::Expression(ONE, Body::Offset)),
-    (4, Rule::ValExpression(FAR, Body::Empty)),
-    (4, Rule::RememberState),
-    (4, Rule::RestoreState),
-    (4, Rule::ArgsSize(23)),
-    (4, Rule::NegateRaState),
-];
-
-/// The first version in which a CIE or an FDE with an instruction alone doesn't come back.
-fn first_lost(alloc: Global, offset: u32, rule: Rule) -> Option<(u16, SectionId)> {
-    let plan = Plan {
-        code_factor: 2,
-        cie: &[rule],
-        fde: &[(offset, rule)],
-        ..PLAIN
-    };
-    for (version, id) in VERSIONS {
-        if first_changed(alloc, &[plan], version, id).is_some() {
-            return Some((version, id));
-        }
-    }
-    None
-}
-
-#[test]
-fn gives_each_instruction_back(rt: HostRuntime) {
-    for (number, case) in RULES.iter().enumerate() {
-        let (offset, rule) = *case;
-        let lost = first_lost(rt.alloc(), offset, rule);
-        assert_eq!(rt; (number, lost), (number, None));
     }
 }

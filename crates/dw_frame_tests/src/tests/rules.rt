@@ -27,31 +27,52 @@ pub enum Rule {
 }
 
 impl Rule {
+    /// A copy of the instruction.
     pub fn instruction(&self, alloc: Global) -> Result<CallFrameInstruction> {
-        Ok(match self {
+        let expression = self.body().expression(alloc)?;
+        self.with(expression).try_clone()
+    }
+
+    /// What the expression does, if there is one.
+    fn body(&self) -> Body {
+        match self {
+            Rule::CfaExpression(body) => *body,
+            Rule::Expression(_, body) => *body,
+            Rule::ValExpression(_, body) => *body,
+            _ => Body::Empty,
+        }
+    }
+
+    /// The instruction with this expression, if it has one.
+    fn with(&self, expression: Expression) -> CallFrameInstruction {
+        match self {
+            Rule::CfaExpression(_) => CallFrameInstruction::CfaExpression(expression),
+            Rule::Expression(of, _) => {
+                CallFrameInstruction::Expression(Register(*of), expression)
+            }
+            Rule::ValExpression(of, _) => {
+                CallFrameInstruction::ValExpression(Register(*of), expression)
+            }
+            other => other.without_expression(),
+        }
+    }
+
+    fn without_expression(&self) -> CallFrameInstruction {
+        match self {
             Rule::Cfa(base, offset) => CallFrameInstruction::Cfa(Register(*base), *offset),
             Rule::CfaRegister(base) => CallFrameInstruction::CfaRegister(Register(*base)),
             Rule::CfaOffset(offset) => CallFrameInstruction::CfaOffset(*offset),
-            Rule::CfaExpression(body) => {
-                CallFrameInstruction::CfaExpression(body.expression(alloc)?)
-            }
             Rule::Restore(of) => CallFrameInstruction::Restore(Register(*of)),
             Rule::Undefined(of) => CallFrameInstruction::Undefined(Register(*of)),
             Rule::SameValue(of) => CallFrameInstruction::SameValue(Register(*of)),
             Rule::Offset(of, offset) => CallFrameInstruction::Offset(Register(*of), *offset),
             Rule::ValOffset(of, offset) => CallFrameInstruction::ValOffset(Register(*of), *offset),
             Rule::Register(of, at) => CallFrameInstruction::Register(Register(*of), Register(*at)),
-            Rule::Expression(of, body) => {
-                CallFrameInstruction::Expression(Register(*of), body.expression(alloc)?)
-            }
-            Rule::ValExpression(of, body) => {
-                CallFrameInstruction::ValExpression(Register(*of), body.expression(alloc)?)
-            }
-            Rule::RememberState => CallFrameInstruction::RememberState,
             Rule::RestoreState => CallFrameInstruction::RestoreState,
             Rule::ArgsSize(size) => CallFrameInstruction::ArgsSize(*size),
             Rule::NegateRaState => CallFrameInstruction::NegateRaState,
-        })
+            _ => CallFrameInstruction::RememberState,
+        }
     }
 }
 
