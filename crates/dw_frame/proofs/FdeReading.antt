@@ -1,5 +1,5 @@
 -- Whole FDEs are read again.
-use Rattle.std.specs.Prelude.{◌≡◌, ℕ, ◌+◌, ◌^◌, ◌<◌, ◌≤◌, Bool, true, false, List, [], ◌++◌, length, Option, Some, None, is_some, IfSome, refl, IsTrue}
+use Rattle.std.specs.Prelude.{◌≡◌, ℕ, ◌+◌, ◌-◌, ◌^◌, ◌<◌, ◌≤◌, Bool, true, false, List, [], ◌++◌, length, Option, Some, None, is_some, IfSome, refl, IsTrue}
 use Rattle.std.specs.Option.{option_map}
 use Rattle.std.proofs.Common.{sym, ◌∙◌, ap, subst, arith, append_assoc, length-append}
 use Rattle.dw_base.specs.Numbers.{◌>>=◌, num, word_of, length_size, escape_of}
@@ -25,6 +25,38 @@ use Rattle.dw_frame.proofs.PointerLaws.{data-again, pointer-again}
 use Rattle.dw_frame.proofs.TextParts.{IsText, turned, number_again, measured_parts, counted_parts}
 use Rattle.dw_frame.proofs.FdeLaws.{pointer_known, known_text, field_again, field_wide, range_parts, range_wide}
 
+-- Places and lengths by numbers alone, so that no tactic looks into the parts that they come from: how far a place is on
+-- once so many bytes are read, and how long bytes are of which parts are told
+passed : (at n k r : ℕ) → n ≡ k + r → at + (n - r) ≡ at + k
+passed at n k r h = omega arith
+
+passed_two : (at n k l m r : ℕ) → n ≡ k + m → m ≡ l + r → at + (n - r) ≡ at + k + l
+passed_two at n k l m r h i = omega arith
+
+passed_three : (at n k l j m o r : ℕ) → n ≡ k + m → m ≡ l + o → o ≡ j + r → at + (n - r) ≡ at + k + l + j
+passed_three at n k l j m o r h i g = omega arith
+
+within_three : (n k l j m o r : ℕ) → n ≡ k + m → m ≡ l + o → o ≡ j + r → r ≤ n
+within_three n k l j m o r h i g = omega arith
+
+later : (n at k : ℕ) → n ≤ at → n ≤ at + k
+later n at k h = omega arith
+
+behind_one : (at n k r here : ℕ) → at + (n - r) ≡ here → r ≤ n → r ≡ 1 + k → at + (n - k) ≡ here + 1
+behind_one at n k r here h i g = omega arith
+
+long_first : (xs r : List ℕ) (k : ℕ) → length xs ≡ k → length (xs ++ r) ≡ k + length r
+long_first xs r k h = length-append xs r ∙ ap (λ n. n + length r) h
+
+long_two : (xs ys zs r : List ℕ) (k : ℕ) → zs ≡ xs ++ ys → length zs ≡ k → length (xs ++ (ys ++ r)) ≡ k + length r
+long_two xs ys zs r k e h = ap length (sym (append_assoc xs ys r)) ∙ long_first (xs ++ ys) r k (ap length (sym e) ∙ h)
+
+long_length : (format : Format) (n r : List ℕ) → length n ≡ word_of format → length (escape_of format ++ (n ++ r)) ≡ length_size format + length r
+long_length format n r h = ap length (sym (append_assoc (escape_of format) n r)) ∙ long_first (escape_of format ++ n) r (length_size format) (length-append (escape_of format) n ∙ ap (λ k. length (escape_of format) + k) h)
+
+nothing_more : (at : ℕ) → at + 0 ≡ at
+nothing_more at = omega arith
+
 -- the pointer to the data for the function's language
 pub record LsdaAgain (o : Option DwEhPe) (x : Option Address) (w at : ℕ) (big : Bool) (bytes rest : List ℕ) : Type 0 where
   pub number : Option ℕ
@@ -45,7 +77,8 @@ lsda_by (Some x) (Some a) augmented w at here big zs rest bytes has agree short 
     let small : known.number < 2 ^ 64 = subst IsShort known.is short in
     let split : zs ++ rest ≡ s.xs ++ (s.ys ++ rest) = ap (λ ys. ys ++ rest) s.whole ∙ append_assoc s.xs s.ys rest in
     let one : length s.xs ≡ 1 = length-num_text big 1 size s.xs s.first in
-    let behind : place_of at bytes (s.ys ++ rest) ≡ here + 1 = omega (arith, place, within, one, ap length split, length-append s.xs (s.ys ++ rest)) in
+    let first_one : length (zs ++ rest) ≡ 1 + length (s.ys ++ rest) = ap length split ∙ long_first s.xs (s.ys ++ rest) 1 one in
+    let behind : place_of at bytes (s.ys ++ rest) ≡ here + 1 = behind_one at (length bytes) (length (s.ys ++ rest)) (length (zs ++ rest)) here place within first_one in
     let count = number_again big 1 size s.xs (s.ys ++ rest) s.first in
     let again = pointer-again big w x.0 (here + 1) known.number s.ys rest small text in
     let last : Option (ℕ × List ℕ) → Option (Option ℕ) = λ o. o >>= λ y. Some (Some y.0) in
@@ -90,15 +123,18 @@ entry_again kind cie at c f big zs rest before ranged agree has e =
     ap (λ ys. ys ++ rest) s1.whole ∙ append_assoc s1.xs s1.ys rest ∙ ap (λ ys. ys ++ (s1.ys ++ rest)) s2.whole ∙ append_assoc s2.xs s2.ys (s1.ys ++ rest) ∙ ap (λ ys. s2.xs ++ ys) ranges in
     let whole : zs ++ rest ≡ bytes =
     ap (λ ys. ys ++ rest) m.whole ∙ append_assoc (escape_of format ++ n) m.ys rest ∙ append_assoc (escape_of format) n (m.ys ++ rest) ∙ ap (λ ys. escape_of format ++ (n ++ ys)) fields in
-    let long : length bytes ≡ length_size format + length r1 = omega (arith, length-append (escape_of format) (n ++ r1), length-append n r1, length-num big (word_of format) size) in
-    let long1 : length r1 ≡ (cie_pointer kind format cie at1).piece.size + length r2 = omega (arith, length-append s2.xs r2, field_wide kind format cie at1 big s2.xs s2.first) in
-    let long2 : length r2 ≡ (range_part c f at2).piece.size + length r4 =
-    omega (arith, length-append r.xs r3, length-append r.ys r4, length-append r.xs r.ys, ap length r.whole, range_wide c f at2 big s3.xs s3.first) in
-    let here1 : place_of at bytes r1 ≡ at1 = omega (arith, long) in
-    let here2 : place_of at bytes r2 ≡ at2 = omega (arith, long, long1) in
-    let here3 : place_of at bytes r4 ≡ at3 = omega (arith, long, long1, long2) in
+    let k1 = length_size format in
+    let k2 = (cie_pointer kind format cie at1).piece.size in
+    let k3 = (range_part c f at2).piece.size in
+    let long : length bytes ≡ k1 + length r1 = long_length format n r1 (length-num big (word_of format) size) in
+    let long1 : length r1 ≡ k2 + length r2 = long_first s2.xs r2 k2 (field_wide kind format cie at1 big s2.xs s2.first) in
+    let long2 : length r2 ≡ k3 + length r4 = long_two r.xs r.ys s3.xs r4 k3 r.whole (range_wide c f at2 big s3.xs s3.first) in
+    let here1 : place_of at bytes r1 ≡ at1 = passed at (length bytes) k1 (length r1) long in
+    let here2 : place_of at bytes r2 ≡ at2 = passed_two at (length bytes) k1 k2 (length r1) (length r2) long long1 in
+    let here3 : place_of at bytes r4 ≡ at3 = passed_three at (length bytes) k1 k2 k3 (length r1) (length r2) (length r4) long long1 long2 in
+    let within : length r4 ≤ length bytes = within_three (length bytes) k1 k2 k3 (length r1) (length r2) (length r4) long long1 long2 in
     let small : r.known.number < 2 ^ 64 = subst IsShort r.known.is ranged.address in
-    let d = lsda_by c.lsda_encoding f.lsda (is_augmented c) w at at3 big s4.xs r5 bytes has agree ranged.lsda s4.first (omega (arith, long, long1, long2)) here3 in
+    let d = lsda_by c.lsda_encoding f.lsda (is_augmented c) w at at3 big s4.xs r5 bytes has agree ranged.lsda s4.first within here3 in
     let seen : FdeRead = record { cie = cie; address = r.known.number; length = f.length; lsda = d.number } in
     let f5 : ℕ → ℕ → ℕ → Option (Option ℕ) → Option FdeRead = λ q a k o. o >>= λ y. Some (record { cie = q; address = a; length = k; lsda = y }) in
     let f4 : ℕ → ℕ → Option (ℕ × List ℕ) → Option FdeRead = λ q a o. o >>= λ k. f5 q a k.0 (lsda_at big w c.lsda_encoding at bytes k.1) in
@@ -107,7 +143,7 @@ entry_again kind cie at c f big zs rest before ranged agree has e =
     let f1 : Option ((Format × ℕ) × List ℕ) → Option FdeRead = λ o. o >>= λ x. f2 (cie_field_at kind big x.0.0 (place_of at bytes x.1) x.1) in
     let read : fde_at kind big c at bytes ≡ Some seen =
     ap f1 (initial_length-again big format size r1 m.fit)
-    ∙ ap (λ p. f2 (cie_field_at kind big format p r1)) here1 ∙ ap f2 (field_again kind format cie at1 big s2.xs r2 (omega (arith, before)) s2.first)
+    ∙ ap (λ p. f2 (cie_field_at kind big format p r1)) here1 ∙ ap f2 (field_again kind format cie at1 big s2.xs r2 (later cie at k1 before) s2.first)
     ∙ ap (λ p. f3 cie (pointer_at big w encoding p r2)) here2 ∙ ap (f3 cie) (pointer-again big w encoding at2 r.known.number r.xs r3 small r.first)
     ∙ ap (f4 cie r.known.number) (data-again big w (format_of encoding) f.length r.ys r4 ranged.length r.second)
     ∙ ap (f5 cie r.known.number f.length) d.read in
@@ -121,7 +157,7 @@ agree_by false kind cie at c f big zs rest before ranged is has e =
     let s = turned (refused_if false mismatch) (entry c.encoding (fde_contents kind cie c f)) at big zs e in
     let nothing : [] ≡ s.xs = cc in
     let same : zs ≡ s.ys = s.whole ∙ ap (λ ys. ys ++ s.ys) (sym nothing) in
-    let there : IsText big (entry c.encoding (fde_contents kind cie c f) at) s.ys = subst (λ n. IsText big (entry c.encoding (fde_contents kind cie c f) n) s.ys) (omega arith) s.second in
+    let there : IsText big (entry c.encoding (fde_contents kind cie c f) at) s.ys = subst (λ n. IsText big (entry c.encoding (fde_contents kind cie c f) n) s.ys) (nothing_more at) s.second in
     subst (λ ys. ShowsFde kind big c f cie at (ys ++ rest)) (sym same) (entry_again kind cie at c f big s.ys rest before ranged is has there)
 
 augmented : (c : CommonInformationEntry) → IsTrue (is_some c.lsda_encoding) → is_augmented c ≡ true

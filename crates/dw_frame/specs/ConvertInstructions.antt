@@ -38,6 +38,29 @@ with f (Err e) = Err e
 abbrev pub register : ℕ → Register
 register n = record { 0 = n }
 
+-- an instruction without an expression, by the factor of data offsets of its CIE
+abbrev pub plain : ℤ → Instruction → Kept
+plain factor (read.SetLoc address) = Err UnsupportedCfiInstruction
+plain factor (read.DefCfa n offset) = with (built.Cfa (register n)) (in_i32 (pos offset))
+plain factor (read.DefCfaSf n factored) = with (built.Cfa (register n)) (in_i32 (factored *ℤ factor))
+plain factor (read.DefCfaRegister n) = Ok (Some (built.CfaRegister (register n)))
+plain factor (read.DefCfaOffset offset) = with built.CfaOffset (in_i32 (pos offset))
+plain factor (read.DefCfaOffsetSf factored) = with built.CfaOffset (in_i32 (factored *ℤ factor))
+plain factor (read.Undefined n) = Ok (Some (built.Undefined (register n)))
+plain factor (read.SameValue n) = Ok (Some (built.SameValue (register n)))
+plain factor (read.Offset n factored) = with (built.Offset (register n)) (in_i32 (pos factored *ℤ factor))
+plain factor (read.OffsetExtendedSf n factored) = with (built.Offset (register n)) (in_i32 (factored *ℤ factor))
+plain factor (read.ValOffset n factored) = with (built.ValOffset (register n)) (in_i32 (pos factored *ℤ factor))
+plain factor (read.ValOffsetSf n factored) = with (built.ValOffset (register n)) (in_i32 (factored *ℤ factor))
+plain factor (read.Register n m) = Ok (Some (built.Register (register n) (register m)))
+plain factor (read.Restore n) = Ok (Some (built.Restore (register n)))
+plain factor read.RememberState = Ok (Some built.RememberState)
+plain factor read.RestoreState = Ok (Some built.RestoreState)
+plain factor (read.ArgsSize size) = with built.ArgsSize (in_u32 size)
+plain factor read.NegateRaState = Ok (Some built.NegateRaState)
+-- what only moves on or pads
+plain factor i = Ok None
+
 -- By the encoding of the CIE and its factor of data offsets, where the caller is known by its answers for addresses.
 module _ (answers : ℕ → Option Address → Type 0) (big : Bool) (e : Encoding) (factor : ℤ) where
   -- the instruction with what an expression becomes
@@ -45,26 +68,7 @@ module _ (answers : ℕ → Option Address → Type 0) (big : Bool) (e : Encodin
   Holds f bytes r = Then (FrameExpression answers big e bytes) (λ x y. y ≡ Ok (Some (f x))) r
 
   abbrev pub InstructionOutcome : Instruction → Kept → Type 0
-  InstructionOutcome (read.SetLoc address) r = r ≡ Err UnsupportedCfiInstruction
-  InstructionOutcome (read.AdvanceLoc delta) r = r ≡ Ok None
-  InstructionOutcome (read.DefCfa n offset) r = r ≡ with (built.Cfa (register n)) (in_i32 (pos offset))
-  InstructionOutcome (read.DefCfaSf n factored) r = r ≡ with (built.Cfa (register n)) (in_i32 (factored *ℤ factor))
-  InstructionOutcome (read.DefCfaRegister n) r = r ≡ Ok (Some (built.CfaRegister (register n)))
-  InstructionOutcome (read.DefCfaOffset offset) r = r ≡ with built.CfaOffset (in_i32 (pos offset))
-  InstructionOutcome (read.DefCfaOffsetSf factored) r = r ≡ with built.CfaOffset (in_i32 (factored *ℤ factor))
   InstructionOutcome (read.DefCfaExpression bytes) r = Holds built.CfaExpression bytes r
-  InstructionOutcome (read.Undefined n) r = r ≡ Ok (Some (built.Undefined (register n)))
-  InstructionOutcome (read.SameValue n) r = r ≡ Ok (Some (built.SameValue (register n)))
-  InstructionOutcome (read.Offset n factored) r = r ≡ with (built.Offset (register n)) (in_i32 (pos factored *ℤ factor))
-  InstructionOutcome (read.OffsetExtendedSf n factored) r = r ≡ with (built.Offset (register n)) (in_i32 (factored *ℤ factor))
-  InstructionOutcome (read.ValOffset n factored) r = r ≡ with (built.ValOffset (register n)) (in_i32 (pos factored *ℤ factor))
-  InstructionOutcome (read.ValOffsetSf n factored) r = r ≡ with (built.ValOffset (register n)) (in_i32 (factored *ℤ factor))
-  InstructionOutcome (read.Register n m) r = r ≡ Ok (Some (built.Register (register n) (register m)))
   InstructionOutcome (read.Expression n bytes) r = Holds (built.Expression (register n)) bytes r
   InstructionOutcome (read.ValExpression n bytes) r = Holds (built.ValExpression (register n)) bytes r
-  InstructionOutcome (read.Restore n) r = r ≡ Ok (Some (built.Restore (register n)))
-  InstructionOutcome read.RememberState r = r ≡ Ok (Some built.RememberState)
-  InstructionOutcome read.RestoreState r = r ≡ Ok (Some built.RestoreState)
-  InstructionOutcome (read.ArgsSize size) r = r ≡ with built.ArgsSize (in_u32 size)
-  InstructionOutcome read.NegateRaState r = r ≡ Ok (Some built.NegateRaState)
-  InstructionOutcome read.Nop r = r ≡ Ok None
+  InstructionOutcome i r = r ≡ plain factor i

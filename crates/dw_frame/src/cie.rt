@@ -28,7 +28,7 @@ use std::alloc::Global;
 /// let mut cie = CommonInformationEntry::new(alloc, encoding, 1, -8, Register(16));
 /// cie.add_instruction(CallFrameInstruction::Cfa(Register(7), 8))?;
 /// ```
-#[derive(Debug, PartialEq, Eq, Hash, Drop)]
+#[derive(PartialEq, Eq, Hash, Drop)]
 pub struct CommonInformationEntry {
     pub(crate) encoding: Encoding,
     pub(crate) code_alignment_factor: u8,

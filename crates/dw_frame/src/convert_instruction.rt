@@ -4,11 +4,12 @@ ghost use Rattle.std.specs.Prelude.{◌≡◌, ◌⊎◌, ◌*ℤ◌, None, IfOk
 ghost use Rattle.dw_read_frames.specs.InstructionViews.{instruction_of};
 ghost use Rattle.dw_sources.specs.declared.convert_error.ConvertError.TheVariants.{NoMemory};
 ghost use Rattle.dw_read.specs.Reading.{left};
-ghost use Rattle.dw_frame.specs.ConvertInstructions.{FrameExpression, InstructionOutcome, in_i32, in_u32};
+ghost use Rattle.dw_frame.specs.ConvertInstructions.{FrameExpression, InstructionOutcome, plain, with, in_i32, in_u32};
+ghost use Rattle.dw_frame.specs.declared.instruction.CallFrameInstruction.TheVariants.{Cfa, CfaOffset, Offset, ValOffset, ArgsSize};
 ghost use Rattle.dw_frame.specs.ConvertOrders.{order_of};
 
 use crate::instruction::CallFrameInstruction;
-use dw_base::{Address, Encoding};
+use dw_base::{Address, Encoding, Register};
 use dw_convert::{NoConvertDebugInfoRef, expression};
 use dw_expr::Expression;
 use dw_read::{Expression as ReadExpression, Reader};
@@ -18,7 +19,7 @@ use dw_sources::{ConvertError, ConvertResult};
 use std::alloc::Global;
 
 /// Converts an instruction by the encoding of its CIE and the factor of data offsets; None is one
-/// that only moves on or pads. It is one match, since each instruction has a row in the table.
+/// that only moves on or pads.
 pub(crate) fn convert_instruction<R: Reader, F: Fn(u64) -> Option<Address>>(
     alloc: Global,
     instruction: ReadInstruction<R>,
@@ -35,72 +36,10 @@ pub(crate) fn convert_instruction<R: Reader, F: Fn(u64) -> Option<Address>>(
         (instruction_of R.reading instruction) (Err e)) }
 {
     match instruction {
-        ReadInstruction::SetLoc { .. } => Err(ConvertError::UnsupportedCfiInstruction),
-        ReadInstruction::AdvanceLoc { .. } => Ok(None),
-        ReadInstruction::DefCfa { register, offset } => {
-            let offset = in_i32(offset as i128)?;
-            Ok(Some(CallFrameInstruction::Cfa(register, offset)))
-        }
-        ReadInstruction::DefCfaSf {
-            register,
-            factored_offset,
-        } => {
-            let offset = multiplied(factored_offset as i128, factor)?;
-            Ok(Some(CallFrameInstruction::Cfa(register, offset)))
-        }
-        ReadInstruction::DefCfaRegister { register } => {
-            Ok(Some(CallFrameInstruction::CfaRegister(register)))
-        }
-        ReadInstruction::DefCfaOffset { offset } => {
-            let offset = in_i32(offset as i128)?;
-            Ok(Some(CallFrameInstruction::CfaOffset(offset)))
-        }
-        ReadInstruction::DefCfaOffsetSf { factored_offset } => {
-            let offset = multiplied(factored_offset as i128, factor)?;
-            Ok(Some(CallFrameInstruction::CfaOffset(offset)))
-        }
         ReadInstruction::DefCfaExpression { expression } => {
             let expression = convert_expression(alloc, expression, encoding, convert_address)?;
             Ok(Some(CallFrameInstruction::CfaExpression(expression)))
         }
-        ReadInstruction::Undefined { register } => {
-            Ok(Some(CallFrameInstruction::Undefined(register)))
-        }
-        ReadInstruction::SameValue { register } => {
-            Ok(Some(CallFrameInstruction::SameValue(register)))
-        }
-        ReadInstruction::Offset {
-            register,
-            factored_offset,
-        } => {
-            let offset = multiplied(factored_offset as i128, factor)?;
-            Ok(Some(CallFrameInstruction::Offset(register, offset)))
-        }
-        ReadInstruction::OffsetExtendedSf {
-            register,
-            factored_offset,
-        } => {
-            let offset = multiplied(factored_offset as i128, factor)?;
-            Ok(Some(CallFrameInstruction::Offset(register, offset)))
-        }
-        ReadInstruction::ValOffset {
-            register,
-            factored_offset,
-        } => {
-            let offset = multiplied(factored_offset as i128, factor)?;
-            Ok(Some(CallFrameInstruction::ValOffset(register, offset)))
-        }
-        ReadInstruction::ValOffsetSf {
-            register,
-            factored_offset,
-        } => {
-            let offset = multiplied(factored_offset as i128, factor)?;
-            Ok(Some(CallFrameInstruction::ValOffset(register, offset)))
-        }
-        ReadInstruction::Register {
-            dest_register,
-            src_register,
-        } => Ok(Some(CallFrameInstruction::Register(dest_register, src_register))),
         ReadInstruction::Expression {
             register,
             expression,
@@ -115,15 +54,128 @@ pub(crate) fn convert_instruction<R: Reader, F: Fn(u64) -> Option<Address>>(
             let expression = convert_expression(alloc, expression, encoding, convert_address)?;
             Ok(Some(CallFrameInstruction::ValExpression(register, expression)))
         }
-        ReadInstruction::Restore { register } => Ok(Some(CallFrameInstruction::Restore(register))),
+        other => {
+            let kept = convert_plain(&other, factor)?;
+            Ok(kept)
+        }
+    }
+}
+
+/// Converts an instruction without an expression; None is one that only moves on or pads. It is one
+/// match, since each instruction has a row in the table.
+fn convert_plain<R: Reader>(
+    instruction: &ReadInstruction<R>,
+    factor: i64,
+) -> ConvertResult<Option<CallFrameInstruction>>
+    ensures { result ≡ plain factor (instruction_of R.reading instruction.now) }
+{
+    match instruction {
+        ReadInstruction::SetLoc { .. } => Err(ConvertError::UnsupportedCfiInstruction),
+        ReadInstruction::DefCfa { register, offset } => { cfa(*register, in_i32(*offset as i128)) }
+        ReadInstruction::DefCfaSf {
+            register,
+            factored_offset,
+        } => cfa(*register, multiplied(*factored_offset as i128, factor)),
+        ReadInstruction::DefCfaRegister { register } => {
+            Ok(Some(CallFrameInstruction::CfaRegister(*register)))
+        }
+        ReadInstruction::DefCfaOffset { offset } => cfa_offset(in_i32(*offset as i128)),
+        ReadInstruction::DefCfaOffsetSf { factored_offset } => {
+            cfa_offset(multiplied(*factored_offset as i128, factor))
+        }
+        ReadInstruction::Undefined { register } => {
+            Ok(Some(CallFrameInstruction::Undefined(*register)))
+        }
+        ReadInstruction::SameValue { register } => {
+            Ok(Some(CallFrameInstruction::SameValue(*register)))
+        }
+        ReadInstruction::Offset {
+            register,
+            factored_offset,
+        } => saved(*register, multiplied(*factored_offset as i128, factor)),
+        ReadInstruction::OffsetExtendedSf {
+            register,
+            factored_offset,
+        } => saved(*register, multiplied(*factored_offset as i128, factor)),
+        ReadInstruction::ValOffset {
+            register,
+            factored_offset,
+        } => valued(*register, multiplied(*factored_offset as i128, factor)),
+        ReadInstruction::ValOffsetSf {
+            register,
+            factored_offset,
+        } => valued(*register, multiplied(*factored_offset as i128, factor)),
+        ReadInstruction::Register {
+            dest_register,
+            src_register,
+        } => Ok(Some(CallFrameInstruction::Register(*dest_register, *src_register))),
+        ReadInstruction::Restore { register } => {
+            Ok(Some(CallFrameInstruction::Restore(*register)))
+        }
         ReadInstruction::RememberState => Ok(Some(CallFrameInstruction::RememberState)),
         ReadInstruction::RestoreState => Ok(Some(CallFrameInstruction::RestoreState)),
-        ReadInstruction::ArgsSize { size } => {
-            let size = in_u32(size)?;
-            Ok(Some(CallFrameInstruction::ArgsSize(size)))
-        }
+        ReadInstruction::ArgsSize { size } => args_size(in_u32(*size)),
         ReadInstruction::NegateRaState => Ok(Some(CallFrameInstruction::NegateRaState)),
-        ReadInstruction::Nop => Ok(None),
+        _ => Ok(None),
+    }
+}
+
+/// The frame's address is at an offset from a register, if that fits.
+fn cfa(
+    register: Register,
+    offset: ConvertResult<i32>,
+) -> ConvertResult<Option<CallFrameInstruction>>
+    ensures { result ≡ with (Cfa register) offset }
+{
+    match offset {
+        Ok(offset) => Ok(Some(CallFrameInstruction::Cfa(register, offset))),
+        Err(error) => Err(error),
+    }
+}
+
+/// The frame's address is at another offset, if that fits.
+fn cfa_offset(offset: ConvertResult<i32>) -> ConvertResult<Option<CallFrameInstruction>>
+    ensures { result ≡ with CfaOffset offset }
+{
+    match offset {
+        Ok(offset) => Ok(Some(CallFrameInstruction::CfaOffset(offset))),
+        Err(error) => Err(error),
+    }
+}
+
+/// A register is saved at an offset, if that fits.
+fn saved(
+    register: Register,
+    offset: ConvertResult<i32>,
+) -> ConvertResult<Option<CallFrameInstruction>>
+    ensures { result ≡ with (Offset register) offset }
+{
+    match offset {
+        Ok(offset) => Ok(Some(CallFrameInstruction::Offset(register, offset))),
+        Err(error) => Err(error),
+    }
+}
+
+/// A register's value is at an offset, if that fits.
+fn valued(
+    register: Register,
+    offset: ConvertResult<i32>,
+) -> ConvertResult<Option<CallFrameInstruction>>
+    ensures { result ≡ with (ValOffset register) offset }
+{
+    match offset {
+        Ok(offset) => Ok(Some(CallFrameInstruction::ValOffset(register, offset))),
+        Err(error) => Err(error),
+    }
+}
+
+/// The bytes of arguments, if their number fits.
+fn args_size(size: ConvertResult<u32>) -> ConvertResult<Option<CallFrameInstruction>>
+    ensures { result ≡ with ArgsSize size }
+{
+    match size {
+        Ok(size) => Ok(Some(CallFrameInstruction::ArgsSize(size))),
+        Err(error) => Err(error),
     }
 }
 

@@ -17,7 +17,7 @@ use dw_writer::Writer;
 /// fde.add_instruction(4, CallFrameInstruction::CfaOffset(16))?;
 /// fde.add_instruction(4, CallFrameInstruction::Offset(Register(16), -8))?;
 /// ```
-#[derive(Debug, PartialEq, Eq, Hash, Drop)]
+#[derive(PartialEq, Eq, Hash, Drop)]
 pub enum CallFrameInstruction {
     /// The frame's address is a register plus an offset (6.4.2.2).
     Cfa(Register, i32),

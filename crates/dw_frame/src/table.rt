@@ -22,7 +22,7 @@ use std::alloc::Global;
 /// frames.add_fde(cie, fde)?;
 /// frames.write_eh_frame(&mut EhFrame(EndianVec::new(alloc, RunTimeEndian::Little)))?;
 /// ```
-#[derive(Debug, Drop)]
+#[derive(Drop)]
 pub struct FrameTable {
     cies: IndexSet<CommonInformationEntry>,
     fdes: Vec<(CieId, FrameDescriptionEntry)>,

@@ -4,7 +4,7 @@ use crate::error::LinkError;
 use dw_base::SectionId;
 
 /// What is wrong with a relocation. Where several stand, the first of them is answered.
-#[derive(Clone, Copy, Debug, PartialEq, Eq)]
+#[derive(Clone, Copy)]
 pub enum Fault {
     PointerEncoding,
     RecordOutOfPlace,
