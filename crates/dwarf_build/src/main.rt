@@ -1,37 +1,11 @@
 //! Builds DWARF from a script, one file or several that are linked, or converts that of a listing,
-//! and lists it; or generates it, and tells how much it is.
+//! and lists it; or generates it, and tells how much it is. All that it does is `dw_program`'s.
 #![tactic(auto)]
-
-mod answer;
-#[cfg(test)]
-mod case_tests;
-mod command;
-mod convert;
-#[cfg(test)]
-mod converted_names;
-#[cfg(test)]
-mod converted_tests;
-#[cfg(test)]
-mod generated_tests;
-mod link;
-#[cfg(test)]
-mod make_tests;
-pub mod run;
-mod status;
-mod summary;
-#[cfg(test)]
-mod tests;
-mod write;
 
 ghost use Rattle.std.specs.Prelude.{◌≡◌, ◌⊎◌, IfErr};
 
-use crate::run::end;
-use crate::status::Status;
-pub use dw_ends::{
-    EndError, Failed, FailingSink, FailingSource, LineError, Listing, ListingReader, Reason, Sink,
-    SinkError, SliceSource, Source, StdinSource, StdoutSink, VecSink, listing_text, number,
-    read_all, write_all,
-};
+use dw_program::run::end;
+use dw_program::{Status, StdinSource, StdoutSink};
 use std::env;
 use std::io::{self, ErrorKind};
 use std::process::ExitCode;

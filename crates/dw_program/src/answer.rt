@@ -1,0 +1,212 @@
+//! What the program answers: a status and the text that goes with it.
+
+ghost use Rattle.std.specs.Prelude.{◌≡◌, ◌≢◌, ◌+◌, ◌≤◌, length, map, IfOk, IfErr, IfSome, string_bytes};
+ghost use Rattle.dw_base.specs.declared.error.Error.TheVariants.{NoMemory};
+ghost use Rattle.dw_ends.specs.Numbers.{number_below};
+ghost use Rattle.dw_dwarf.specs.DwarfValue.{dwarf_in};
+ghost use Rattle.dw_dwarf.specs.Valid.{AreUnwritten};
+ghost use Rattle.dw_program.specs.Listed.{SaysOfDwarf};
+ghost use Rattle.dw_make.specs.Generated.{most_variables};
+ghost use Rattle.dw_program.specs.Answers.{LeavesUnread, Says, SaysOfBytes, SaysOfInput, SaysMade, Reads, ReadsInput, StopsFor, StopsReading, made_of};
+ghost use Rattle.dw_program.specs.Texts.{refusal_text, refused_text};
+
+use crate::command::Reading;
+use crate::convert::convert_listing;
+use crate::link::link_script;
+use crate::status::Status;
+use crate::summary::{Counts, summarize};
+use crate::write::write_new;
+use dw_base::{Error, RunTimeEndian};
+use dw_build::{Refusal, SCRIPT_LIMIT, ScriptError, read_script};
+use dw_dwarf::Dwarf;
+use dw_ends::{EndError, Source, listing_text, read_all};
+use dw_make::{MOST_VARIABLES, generate};
+use dw_script::parse_u64;
+use dw_writer::Section;
+use std::alloc::{AllocError, Global};
+
+/// The commands.
+const USAGE: &[u8] = b"usage: build | convert | link | make N\n";
+
+/// A status and the text that goes with it.
+#[derive(Drop)]
+pub struct Answer {
+    pub status: Status,
+    pub text: Vec<u8>,
+}
+
+/// Why there is no answer.
+#[derive(Clone, Copy, Debug, PartialEq, Eq)]
+pub enum Stop {
+    SourceFailed,
+    NoMemory,
+}
+
+impl From<AllocError> for Stop {
+    ghost use Rattle.dw_program.specs.declared.answer.Stop.TheVariants.{NoMemory};
+
+    ghost from_gives = { λ _ s. s ≡ NoMemory };
+
+    fn from(_error: AllocError) -> Stop {
+        Stop::NoMemory
+    }
+}
+
+// How many variables the words ask for, where they are the command `make` and a number.
+fn count_to_make(words: &Vec<String>) -> Option<u64>
+    ensures asked { result ≡ made_of (map string_bytes words.now.items) }
+    ensures few { IfSome result (λ n. n ≤ MOST_VARIABLES) }
+{
+    match words.as_slice() {
+        [word, field] if word.as_str() == "make" => variable_count(field.as_bytes()),
+        _ => None,
+    }
+}
+
+// The number that a field spells, if `make` generates as many variables.
+fn variable_count(field: &[u8]) -> Option<u64>
+    ensures asked { result ≡ number_below (most_variables + 1) field.now }
+    ensures few { IfSome result (λ n. n ≤ MOST_VARIABLES) }
+{
+    match parse_u64(field) {
+        Some(count) if count <= MOST_VARIABLES => Some(count),
+        _ => None,
+    }
+}
+
+/// An answer with this text.
+pub(crate) fn answer_with(alloc: Global, status: Status, text: &[u8]) -> Result<Answer, AllocError>
+    ensures { IfOk result (λ a. (a.status ≡ status) × (a.text.items ≡ text.now)) }
+{
+    Ok(Answer {
+        status,
+        text: Vec::from_slice(alloc, text)?,
+    })
+}
+
+/// The line of the script or the listing that is refused, and why.
+pub(crate) fn answer_refusal(alloc: Global, refusal: Refusal) -> Result<Answer, AllocError>
+    ensures { IfOk result (λ a.
+        (a.status ≡ Status.ScriptRefused) × (a.text.items ≡ refusal_text refusal)) }
+{
+    let line = refusal.line;
+    let reason = refusal.reason.text();
+    let text = format!(in alloc; "line {line}: {reason}\n")?;
+    answer_with(alloc, Status::ScriptRefused, text.as_bytes())
+}
+
+/// Why writing was refused. Want of memory is no refusal of what was built.
+pub(crate) fn answer_write_refusal(alloc: Global, error: Error) -> Result<Answer, AllocError>
+    ensures says { IfOk result (λ a.
+        (a.status ≡ Status.WriteRefused) × (a.text.items ≡ refused_text error)) }
+    ensures other { IfOk result (λ _. error ≢ NoMemory) }
+{
+    if error == Error::NoMemory {
+        return Err(AllocError);
+    }
+    let name = error.name();
+    let text = format!(in alloc; "refused: {name}\n")?;
+    answer_with(alloc, Status::WriteRefused, text.as_bytes())
+}
+
+/// Writes what was built into new sections of a byte order, and lists them.
+pub(crate) fn answer_dwarf(
+    alloc: Global,
+    endian: RunTimeEndian,
+    mut dwarf: Dwarf,
+) -> Result<Answer, AllocError>
+    requires { AreUnwritten (dwarf_in dwarf) }
+    ensures { IfOk result (λ a. SaysOfDwarf endian (dwarf_in dwarf) a.status a.text.items) }
+{
+    match write_new(alloc, endian, &mut dwarf) {
+        Ok(sections) => {
+            let text = listing_text(alloc, &sections)?;
+            Ok(Answer {
+                status: Status::Listed,
+                text,
+            })
+        }
+        Err(error) => answer_write_refusal(alloc, error),
+    }
+}
+
+// Builds the script and writes what it has built.
+fn build(alloc: Global, bytes: &[u8]) -> Result<Answer, AllocError>
+    requires { length bytes.now ≤ SCRIPT_LIMIT }
+    ensures { IfOk result (λ a. SaysOfBytes Reading.Build bytes.now a.status a.text.items) }
+{
+    match read_script(alloc, bytes) {
+        Ok(script) => answer_dwarf(alloc, script.endian, script.dwarf),
+        Err(ScriptError::Refused(found)) => answer_refusal(alloc, found),
+        Err(ScriptError::NoMemory) => Err(AllocError),
+    }
+}
+
+// What a command answers to bytes that were read.
+fn answer_bytes(alloc: Global, reading: Reading, bytes: &[u8]) -> Result<Answer, AllocError>
+    requires { length bytes.now ≤ SCRIPT_LIMIT }
+    ensures { IfOk result (λ a. SaysOfBytes reading bytes.now a.status a.text.items) }
+{
+    match reading {
+        Reading::Build => build(alloc, bytes),
+        Reading::Convert => convert_listing(alloc, bytes),
+        Reading::Link => link_script(alloc, bytes),
+    }
+}
+
+// Generates so many variables, writes them, and tells what was written. What is generated is
+// valid, so that only memory can lack.
+fn answer_make(alloc: Global, count: u64) -> Result<Answer, Error>
+    requires { count ≤ MOST_VARIABLES }
+    ensures ok { IfOk result (λ a. (a.status ≡ Status.Listed) × SaysMade count a.text.items) }
+    ensures err { IfErr result (λ e. e ≡ NoMemory) }
+{
+    let mut dwarf = generate(alloc, count)?;
+    let counts = Counts::of(&dwarf.units);
+    let sections = write_new(alloc, RunTimeEndian::Little, &mut dwarf)?;
+    let info = sections.debug_info.section().slice();
+    let abbrev = sections.debug_abbrev.section().slice();
+    let text = summarize(alloc, counts, info, abbrev)?;
+    Ok(answer_with(alloc, Status::Listed, text.as_bytes())?)
+}
+
+// What a command answers to its input.
+fn answer_input<S: Source>(alloc: Global, reading: Reading, source: &mut S) -> Result<Answer, Stop>
+    ensures ok { IfOk result (λ a.
+        SaysOfInput reading (S.input source.old).left a.status a.text.items) }
+    ensures reads { IfOk result (λ a.
+        ReadsInput (S.input source.old) (S.input source.new) a.status) }
+    ensures err { IfErr result (StopsReading (S.input source.old) (S.input source.new)) }
+    ensures faults { (S.input source.old).faults ≤ (S.input source.new).faults }
+{
+    match read_all(alloc, source) {
+        Ok(bytes) => Ok(answer_bytes(alloc, reading, bytes.as_slice())?),
+        Err(EndError::TooLong) => Ok(answer_with(alloc, Status::TooLong, b"too long\n")?),
+        Err(EndError::Failed) => Err(Stop::SourceFailed),
+        Err(EndError::NoMemory) => Err(Stop::NoMemory),
+    }
+}
+
+/// What the program answers to these words and this input, before anything is printed.
+pub fn answer_to<S: Source>(
+    alloc: Global,
+    words: &Vec<String>,
+    source: &mut S,
+) -> Result<Answer, Stop>
+    ensures ok { IfOk result (λ a.
+        Says (map string_bytes words.now.items) (S.input source.old).left a.status a.text.items) }
+    ensures reads { IfOk result (λ a. Reads (map string_bytes words.now.items)
+        (S.input source.old) (S.input source.new) a.status) }
+    ensures err { IfErr result (StopsFor (map string_bytes words.now.items)
+        (S.input source.old) (S.input source.new)) }
+    ensures unread { LeavesUnread (map string_bytes words.now.items) source.old source.new }
+    ensures faults { (S.input source.old).faults ≤ (S.input source.new).faults }
+{
+    if let Some(reading) = Reading::of(words) {
+        return answer_input(alloc, reading, source);
+    }
+    match count_to_make(words) {
+        Some(count) => answer_make(alloc, count).map_err(|_| Stop::NoMemory),
+        None => Ok(answer_with(alloc, Status::Usage, USAGE)?),
+    }
+}

@@ -1,0 +1,77 @@
+//! The program over any words, source and sink.
+
+ghost use Rattle.std.specs.Prelude.{◌≡◌, ◌≤◌, map, string_bytes, MatchResult};
+ghost use Rattle.std.specs.Process.{exit_status};
+ghost use Rattle.dw_program.specs.Answers.{ConvertsValid, LeavesUnread, LinksValid, ListsValid, MakesNumbers, RunAnswers, Prints};
+
+use crate::answer::{Answer, Stop, answer_to};
+use crate::status::Status;
+use dw_ends::{Sink, SinkError, Source, write_all};
+use std::alloc::Global;
+use std::process::ExitCode;
+
+// Prints an answer's text, and answers its status where the sink takes the text whole.
+fn print<K: Sink>(answer: &Answer, sink: &mut K) -> Status
+    ensures prints { Prints answer.now.status answer.now.text.items
+        (K.intake sink.old) (K.intake sink.new) result }
+    ensures faults { (K.intake sink.old).faults ≤ (K.intake sink.new).faults }
+{
+    match write_all(sink, answer.text.as_slice()) {
+        Ok(()) => answer.status,
+        Err(SinkError::Failed) => Status::SinkFailed,
+        Err(SinkError::NoMemory) => Status::NoMemory,
+    }
+}
+
+/// Does what the words ask for with the source's bytes, prints to the sink, and answers the exit
+/// status: 0 a listing or a summary, 1 words that are no command, 2 a script or a listing that is
+/// refused, 3 DWARF that can't be converted, written or linked, 4 a source that failed, 5 a sink
+/// that failed, 6 want of memory, 7 more input than 16,777,216 bytes. The input is read whole
+/// first; then it is parsed, converted, written and printed.
+pub fn run<S: Source, K: Sink>(
+    alloc: Global,
+    words: &Vec<String>,
+    source: &mut S,
+    sink: &mut K,
+) -> u8
+    ensures answers { RunAnswers (map string_bytes words.now.items)
+        (S.input source.old) (S.input source.new) (K.intake sink.old) (K.intake sink.new) result }
+    ensures complete { ListsValid (map string_bytes words.now.items)
+        (S.input source.old) (S.input source.new) (K.intake sink.old) (K.intake sink.new) result }
+    ensures converts { ConvertsValid (map string_bytes words.now.items)
+        (S.input source.old) (S.input source.new) (K.intake sink.old) (K.intake sink.new) result }
+    ensures links { LinksValid (map string_bytes words.now.items)
+        (S.input source.old) (S.input source.new) (K.intake sink.old) (K.intake sink.new) result }
+    ensures makes { MakesNumbers (map string_bytes words.now.items)
+        (K.intake sink.old) (K.intake sink.new) result }
+    ensures unread { LeavesUnread (map string_bytes words.now.items) source.old source.new }
+    ensures source_faults { (S.input source.old).faults ≤ (S.input source.new).faults }
+    ensures sink_faults { (K.intake sink.old).faults ≤ (K.intake sink.new).faults }
+{
+    let status = match answer_to(alloc, words, source) {
+        Ok(answer) => print(&answer, sink),
+        Err(Stop::SourceFailed) => Status::SourceFailed,
+        Err(Stop::NoMemory) => Status::NoMemory,
+    };
+    status.code()
+}
+
+/// Runs the program over the words, and ends it with the exit status that `run` answers; where the
+/// words couldn't be had, with the status that stands in their place.
+pub fn end<S: Source, K: Sink>(
+    alloc: Global,
+    words: Result<Vec<String>, u8>,
+    source: &mut S,
+    sink: &mut K,
+) -> ExitCode
+    ensures answers { MatchResult words
+        (λ ws. RunAnswers (map string_bytes ws.items)
+        (S.input source.old) (S.input source.new) (K.intake sink.old) (K.intake sink.new)
+        (exit_status result))
+        (λ status. exit_status result ≡ status) }
+{
+    match words {
+        Ok(words) => ExitCode::from(run(alloc, &words, source, sink)),
+        Err(status) => ExitCode::from(status),
+    }
+}

@@ -1,0 +1,67 @@
+//! A listing that is converted to itself, and is too long to be written down.
+
+use crate::runs::words_of;
+use dw_program::run::run;
+use dw_program::{SliceSource, VecSink};
+use std::alloc::{AllocError, Global};
+use std::fmt::Write;
+use std::test::Fail;
+
+/// The status of `convert` over a listing, and whether it prints this one.
+pub fn converted(alloc: Global, input: &str, listing: &str) -> Result<(u8, bool), AllocError> {
+    let words = words_of(alloc, "convert")?;
+    let mut sink = VecSink::new(alloc);
+    let mut source = SliceSource::new(input.as_bytes());
+    let status = run(alloc, &words, &mut source, &mut sink);
+    Ok((status, sink.slice() == listing.as_bytes()))
+}
+
+/// The listing, as it is printed, of abbreviations, strings and units.
+pub fn listing_of(
+    alloc: Global,
+    order: &str,
+    (abbrev, strings, info): (&str, &str, &str),
+) -> Result<String, AllocError> {
+    let abbrev_size = abbrev.len() / 2;
+    let string_size = strings.len() / 2;
+    let info_size = info.len() / 2;
+    let blank = if strings.is_empty() { "" } else { " " };
+    format!(in alloc;
+        "order {order}
+.debug_abbrev {abbrev_size} {abbrev}
+.debug_str {string_size}{blank}{strings}
+.debug_line_str 0
+.debug_line 0
+.debug_ranges 0
+.debug_rnglists 0
+.debug_loc 0
+.debug_loclists 0
+.debug_info {info_size} {info}
+.debug_frame 0
+.eh_frame 0
+"
+    )
+}
+
+/// Variables of 5 bytes each, from 13 on, each of which has the next one for its type, and the last
+/// one the first: 500,010 bytes stand behind the length, which is 0x7a12a.
+fn circle(alloc: Global) -> Result<String, AllocError> {
+    let mut info = String::from_str(alloc, "0007a12a000501080000000001")?;
+    let mut place = 13_u32;
+    for _ in 1..100_000 {
+        place = place.wrapping_add(5);
+        write!(info, "02{place:08x}")?;
+    }
+    info.push_str("020000000d00")?;
+    Ok(info)
+}
+
+#[test]
+fn converts_a_long_circle(rt: HostRuntime) -> Result<(), Fail> {
+    let info = circle(rt.alloc())?;
+    let sections = ("01110100000234004913000000", "", info.as_str());
+    let listing = listing_of(rt.alloc(), "big", sections)?;
+    let converted = converted(rt.alloc(), listing.as_str(), listing.as_str())?;
+    assert_eq!(rt; converted, (0, true));
+    Ok(())
+}

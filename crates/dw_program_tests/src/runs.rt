@@ -1,0 +1,196 @@
+//! Runs whose source or sink fails, and those of `make N`, which read nothing.
+
+use dw_program::run::run;
+use dw_program::{FailingSink, FailingSource, SliceSource, StdoutSink, VecSink};
+use std::alloc::{AllocError, Global};
+use std::fmt::Write;
+use std::test::Fail;
+
+/// The words, divided by commas, the number of the read that fails, and the status and the text.
+type Row = (&'static str, u64, &'static str);
+
+/// What is told of words that are no command.
+const USAGE: &str = "1 usage: build | convert | link | make N\n";
+
+/// What is printed for a unit without entries.
+const UNIT: &str = "0 order little
+.debug_abbrev 6 011100000000
+.debug_str 0
+.debug_line_str 0
+.debug_line 0
+.debug_ranges 0
+.debug_rnglists 0
+.debug_loc 0
+.debug_loclists 0
+.debug_info 13 09000000050001080000000001
+.debug_frame 0
+.eh_frame 0
+";
+
+/// Words that are no command leave the source alone, and so does `make`, whose summaries a model
+/// of the standard gives, apart from this program (DWARF 5, 7.5). The other commands read up to the
+/// end, which the third read finds.
+const ROWS: [Row; 35] = [
+    ("", 0, USAGE),
+    ("build,build", 0, USAGE),
+    (",build", 0, USAGE),
+    ("Build", 0, USAGE),
+    ("Link", 0, USAGE),
+    ("link,link", 0, USAGE),
+    ("Convert", 0, USAGE),
+    ("make", 0, USAGE),
+    ("make,5,5", 0, USAGE),
+    ("make,", 0, USAGE),
+    ("make,x", 0, USAGE),
+    ("make,-1", 0, USAGE),
+    ("make,+1", 0, USAGE),
+    ("make,1 ", 0, USAGE),
+    ("make,0x", 0, USAGE),
+    ("make,0X1", 0, USAGE),
+    ("make,1000001", 0, USAGE),
+    ("make,0xf4241", 0, USAGE),
+    ("make,18446744073709551617", 0, USAGE),
+    (
+        "make,0",
+        0,
+        "0 units 1 entries 2 info 16 abbrev 13 sum 33\n",
+    ),
+    (
+        "make,1",
+        0,
+        "0 units 1 entries 3 info 26 abbrev 24 sum 71\n",
+    ),
+    (
+        "make,2",
+        0,
+        "0 units 1 entries 4 info 32 abbrev 33 sum 95\n",
+    ),
+    (
+        "make,0x1",
+        0,
+        "0 units 1 entries 3 info 26 abbrev 24 sum 71\n",
+    ),
+    (
+        "make,002",
+        0,
+        "0 units 1 entries 4 info 32 abbrev 33 sum 95\n",
+    ),
+    (
+        "make,101",
+        0,
+        "0 units 1 entries 103 info 630 abbrev 33 sum 6926\n",
+    ),
+    (
+        "make,999",
+        0,
+        "0 units 1 entries 1001 info 6921 abbrev 33 sum 194192\n",
+    ),
+    (
+        "make,1000",
+        0,
+        "0 units 2 entries 1004 info 6944 abbrev 46 sum 194520\n",
+    ),
+    (
+        "make,0x3e9",
+        0,
+        "0 units 2 entries 1005 info 6955 abbrev 57 sum 194798\n",
+    ),
+    (
+        "make,12345",
+        0,
+        "0 units 13 entries 12371 info 86991 abbrev 429 sum 3149637\n",
+    ),
+    (
+        "make,100000",
+        0,
+        "0 units 101 entries 100202 info 789104 abbrev 3313 sum 38085369\n",
+    ),
+    ("build", 0, "4 "),
+    ("build", 1, "4 "),
+    ("convert", 1, "4 "),
+    ("link", 1, "4 "),
+    ("build", 2, UNIT),
+];
+
+fn rows() -> &'static [Row] {
+    &ROWS
+}
+
+/// The words between commas.
+pub fn words_of(alloc: Global, text: &str) -> Result<Vec<String>, AllocError> {
+    let mut words = Vec::new(alloc);
+    for word in text.split(',') {
+        words.push(String::from_str(alloc, word)?)?;
+    }
+    Ok(words)
+}
+
+/// What a run prints behind its status, where this read of the source fails.
+fn shown(alloc: Global, words: &Vec<String>, call: u64) -> Result<String, AllocError> {
+    let mut failing = Vec::new(alloc);
+    failing.push(call)?;
+    let mut source = FailingSource::new(b"unit 5 8 32", failing);
+    let mut sink = VecSink::new(alloc);
+    let status = run(alloc, words, &mut source, &mut sink);
+    let text = String::from_utf8_lossy(alloc, sink.slice())?;
+    format!(in alloc; "{status} {text}")
+}
+
+#[test]
+fn reads_what_words_ask_for(rt: HostRuntime) -> Result<(), Fail> {
+    for (words, call, want) in rows() {
+        let text = shown(rt.alloc(), &words_of(rt.alloc(), words)?, *call)?;
+        assert_eq!(rt; text.as_str(), *want, "at {words}");
+    }
+    Ok(())
+}
+
+#[test]
+fn tells_the_usage_of_no_words(rt: HostRuntime) -> Result<(), Fail> {
+    let text = shown(rt.alloc(), &Vec::new(rt.alloc()), 0)?;
+    assert_eq!(rt; text.as_str(), USAGE);
+    Ok(())
+}
+
+#[test]
+fn tells_a_failed_sink(rt: HostRuntime) -> Result<(), Fail> {
+    for text in ["build", "make,0"] {
+        let words = words_of(rt.alloc(), text)?;
+        let mut sink = FailingSink::new(rt.alloc(), vec![in rt.alloc(); 0]?);
+        let mut source = SliceSource::new(b"unit 5 8 32");
+        assert_eq!(rt; run(rt.alloc(), &words, &mut source, &mut sink), 5);
+        assert!(rt; sink.slice().is_empty());
+    }
+    Ok(())
+}
+
+/// A writer that has room for a front of the text, and then takes nothing.
+#[test]
+fn tells_a_sink_that_is_full(rt: HostRuntime) -> Result<(), Fail> {
+    let words = words_of(rt.alloc(), "build")?;
+    let mut room = [0; 20];
+    let mut sink = StdoutSink::new(room.as_mut_slice());
+    let mut source = SliceSource::new(b"unit 5 8 32");
+    assert_eq!(rt; run(rt.alloc(), &words, &mut source, &mut sink), 5);
+    assert_eq!(rt; room.as_slice(), b"order little\n.debug_".as_slice());
+    Ok(())
+}
+
+/// Empty lines, as many as are read, and one more.
+#[test]
+fn reads_no_more_than_the_limit(rt: HostRuntime) -> Result<(), Fail> {
+    let words = words_of(rt.alloc(), "build")?;
+    let lines = vec![in rt.alloc(); b'\n'; 16_777_217]?;
+    for (first, want) in [(1, 0), (0, 7)] {
+        let mut source = SliceSource::new(&lines.as_slice()[first..]);
+        let mut sink = VecSink::new(rt.alloc());
+        let status = run(rt.alloc(), &words, &mut source, &mut sink);
+        assert_eq!(rt; status, want, "from {first}");
+        assert_eq!(rt;
+            sink.slice() == b"too long\n".as_slice(),
+            want == 7,
+            "from {first}"
+        );
+    }
+    Ok(())
+}
