@@ -13,7 +13,7 @@ use std::marker::Model;
 const NO_BYTES: &[u8] = b"-";
 
 /// Bytes as a line spells them, so that a line is read without memory.
-#[derive(Debug, Drop)]
+#[derive(Drop)]
 pub struct HexBytes<'a> {
     digits: &'a [u8],
 }

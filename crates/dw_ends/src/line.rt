@@ -35,7 +35,7 @@ const LISTED_SECTIONS: [SectionId; SECTION_COUNT] = [
 ];
 
 /// What a line of a listing says.
-#[derive(Debug, Drop)]
+#[derive(Drop)]
 pub(crate) enum Line<'a> {
     /// The byte order of the sections.
     Order(RunTimeEndian),

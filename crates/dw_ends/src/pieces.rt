@@ -6,7 +6,7 @@ ghost use Rattle.dw_ends.specs.Pieces.{pieces, pieces_after, pieces_left};
 
 /// The pieces of bytes between separators, from the first on; n separators give n + 1 pieces, some
 /// of them empty. Cut at `:`, `1:-4` has the pieces `1` and `-4`.
-#[derive(Clone, Copy, Debug)]
+#[derive(Clone, Copy)]
 pub struct Pieces<'a> {
     separator: u8,
     rest: Option<&'a [u8]>,

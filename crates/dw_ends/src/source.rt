@@ -42,7 +42,7 @@ fn copy_front(bytes: &[u8], buffer: &mut [u8]) -> usize
 }
 
 /// The bytes of a slice. It never fails.
-#[derive(Clone, Copy, Debug)]
+#[derive(Clone, Copy)]
 pub struct SliceSource<'a> {
     rest: &'a [u8],
 }

@@ -4,7 +4,7 @@ use dw_base::{DwAt, DwTag};
 use dw_script_fields::Value;
 
 /// A change of a unit's entries.
-#[derive(Debug, Drop)]
+#[derive(Drop)]
 pub enum Change<'a> {
     /// A new entry, the last child of another.
     Add {

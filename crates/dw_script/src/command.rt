@@ -7,7 +7,7 @@ use dw_ends::HexBytes;
 use dw_script_fields::{LocationFields, RangeFields};
 
 /// One line's request.
-#[derive(Debug, Drop)]
+#[derive(Drop)]
 pub enum Command<'a> {
     /// The byte order of everything that is written.
     Order(RunTimeEndian),

@@ -5,7 +5,7 @@ use dw_ends::HexBytes;
 
 /// A change of a unit's line program (DWARF 5, 6.2). Offsets are counted in bytes from the address
 /// of their sequence.
-#[derive(Debug, Drop)]
+#[derive(Drop)]
 pub enum LineChange<'a> {
     /// A new line program, with this working directory.
     New(LineText<'a>),
@@ -32,7 +32,7 @@ pub enum LineChange<'a> {
 }
 
 /// The name of a directory or a file of a line program (DWARF 5, 6.2.4.1).
-#[derive(Debug, Drop)]
+#[derive(Drop)]
 pub enum LineText<'a> {
     /// The name's bytes.
     String(HexBytes<'a>),

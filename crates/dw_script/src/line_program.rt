@@ -3,12 +3,19 @@
 ghost use Rattle.std.specs.Prelude.{◌≡◌};
 ghost use Rattle.dw_ends.specs.Pieces.{pieces_left};
 ghost use Rattle.dw_ends.specs.Fields.{with_rest};
-ghost use Rattle.dw_script.specs.LinePrograms.{directory_line, end_line, file_line, line_program_line, line_text_field, row_line, sequence_line};
+ghost use Rattle.dw_script.specs.LinePrograms.{directory_line, end_line, file_line, line_program_line, line_text_field, row_line, sequence_line, text_of_word};
 
 use crate::command::Command;
 use crate::line_change::{LineChange, LineText};
 use dw_ends::{Pieces, Reason, expect_end, next_field, next_u64};
 use dw_script_fields::{next_address_or_none, next_hex_bytes, next_usize};
+
+// How a name is told: by its bytes, or by the index of a string.
+const TEXT: &[u8] = b"text";
+
+const STRING: &[u8] = b"str";
+
+const LINE_STRING: &[u8] = b"line_str";
 
 /// The fields after `line`.
 pub(crate) fn parse_line_program<'a>(fields: &mut Pieces<'a>) -> Result<Command<'a>, Reason>
@@ -91,11 +98,22 @@ fn next_line_text<'a>(fields: &mut Pieces<'a>) -> Result<LineText<'a>, Reason>
     ensures { with_rest result (pieces_left fields.new) ≡
         line_text_field (pieces_left fields.old) }
 {
-    let text = match next_field(fields)? {
-        b"text" => LineText::String(next_hex_bytes(fields)?),
-        b"str" => LineText::StringRef(next_usize(fields)?),
-        b"line_str" => LineText::LineStringRef(next_usize(fields)?),
-        _ => return Err(Reason::UnknownWord),
-    };
-    Ok(text)
+    let word = next_field(fields)?;
+    next_text_of_word(word, fields)
+}
+
+// The name behind the word that says how it is told.
+fn next_text_of_word<'a>(word: &[u8], fields: &mut Pieces<'a>) -> Result<LineText<'a>, Reason>
+    ensures { with_rest result (pieces_left fields.new) ≡
+        text_of_word word.now (pieces_left fields.old) }
+{
+    if word == TEXT {
+        Ok(LineText::String(next_hex_bytes(fields)?))
+    } else if word == STRING {
+        Ok(LineText::StringRef(next_usize(fields)?))
+    } else if word == LINE_STRING {
+        Ok(LineText::LineStringRef(next_usize(fields)?))
+    } else {
+        Err(Reason::UnknownWord)
+    }
 }

@@ -3,7 +3,7 @@
 use crate::command::Command;
 
 /// One line's request, where a script builds several sets of sections that are linked.
-#[derive(Debug, Drop)]
+#[derive(Drop)]
 pub enum LinkCommand<'a> {
     /// The next set begins.
     Next,

@@ -6,7 +6,7 @@ ghost use Rattle.dw_script.specs.LinkWords.{link_word_of};
 use crate::word::Word;
 
 /// The word of a line, which says what the line's other fields are.
-#[derive(Clone, Copy, Debug, PartialEq, Eq)]
+#[derive(Clone, Copy)]
 pub(crate) enum LinkWord {
     Next,
     Symbol,

@@ -8,7 +8,7 @@ ghost use Rattle.dw_script.specs.Scripts.{lines_left};
 use memchr::memchr;
 
 /// The lines of a script, from the first on.
-#[derive(Debug, Drop)]
+#[derive(Drop)]
 pub struct ScriptLines<'a> {
     rest: Option<&'a [u8]>,
 }

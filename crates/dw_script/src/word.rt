@@ -6,9 +6,10 @@ ghost use Rattle.dw_ends.specs.Pieces.{pieces_left};
 ghost use Rattle.dw_script.specs.Words.{word_field, word_of};
 
 use dw_ends::{Pieces, Reason, next_field};
+use dw_script_fields::find_name;
 
 /// The word of a line, which says what the line's other fields are.
-#[derive(Clone, Copy, Debug, PartialEq, Eq)]
+#[derive(Clone, Copy)]
 pub(crate) enum Word {
     Order,
     Unit,
@@ -31,34 +32,34 @@ pub(crate) enum Word {
     End,
 }
 
+const WORDS: [(&[u8], Word); 19] = [
+    (b"order", Word::Order),
+    (b"unit", Word::Unit),
+    (b"add", Word::Add),
+    (b"reserve", Word::Reserve),
+    (b"add_reserved", Word::AddReserved),
+    (b"sibling", Word::Sibling),
+    (b"set", Word::Set),
+    (b"delete", Word::Delete),
+    (b"delete_child", Word::DeleteChild),
+    (b"str", Word::Str),
+    (b"line_str", Word::LineStr),
+    (b"range", Word::Range),
+    (b"loc", Word::Loc),
+    (b"line", Word::Line),
+    (b"dir", Word::Dir),
+    (b"file", Word::File),
+    (b"sequence", Word::Sequence),
+    (b"row", Word::Row),
+    (b"end", Word::End),
+];
+
 impl Word {
     /// The word that a field spells.
     pub(crate) fn read(field: &[u8]) -> Option<Word>
         ensures { result ≡ word_of field.now }
     {
-        let word = match field {
-            b"order" => Word::Order,
-            b"unit" => Word::Unit,
-            b"add" => Word::Add,
-            b"reserve" => Word::Reserve,
-            b"add_reserved" => Word::AddReserved,
-            b"sibling" => Word::Sibling,
-            b"set" => Word::Set,
-            b"delete" => Word::Delete,
-            b"delete_child" => Word::DeleteChild,
-            b"str" => Word::Str,
-            b"line_str" => Word::LineStr,
-            b"range" => Word::Range,
-            b"loc" => Word::Loc,
-            b"line" => Word::Line,
-            b"dir" => Word::Dir,
-            b"file" => Word::File,
-            b"sequence" => Word::Sequence,
-            b"row" => Word::Row,
-            b"end" => Word::End,
-            _ => return None,
-        };
-        Some(word)
+        find_name(&WORDS, field)
     }
 }
 

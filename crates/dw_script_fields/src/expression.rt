@@ -22,7 +22,7 @@ use std::marker::Model;
 /// stack. `Close` takes the topmost off as an expression, and the list below gets that as the
 /// operand of an operation; the last one is the whole. Each branch leads to another operation of
 /// its list, or to the end, once the list is full.
-#[derive(Debug, Drop)]
+#[derive(Drop)]
 pub struct ExpressionFields<'a> {
     // The line's fields after the bracket that opens.
     fields: Pieces<'a>,
@@ -64,7 +64,7 @@ impl<'a> ExpressionFields<'a> {
 }
 
 /// The steps of an expression that are still to come.
-#[derive(Debug, Drop)]
+#[derive(Drop)]
 pub struct ExpressionSteps<'a> {
     fields: Pieces<'a>,
     // How many expressions are open.

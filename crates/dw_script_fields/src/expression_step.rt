@@ -12,7 +12,7 @@ use dw_ends::{Pieces, Reason};
 
 /// A step of an expression (DWARF 5, 2.5): what stands in it, in order, with the expressions within
 /// it in their places.
-#[derive(Debug, Drop)]
+#[derive(Drop)]
 pub enum ExpressionStep<'a> {
     /// An operation.
     Operation(ScriptOperation<'a>),

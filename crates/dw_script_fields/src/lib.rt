@@ -34,4 +34,5 @@ pub use number::{parse_u8, parse_u16};
 pub use operation::ScriptOperation;
 pub use range::ScriptRange;
 pub use range_list::{RangeFields, RangeItems};
+pub use table::find_name;
 pub use value::{Value, next_value};

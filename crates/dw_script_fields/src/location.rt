@@ -15,7 +15,7 @@ use dw_ends::{Pieces, Reason};
 /// An item of a location list: where an object is while the program counter is between two
 /// addresses, the second of which doesn't belong to them, or the base that offset pairs count from
 /// (DWARF 5, 2.6.2).
-#[derive(Debug, Drop)]
+#[derive(Drop)]
 pub enum ScriptLocation<'a> {
     /// What the offset pairs that follow count from.
     BaseAddress {

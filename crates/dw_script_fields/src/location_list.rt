@@ -12,7 +12,7 @@ use std::marker::Model;
 
 /// The fields of a location list (DWARF 5, 2.6.2), which were looked at, so that a line is read
 /// without memory. Contracts see the items.
-#[derive(Debug, Drop)]
+#[derive(Drop)]
 pub struct LocationFields<'a> {
     // The line's fields from the first item on.
     fields: Pieces<'a>,
@@ -53,7 +53,7 @@ impl<'a> LocationFields<'a> {
 }
 
 /// The items of a location list that are still to come.
-#[derive(Debug, Drop)]
+#[derive(Drop)]
 pub struct LocationItems<'a> {
     fields: Pieces<'a>,
 }

@@ -16,7 +16,7 @@ use dw_ends::{HexBytes, Pieces, Reason, next_u64};
 /// An operation of an expression (DWARF 5, 2.5 and 2.6). Entries are named by their index in the
 /// unit, and branches lead to the operation of an index, counted from 0 in the expression that
 /// holds them; the index behind the last one is its end.
-#[derive(Debug, Drop)]
+#[derive(Drop)]
 pub enum ScriptOperation<'a> {
     /// Operations that are spelled already; they count as one.
     Raw(HexBytes<'a>),

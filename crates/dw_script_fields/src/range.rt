@@ -12,7 +12,7 @@ use dw_ends::{Pieces, Reason, next_u64};
 
 /// An item of a range list: addresses that belong to it, from the first one up to the one behind
 /// the last, or the base that offset pairs count from (DWARF 5, 2.17.3).
-#[derive(Clone, Copy, Debug)]
+#[derive(Clone, Copy)]
 pub enum ScriptRange {
     /// What the offset pairs that follow count from.
     BaseAddress { address: Address },

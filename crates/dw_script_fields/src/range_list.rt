@@ -12,7 +12,7 @@ use std::marker::Model;
 
 /// The fields of a range list (DWARF 5, 2.17.3), which were looked at, so that a line is read
 /// without memory. Contracts see the items.
-#[derive(Debug, Drop)]
+#[derive(Drop)]
 pub struct RangeFields<'a> {
     // The line's fields from the first item on.
     fields: Pieces<'a>,
@@ -53,7 +53,7 @@ impl<'a> RangeFields<'a> {
 }
 
 /// The items of a range list that are still to come.
-#[derive(Debug, Drop)]
+#[derive(Drop)]
 pub struct RangeItems<'a> {
     fields: Pieces<'a>,
 }

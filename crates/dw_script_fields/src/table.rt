@@ -5,7 +5,7 @@ ghost use Rattle.std.specs.Map.{lookup};
 ghost use Rattle.dw_script_fields.specs.Spelled.{spelled};
 
 /// What a table has under a name.
-pub(crate) fn find_name<T: Copy>(mut table: &[(&[u8], T)], name: &[u8]) -> Option<T>
+pub fn find_name<T: Copy>(mut table: &[(&[u8], T)], name: &[u8]) -> Option<T>
     ensures { result ≡ lookup (bytes_eq name.now) (spelled table.entry.now) }
 {
     while let [entry, rest @ ..] = table {

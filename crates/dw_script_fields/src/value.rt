@@ -21,7 +21,7 @@ use dw_ends::{HexBytes, Pieces, Reason, next_u64};
 /// A value that a line gives an attribute; sections of the standard are DWARF 5's. A word of the
 /// format has 4 bytes, and in the 64-bit format 8. Each number from `Encoding` on is spelled in
 /// LEB128.
-#[derive(Debug, Drop)]
+#[derive(Drop)]
 pub enum Value<'a> {
     /// An address, in as many bytes as the unit's addresses have (7.5.5).
     Address(Address),
