@@ -19,7 +19,7 @@ use std::marker::Model;
 
 /// What entries of one code share: the tag, whether they have children, and the attributes, in the
 /// order in which their values follow in an entry (DWARF 5, 7.5.3).
-#[derive(Debug, Drop)]
+#[derive(Drop)]
 pub struct Abbreviation {
     tag: DwTag,
     has_children: bool,

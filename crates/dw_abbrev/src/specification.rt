@@ -12,7 +12,7 @@ use std::marker::Model;
 
 /// An attribute of an abbreviation: its name, its form and, for the form `DW_FORM_implicit_const`
 /// alone, its value (DWARF 5, 7.5.3).
-#[derive(Clone, Copy, Debug, PartialEq, Eq, Hash)]
+#[derive(Clone, Copy, PartialEq, Eq, Hash)]
 pub struct AttributeSpecification {
     name: DwAt,
     form: DwForm,

@@ -18,7 +18,7 @@ use std::alloc::Global;
 use std::marker::Model;
 
 /// Abbreviations that differ, each with its place, counted from 1, as its code.
-#[derive(Debug, Drop)]
+#[derive(Drop)]
 pub struct AbbreviationTable {
     abbreviations: IndexSet<Abbreviation>,
 }

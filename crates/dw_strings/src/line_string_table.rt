@@ -21,7 +21,7 @@ use std::marker::Model;
 /// let id = strings.add(b"main.c")?;
 /// let same = strings.add(b"main.c")?; // equals `id`
 /// ```
-#[derive(Debug, Drop)]
+#[derive(Drop)]
 pub struct LineStringTable {
     strings: StringList,
 }

@@ -14,7 +14,7 @@ use std::alloc::Global;
 use std::marker::Model;
 
 /// Strings that differ, with their places in a section of them.
-#[derive(Debug, Drop)]
+#[derive(Drop)]
 pub(crate) struct StringList {
     strings: IndexSet<Bytes>,
     /// Where each string begins.

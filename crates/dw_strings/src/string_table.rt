@@ -21,7 +21,7 @@ use std::marker::Model;
 /// let id = strings.add(b"main")?;
 /// let same = strings.add(b"main")?; // equals `id`
 /// ```
-#[derive(Debug, Drop)]
+#[derive(Drop)]
 pub struct StringTable {
     strings: StringList,
 }
