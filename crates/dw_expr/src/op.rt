@@ -26,7 +26,7 @@ use std::marker::Model;
 /// expression.op_fbreg(-16)?;
 /// ```
 #[cycle(expression)]
-#[derive(Debug, Drop)]
+#[derive(Drop)]
 pub struct Expression {
     operations: Vec<Operation>,
 }
@@ -40,7 +40,7 @@ pub struct Expression {
 /// let expression = Expression::from_operations(alloc, operations);
 /// ```
 #[cycle(expression)]
-#[derive(Debug, Drop)]
+#[derive(Drop)]
 pub enum Operation {
     /// Operations that are spelled already.
     Raw(Bytes),

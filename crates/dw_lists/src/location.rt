@@ -26,7 +26,7 @@ use std::marker::Model;
 /// expression.op_fbreg(-16)?;
 /// let location = Location::OffsetPair { begin: 0, end: 0x10, expression };
 /// ```
-#[derive(Debug, Drop)]
+#[derive(Drop)]
 pub enum Location {
     /// What the offset pairs that follow count from.
     BaseAddress {
@@ -156,7 +156,7 @@ impl Hash for Location {
 /// ```
 /// let list = LocationList(vec![in alloc; Location::DefaultLocation { expression }]?);
 /// ```
-#[derive(Debug, Drop)]
+#[derive(Drop)]
 pub struct LocationList(pub Vec<Location>);
 
 impl Model for LocationList {

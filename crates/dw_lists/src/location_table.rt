@@ -31,7 +31,7 @@ use std::marker::Model;
 /// let list = vec![in alloc; Location::DefaultLocation { expression }]?;
 /// let id = locations.add(LocationList(list))?;
 /// ```
-#[derive(Debug, Drop)]
+#[derive(Drop)]
 pub struct LocationListTable {
     lists: IndexSet<LocationList>,
 }

@@ -7,7 +7,7 @@ use dw_base::{LocationListId, LocationListsOffset, RangeListId, RangeListsOffset
 use std::marker::Model;
 
 /// Where the first offset entry and the lists of a table were written.
-#[derive(Debug, Drop)]
+#[derive(Drop)]
 pub(crate) struct ListPlaces {
     pub(crate) base: Option<usize>,
     pub(crate) places: Vec<usize>,
@@ -27,7 +27,7 @@ impl Model for ListPlaces {
 /// let offsets = ranges.write(&mut sections, encoding, false)?;
 /// let place = offsets.get(id); // `Some`, as the table has a list of this id
 /// ```
-#[derive(Debug, Drop)]
+#[derive(Drop)]
 pub struct RangeListOffsets {
     pub(crate) lists: ListPlaces,
 }
@@ -65,7 +65,7 @@ impl RangeListOffsets {
 /// let offsets = locations.write(&mut sections, encoding, false, Some(&places))?;
 /// let place = offsets.get(id); // `Some`, as the table has a list of this id
 /// ```
-#[derive(Debug, Drop)]
+#[derive(Drop)]
 pub struct LocationListOffsets {
     pub(crate) lists: ListPlaces,
 }

@@ -23,7 +23,7 @@ use std::marker::Model;
 ///     length: 0x10,
 /// };
 /// ```
-#[derive(Clone, Copy, Debug)]
+#[derive(Clone, Copy)]
 pub enum Range {
     /// What the offset pairs that follow count from.
     BaseAddress { address: Address },
@@ -113,7 +113,7 @@ impl Hash for Range {
 /// ```
 /// let list = RangeList(vec![in alloc; Range::OffsetPair { begin: 0, end: 0x10 }]?);
 /// ```
-#[derive(Debug, Drop)]
+#[derive(Drop)]
 pub struct RangeList(pub Vec<Range>);
 
 impl Model for RangeList {

@@ -29,7 +29,7 @@ use std::marker::Model;
 /// let mut ranges = RangeListTable::new(alloc);
 /// let id = ranges.add(RangeList(vec![in alloc; Range::OffsetPair { begin: 0, end: 8 }]?))?;
 /// ```
-#[derive(Debug, Drop)]
+#[derive(Drop)]
 pub struct RangeListTable {
     lists: IndexSet<RangeList>,
 }
