@@ -15,7 +15,6 @@ use dw_base::{
 use dw_expr::{EntryPlaces, Expression, Operation};
 use dw_writer::{Bytes, DebugInfoFixup, EndianVec, FixupList};
 use std::alloc::Global;
-use std::test::Fail;
 
 /// The places of a unit's entries, by their index.
 #[derive(Clone, Copy)]
@@ -43,188 +42,64 @@ const TOO_FAR: Places = Places {
     places: &[0x1_0000_0000],
 };
 
-/// Version 2 with addresses of two bytes.
-const OLD: Encoding = Encoding {
-    address_size: 2,
-    format: Format::Dwarf32,
-    version: 2,
-};
-
-/// Version 5 with addresses of four bytes.
-const NEW: Encoding = Encoding {
-    address_size: 4,
-    format: Format::Dwarf32,
-    version: 5,
-};
-
-/// Version 4 in the 64-bit format.
-const WIDE: Encoding = Encoding {
-    address_size: 4,
-    format: Format::Dwarf64,
-    version: 4,
-};
-
-/// Writes an expression, and gives its size.
-fn write(
-    expression: &Expression,
+/// How an expression is written.
+#[derive(Clone, Copy)]
+struct Way {
     encoding: Encoding,
-    w: &mut EndianVec<LittleEndian>,
-    fixups: &mut FixupList,
-) -> Result<usize> {
-    expression.write(w, Some(fixups), encoding, Some(&UNIT))?;
-    expression.size(encoding, Some(&UNIT))
+    places: Option<Places>,
+    /// Whether there is a list of fixups.
+    keeps: bool,
 }
 
-/// What is answered of an expression, and whether it has so many bytes, begins by some and ends by
-/// others.
-fn written(
-    alloc: Global,
-    expression: &Expression,
-    encoding: Encoding,
-    begin: &[u8],
-    end: &[u8],
-) -> (Result<usize>, bool) {
-    let mut w = EndianVec::new(alloc, LittleEndian);
-    let mut fixups = FixupList::new(alloc);
-    let size = write(expression, encoding, &mut w, &mut fixups);
-    let bytes = w.slice();
-    let is_there = bytes.starts_with(begin) && bytes.ends_with(end) && Ok(bytes.len()) == size;
-    (size, is_there)
-}
-
-/// What is to be written: how many bytes, some at the begin and some at the end, or why none are.
-type Wanted = Result<(usize, &'static [u8], &'static [u8])>;
-
-/// Tells that an expression is written, or refused, as it is to be.
-fn is_as_wanted(
-    alloc: Global,
-    expression: &Expression,
-    encoding: Encoding,
-    wanted: Wanted,
-) -> bool {
-    match wanted {
-        Ok((size, begin, end)) => {
-            written(alloc, expression, encoding, begin, end) == (Ok(size), true)
+/// A version, a format and an address size, with a unit's places and a list of fixups.
+macro_rules! way {
+    ($version:expr, $format:expr, $address_size:expr) => {
+        Way {
+            encoding: Encoding {
+                address_size: $address_size,
+                format: $format,
+                version: $version,
+            },
+            places: Some(UNIT),
+            keeps: true,
         }
-        Err(error) => written(alloc, expression, encoding, &[], &[]).0 == Err(error),
-    }
-}
-
-/// Calls, and the bytes of their operations in versions 2 and 5.
-type Spelled = (&'static [Call], &'static [u8], &'static [u8]);
-
-/// A call with the same bytes in all versions.
-macro_rules! same {
-    ($call:expr, $($byte:expr),*) => {
-        (&[$call], &[$($byte),*], &[$($byte),*])
     };
 }
 
-/// A call whose first byte alone is another in version 2 than in version 5.
-macro_rules! coded {
-    ($call:expr, $old:expr, $new:expr, $($byte:expr),*) => {
-        (&[$call], &[$old, $($byte),*], &[$new, $($byte),*])
-    };
-}
+const OLD: Way = way!(2, Format::Dwarf32, 2);
 
-const SPELLED: &[Spelled] = &[
-    same!(Op(DW_OP_dup), 0x12),
-    same!(Constu(0), 0x30),
-    same!(Constu(31), 0x4f),
-    same!(Constu(32), 0x10, 0x20),
-    same!(Constu(128), 0x10, 0x80, 1),
-    same!(Consts(-1), 0x11, 0x7f),
-    same!(Consts(63), 0x11, 0x3f),
-    same!(Consts(64), 0x11, 0xc0, 0),
-    same!(Consts(-65), 0x11, 0xbf, 0x7f),
-    same!(PlusUconst(300), 0x23, 0xac, 2),
-    same!(Fbreg(-20), 0x91, 0x6c),
-    same!(Breg(31, -1), 0x8f, 0x7f),
-    same!(Breg(32, 0), 0x92, 0x20, 0),
-    same!(Reg(0), 0x50),
-    same!(Reg(31), 0x6f),
-    same!(Reg(32), 0x90, 0x20),
-    same!(Pick(0), 0x12),
-    same!(Pick(1), 0x14),
-    same!(Pick(2), 0x15, 2),
-    same!(Pick(255), 0x15, 0xff),
-    same!(WasmLocal(128), 0xed, 0, 0x80, 1),
-    same!(WasmGlobal(2), 0xed, 1, 2),
-    same!(WasmStack(3), 0xed, 2, 3),
-    same!(Deref, 0x06),
-    same!(Xderef, 0x18),
-    same!(DerefSize(4), 0x94, 4),
-    same!(XderefSize(4), 0x95, 4),
-    same!(XderefType(4, 0), 0xa7, 4, 0x0b),
-    same!(Skip(Some(1)), 0x2f, 0, 0),
-    same!(Bra(Some(1)), 0x28, 0, 0),
-    same!(Call::Call(0), 0x99, 0x0b, 0, 0, 0),
-    same!(CallRef(FAR), 0x9a, 0, 0, 0, 0),
-    same!(VariableValue(FAR), 0xfd, 0, 0, 0, 0),
-    same!(ParameterRef(3), 0xfa, 0, 0x40, 0, 0),
-    same!(ImplicitValue(&[1, 2, 3]), 0x9e, 3, 1, 2, 3),
-    same!(Piece(4), 0x93, 4),
-    same!(BitPiece(300, 5), 0x9d, 0xac, 2, 5),
-    coded!(ConstType(0, &[1, 2]), 0xf4, 0xa4, 0x0b, 2, 1, 2),
-    coded!(RegvalType(300, 0), 0xf5, 0xa5, 0xac, 2, 0x0b),
-    coded!(DerefType(4, 0), 0xf6, 0xa6, 4, 0x0b),
-    coded!(Convert(None), 0xf7, 0xa8, 0),
-    coded!(Convert(Some(1)), 0xf7, 0xa8, 0x7f),
-    coded!(Convert(Some(2)), 0xf7, 0xa8, 0x80, 1),
-    coded!(Reinterpret(Some(3)), 0xf9, 0xa9, 0x80, 0x80, 1),
-    coded!(Reinterpret(None), 0xf9, 0xa9, 0),
-    // An address has the unit's size, and in version 2 a place in `.debug_info` has it, too.
-    (
-        &[Addr(Address::Constant(0x0102))],
-        &[3, 2, 1],
-        &[3, 2, 1, 0, 0],
-    ),
-    (
-        &[ImplicitPointer(FAR, -1)],
-        &[0xf2, 0, 0, 0x7f],
-        &[0xa0, 0, 0, 0, 0, 0x7f],
-    ),
-    // Branches count from behind themselves.
-    (
-        &[
-            Op(DW_OP_nop),
-            Skip(Some(3)),
-            Constu(300),
-            Bra(Some(1)),
-            Bra(Some(5)),
-        ],
-        BRANCHES,
-        BRANCHES,
-    ),
-];
+const NEW: Way = way!(5, Format::Dwarf32, 4);
 
-const BRANCHES: &[u8] = &[
-    0x96, 0x2f, 3, 0, 0x10, 0xac, 2, 0x28, 0xf7, 0xff, 0x28, 0, 0,
-];
+const WIDE: Way = way!(4, Format::Dwarf64, 4);
 
-/// The table, which no proof but this function's looks into.
-fn spellings() -> &'static [Spelled] {
-    SPELLED
-}
+/// Addresses of three bytes, which there are none of.
+const NARROW: Way = way!(5, Format::Dwarf32, 3);
 
-/// Whether the operations of calls are spelled as they are to be.
-fn is_spelled(alloc: Global, row: Spelled) -> Result<bool> {
-    let (calls, old, new) = row;
-    let expression = expression_of(alloc, calls)?;
-    let is_old = is_as_wanted(alloc, &expression, OLD, Ok((old.len(), old, old)));
-    let is_new = is_as_wanted(alloc, &expression, NEW, Ok((new.len(), new, new)));
-    Ok(is_old && is_new)
-}
+const UNPLACED: Way = Way {
+    places: None,
+    ..NEW
+};
 
-#[test]
-fn spells_operations(rt: HostRuntime) {
-    for (i, row) in spellings().iter().enumerate() {
-        assert_eq!(rt; (i, is_spelled(rt.alloc(), *row)), (i, Ok(true)));
-    }
+const UNKEPT: Way = Way {
+    keeps: false,
+    ..NEW
+};
+
+/// An expression.
+#[derive(Clone, Copy)]
+enum Built {
+    /// What calls make, within so many expressions.
+    Of(usize, &'static [Call]),
+    /// A branch to an operation before so many bytes of one raw operation.
+    Before(usize, usize),
+    /// A branch behind them.
+    Behind(usize, usize),
+    /// A great many operations, each before a branch to it.
+    Many,
 }
 
 /// So many expressions, each within the next, around these operations.
-fn nested(alloc: Global, calls: &[Call], depth: usize) -> Result<Expression> {
+fn nested(alloc: Global, depth: usize, calls: &[Call]) -> Result<Expression> {
     let mut expression = expression_of(alloc, calls)?;
     for _ in 0..depth {
         expression = hold(alloc, expression)?;
@@ -232,171 +107,12 @@ fn nested(alloc: Global, calls: &[Call], depth: usize) -> Result<Expression> {
     Ok(expression)
 }
 
-/// Calls, how many expressions are around their operations, an encoding, and what is written.
-type Nested = (&'static [Call], usize, Encoding, Wanted);
-
-const NESTED: &[Nested] = &[
-    (&[Fbreg(-20)], 1, OLD, Ok((4, &[0xf3, 2, 0x91, 0x6c], &[]))),
-    (&[Fbreg(-20)], 1, NEW, Ok((4, &[0xa3, 2, 0x91, 0x6c], &[]))),
-    (
-        &[],
-        64,
-        NEW,
-        Ok((128, &[0xa3, 126, 0xa3, 124], &[0xa3, 2, 0xa3, 0])),
-    ),
-    (&[Skip(None)], 0, NEW, Err(Error::UnsetBranchTarget)),
-    (&[Bra(None)], 1, NEW, Err(Error::UnsetBranchTarget)),
-    (&[Convert(Some(4))], 0, NEW, Err(FORWARD)),
-    (&[Convert(Some(4))], 1, NEW, Err(FORWARD)),
-    (&[Call::Call(4)], 0, NEW, Err(FORWARD)),
-    (
-        &[CallRef(DebugInfoRef::Symbol(0))],
-        0,
-        NEW,
-        Err(Error::InvalidReference),
-    ),
-    (&[Addr(SYMBOL)], 0, NEW, Err(Error::InvalidAddress)),
-    (
-        &[Addr(Address::Constant(0x1_0000_0000))],
-        0,
-        NEW,
-        Err(Error::ValueTooLarge),
-    ),
-    (
-        &[ConstType(0, &[0; 256])],
-        0,
-        NEW,
-        Err(Error::ValueTooLarge),
-    ),
-    (
-        &[Addr(Address::Constant(1))],
-        0,
-        NARROW,
-        Err(Error::UnsupportedWordSize(3)),
-    ),
-];
-
-const FORWARD: Error = Error::UnsupportedExpressionForwardReference;
-
-const SYMBOL: Address = Address::Symbol {
-    symbol: 0,
-    addend: 0,
-};
-
-/// Addresses of three bytes, which there are none of.
-const NARROW: Encoding = Encoding {
-    address_size: 3,
-    format: Format::Dwarf32,
-    version: 5,
-};
-
-/// The table, which no proof but this function's looks into.
-fn nestings() -> &'static [Nested] {
-    NESTED
+/// Bytes of one raw operation.
+fn nops(alloc: Global, count: usize) -> Result<Operation> {
+    let bytes = vec![in alloc; 0x96; count]?;
+    Ok(Operation::Raw(Bytes::from(bytes)))
 }
 
-fn is_nested_written(alloc: Global, row: Nested) -> Result<bool> {
-    let (calls, depth, encoding, wanted) = row;
-    let expression = nested(alloc, calls, depth)?;
-    Ok(is_as_wanted(alloc, &expression, encoding, wanted))
-}
-
-#[test]
-fn writes_or_refuses_expressions(rt: HostRuntime) {
-    for (i, row) in nestings().iter().enumerate() {
-        assert_eq!(rt; (i, is_nested_written(rt.alloc(), *row)), (i, Ok(true)));
-    }
-}
-
-/// Whether a branch stands behind bytes and not before them, how many bytes there are, the
-/// operation to which it leads, and what is written.
-type Far = (bool, usize, usize, Wanted);
-
-const FAR_BRANCHES: &[Far] = &[
-    (false, 32767, 2, Ok((32770, &[0x2f, 0xff, 0x7f, 0x96], &[]))),
-    (true, 32765, 0, Ok((32768, &[], &[0x96, 0x28, 0, 0x80]))),
-    // One byte farther than two bytes hold, and past the end.
-    (false, 32768, 2, Err(Error::ValueTooLarge)),
-    (true, 32766, 0, Err(Error::ValueTooLarge)),
-    (true, 1, 3, Err(Error::UnsetBranchTarget)),
-];
-
-/// The table, which no proof but this function's looks into.
-fn far_branches() -> &'static [Far] {
-    FAR_BRANCHES
-}
-
-/// A branch and bytes in one raw operation, in the order in which they stand.
-fn far_branch(alloc: Global, row: Far) -> Result<Expression> {
-    let (is_behind, count, target, _) = row;
-    let raw = Operation::Raw(Bytes::from(vec![in alloc; 0x96; count]?));
-    let operations = if is_behind {
-        vec![in alloc; raw, Operation::Branch(Some(target))]
-    } else {
-        vec![in alloc; Operation::Skip(Some(target)), raw]
-    };
-    Ok(Expression::from_operations(alloc, operations?))
-}
-
-fn is_far_written(alloc: Global, row: Far) -> Result<bool> {
-    let expression = far_branch(alloc, row)?;
-    Ok(is_as_wanted(alloc, &expression, NEW, row.3))
-}
-
-#[test]
-fn goes_as_far_as_two_bytes(rt: HostRuntime) {
-    for (i, row) in far_branches().iter().enumerate() {
-        assert_eq!(rt; (i, is_far_written(rt.alloc(), *row)), (i, Ok(true)));
-    }
-}
-
-/// A call, the places of the unit's entries, if any, what is answered where its operation is
-/// written without a list of fixups, and its size.
-type Needed = (Call, Option<Places>, Result<()>, Result<usize>);
-
-const NEEDED: &[Needed] = &[
-    (Convert(Some(0)), None, Err(NEEDS_PLACES), Err(NEEDS_PLACES)),
-    // The size hangs on no place of four bytes.
-    (Call::Call(4), None, Err(NEEDS_PLACES), Ok(5)),
-    (
-        Call::Call(0),
-        Some(TOO_FAR),
-        Err(Error::ValueTooLarge),
-        Ok(5),
-    ),
-    (
-        CallRef(FAR),
-        Some(UNIT),
-        Err(Error::InvalidReference),
-        Ok(5),
-    ),
-];
-
-const NEEDS_PLACES: Error = Error::UnsupportedCfiExpressionReference;
-
-/// The table, which no proof but this function's looks into.
-fn needed() -> &'static [Needed] {
-    NEEDED
-}
-
-/// What is answered of a row's operation.
-fn without_fixups(alloc: Global, row: Needed) -> Result<(Result<()>, Result<usize>)> {
-    let expression = expression_of(alloc, &[row.0])?;
-    let places = row.1.as_ref();
-    let mut w = EndianVec::new(alloc, LittleEndian);
-    let answer = expression.write(&mut w, None, NEW, places);
-    Ok((answer, expression.size(NEW, places)))
-}
-
-#[test]
-fn needs_places_and_fixups(rt: HostRuntime) {
-    for (i, row) in needed().iter().enumerate() {
-        let answer = without_fixups(rt.alloc(), *row);
-        assert_eq!(rt; (i, answer), (i, Ok((row.2, row.3))));
-    }
-}
-
-/// Adds a great many operations, each before a branch to it.
 fn add_branches_back(expression: &mut Expression) -> Result<()> {
     for _ in 0..50_000 {
         expression.op(DW_OP_nop)?;
@@ -406,26 +122,34 @@ fn add_branches_back(expression: &mut Expression) -> Result<()> {
     Ok(())
 }
 
-/// Whether they are written: four bytes for each, with a branch from behind them.
-fn are_branches_written(alloc: Global) -> Result<bool> {
+fn branches_back(alloc: Global) -> Result<Expression> {
     let mut expression = Expression::new(alloc);
     add_branches_back(&mut expression)?;
-    let each = &[0x96, 0x28, 0xfc, 0xff];
-    Ok(is_as_wanted(alloc, &expression, NEW, Ok((200_000, each, each))))
+    Ok(expression)
 }
 
-#[test]
-fn many_operations_take_linear_time(rt: HostRuntime) {
-    assert_eq!(rt; are_branches_written(rt.alloc()), Ok(true));
+fn build(alloc: Global, built: Built) -> Result<Expression> {
+    let operations = match built {
+        Built::Of(depth, calls) => return nested(alloc, depth, calls),
+        Built::Many => return branches_back(alloc),
+        Built::Before(target, count) => {
+            vec![in alloc; Operation::Skip(Some(target)), nops(alloc, count)?]
+        }
+        Built::Behind(target, count) => {
+            vec![in alloc; nops(alloc, count)?, Operation::Branch(Some(target))]
+        }
+    };
+    Ok(Expression::from_operations(alloc, operations?))
 }
 
-/// Calls, how many expressions are around their operations, an encoding, and two fixups.
-type Open = (
-    &'static [Call],
-    usize,
-    Encoding,
-    [Option<DebugInfoFixup>; 2],
-);
+/// Some bytes at the begin, some at the end, and the first two fixups.
+type Text = (&'static [u8], &'static [u8], [Option<DebugInfoFixup>; 2]);
+
+/// An expression, how it is written, its size, and what is written of it.
+type Row = (Built, Way, Result<usize>, Result<Text>);
+
+/// No fixup.
+const NONE: [Option<DebugInfoFixup>; 2] = [None; 2];
 
 /// A place in `.debug_info` of so many bytes.
 macro_rules! fixup {
@@ -439,46 +163,325 @@ macro_rules! fixup {
     };
 }
 
-/// Places within another expression, and one that has eight bytes in the 64-bit format.
-const OPEN: &[Open] = &[
+const NEEDS_PLACES: Error = Error::UnsupportedCfiExpressionReference;
+
+const FORWARD: Error = Error::UnsupportedExpressionForwardReference;
+
+const SYMBOL: Address = Address::Symbol {
+    symbol: 0,
+    addend: 0,
+};
+
+/// Operations with the same bytes in all versions. Branches count from behind themselves.
+const SAME: &[Call] = &[
+    Op(DW_OP_nop),
+    Skip(Some(3)),
+    Constu(300),
+    Bra(Some(1)),
+    Bra(Some(5)),
+    Op(DW_OP_dup),
+    Constu(0),
+    Constu(31),
+    Constu(32),
+    Constu(128),
+    Consts(-1),
+    Consts(63),
+    Consts(64),
+    Consts(-65),
+    PlusUconst(300),
+    Fbreg(-20),
+    Breg(31, -1),
+    Breg(32, 0),
+    Reg(0),
+    Reg(31),
+    Reg(32),
+    Pick(0),
+    Pick(1),
+    Pick(2),
+    Pick(255),
+    WasmLocal(128),
+    WasmGlobal(2),
+    WasmStack(3),
+    Deref,
+    Xderef,
+    DerefSize(4),
+    XderefSize(4),
+    XderefType(4, 0),
+    Call::Call(0),
+    CallRef(FAR),
+    VariableValue(FAR),
+    ParameterRef(3),
+    ImplicitValue(&[1, 2, 3]),
+    Piece(4),
+    BitPiece(300, 5),
+];
+
+const SAME_BYTES: &[u8] =
+    b"\x96\x2f\x03\x00\x10\xac\x02\x28\xf7\xff\x28\x00\x00\x12\x30\x4f\x10\x20\x10\x80\x01\x11\x7f\
+    \x11\x3f\x11\xc0\x00\x11\xbf\x7f\x23\xac\x02\x91\x6c\x8f\x7f\x92\x20\x00\x50\x6f\x90\x20\x12\
+    \x14\x15\x02\x15\xff\xed\x00\x80\x01\xed\x01\x02\xed\x02\x03\x06\x18\x94\x04\x95\x04\xa7\x04\
+    \x0b\x99\x0b\x00\x00\x00\x9a\x00\x00\x00\x00\xfd\x00\x00\x00\x00\xfa\x00\x40\x00\x00\x9e\x03\
+    \x01\x02\x03\x93\x04\x9d\xac\x02\x05";
+
+/// Operations with others in version 2 than in version 5. An address has the unit's size, and in
+/// version 2 a place in `.debug_info` has it, too.
+const OTHER: &[Call] = &[
+    ConstType(0, &[1, 2]),
+    RegvalType(300, 0),
+    DerefType(4, 0),
+    Convert(None),
+    Convert(Some(1)),
+    Convert(Some(2)),
+    Reinterpret(Some(3)),
+    Reinterpret(None),
+    Addr(Address::Constant(0x0102)),
+    ImplicitPointer(FAR, -1),
+];
+
+const OLD_BYTES: &[u8] =
+    b"\xf4\x0b\x02\x01\x02\xf5\xac\x02\x0b\xf6\x04\x0b\xf7\x00\xf7\x7f\xf7\x80\x01\xf9\x80\x80\x01\
+    \xf9\x00\x03\x02\x01\xf2\x00\x00\x7f";
+
+const NEW_BYTES: &[u8] =
+    b"\xa4\x0b\x02\x01\x02\xa5\xac\x02\x0b\xa6\x04\x0b\xa8\x00\xa8\x7f\xa8\x80\x01\xa9\x80\x80\x01\
+    \xa9\x00\x03\x02\x01\x00\x00\xa0\x00\x00\x00\x00\x7f";
+
+const ROWS: &[Row] = &[
     (
-        &[Op(DW_OP_nop), CallRef(FAR), ImplicitPointer(FAR, 1)],
-        1,
-        NEW,
-        [fixup!(4, 4), fixup!(9, 4)],
+        Built::Of(0, SAME),
+        OLD,
+        Ok(SAME_BYTES.len()),
+        Ok((SAME_BYTES, &[], [fixup!(76, 4), fixup!(81, 4)])),
     ),
-    (&[CallRef(FAR)], 0, WIDE, [fixup!(1, 8), None]),
+    (
+        Built::Of(0, SAME),
+        NEW,
+        Ok(SAME_BYTES.len()),
+        Ok((SAME_BYTES, &[], [fixup!(76, 4), fixup!(81, 4)])),
+    ),
+    (
+        Built::Of(0, OTHER),
+        OLD,
+        Ok(OLD_BYTES.len()),
+        Ok((OLD_BYTES, &[], [fixup!(29, 2), None])),
+    ),
+    (
+        Built::Of(0, OTHER),
+        NEW,
+        Ok(NEW_BYTES.len()),
+        Ok((NEW_BYTES, &[], [fixup!(31, 4), None])),
+    ),
+    // Expressions within others, and places in `.debug_info` there.
+    (
+        Built::Of(1, &[Fbreg(-20)]),
+        OLD,
+        Ok(4),
+        Ok((b"\xf3\x02\x91\x6c", &[], NONE)),
+    ),
+    (
+        Built::Of(1, &[Op(DW_OP_nop), CallRef(FAR), ImplicitPointer(FAR, 1)]),
+        NEW,
+        Ok(14),
+        Ok((b"\xa3\x0c\x96\x9a", &[1], [fixup!(4, 4), fixup!(9, 4)])),
+    ),
+    (
+        Built::Of(64, &[]),
+        NEW,
+        Ok(128),
+        Ok((b"\xa3\x7e\xa3\x7c", b"\xa3\x02\xa3\x00", NONE)),
+    ),
+    // A place has eight bytes in the 64-bit format.
+    (
+        Built::Of(0, &[CallRef(FAR)]),
+        WIDE,
+        Ok(9),
+        Ok((&[0x9a], &[], [fixup!(1, 8), None])),
+    ),
+    // As far as two bytes hold, one byte farther, and past the end.
+    (
+        Built::Before(2, 32767),
+        NEW,
+        Ok(32770),
+        Ok((b"\x2f\xff\x7f\x96", &[], NONE)),
+    ),
+    (
+        Built::Behind(0, 32765),
+        NEW,
+        Ok(32768),
+        Ok((&[], b"\x96\x28\x00\x80", NONE)),
+    ),
+    (
+        Built::Before(2, 32768),
+        NEW,
+        Ok(32771),
+        Err(Error::ValueTooLarge),
+    ),
+    (
+        Built::Behind(0, 32766),
+        NEW,
+        Ok(32769),
+        Err(Error::ValueTooLarge),
+    ),
+    (
+        Built::Behind(3, 1),
+        NEW,
+        Ok(4),
+        Err(Error::UnsetBranchTarget),
+    ),
+    // Their number doesn't slow each of them down.
+    (
+        Built::Many,
+        NEW,
+        Ok(200_000),
+        Ok((b"\x96\x28\xfc\xff", b"\x96\x28\xfc\xff", NONE)),
+    ),
+    // What is refused. The size hangs on no place of four bytes.
+    (
+        Built::Of(0, &[Skip(None)]),
+        NEW,
+        Ok(3),
+        Err(Error::UnsetBranchTarget),
+    ),
+    (
+        Built::Of(1, &[Bra(None)]),
+        NEW,
+        Ok(5),
+        Err(Error::UnsetBranchTarget),
+    ),
+    (
+        Built::Of(0, &[Convert(Some(4))]),
+        NEW,
+        Err(FORWARD),
+        Err(FORWARD),
+    ),
+    (
+        Built::Of(1, &[Convert(Some(4))]),
+        NEW,
+        Err(FORWARD),
+        Err(FORWARD),
+    ),
+    (Built::Of(0, &[Call::Call(4)]), NEW, Ok(5), Err(FORWARD)),
+    (
+        Built::Of(0, &[Call::Call(0)]),
+        Way {
+            places: Some(TOO_FAR),
+            ..NEW
+        },
+        Ok(5),
+        Err(Error::ValueTooLarge),
+    ),
+    (
+        Built::Of(0, &[CallRef(DebugInfoRef::Symbol(0))]),
+        NEW,
+        Ok(5),
+        Err(Error::InvalidReference),
+    ),
+    (
+        Built::Of(0, &[Addr(SYMBOL)]),
+        NEW,
+        Ok(5),
+        Err(Error::InvalidAddress),
+    ),
+    (
+        Built::Of(0, &[Addr(Address::Constant(0x1_0000_0000))]),
+        NEW,
+        Ok(5),
+        Err(Error::ValueTooLarge),
+    ),
+    (
+        Built::Of(0, &[ConstType(0, &[0; 256])]),
+        NEW,
+        Ok(259),
+        Err(Error::ValueTooLarge),
+    ),
+    (
+        Built::Of(0, &[Addr(Address::Constant(1))]),
+        NARROW,
+        Ok(4),
+        Err(Error::UnsupportedWordSize(3)),
+    ),
+    (
+        Built::Of(0, &[Convert(Some(0))]),
+        UNPLACED,
+        Err(NEEDS_PLACES),
+        Err(NEEDS_PLACES),
+    ),
+    (
+        Built::Of(0, &[Call::Call(4)]),
+        UNPLACED,
+        Ok(5),
+        Err(NEEDS_PLACES),
+    ),
+    (
+        Built::Of(0, &[CallRef(FAR)]),
+        UNKEPT,
+        Ok(5),
+        Err(Error::InvalidReference),
+    ),
 ];
 
 /// The table, which no proof but this function's looks into.
-fn open_places() -> &'static [Open] {
-    OPEN
+fn rows() -> &'static [Row] {
+    ROWS
 }
 
-/// The first fixups of an expression, and how many there are.
-fn fixups_of(
-    alloc: Global,
+/// Writes an expression.
+fn write(
     expression: &Expression,
-    encoding: Encoding,
-) -> Result<([Option<DebugInfoFixup>; 2], usize)> {
-    let mut w = EndianVec::new(alloc, LittleEndian);
-    let mut fixups = FixupList::new(alloc);
-    write(expression, encoding, &mut w, &mut fixups)?;
-    Ok(([fixups.get(0), fixups.get(1)], fixups.len()))
+    way: Way,
+    w: &mut EndianVec<LittleEndian>,
+    fixups: &mut FixupList,
+) -> Result<()> {
+    let refs = if way.keeps { Some(fixups) } else { None };
+    expression.write(w, refs, way.encoding, way.places.as_ref())
 }
 
-/// Whether a row's expression has its fixups, and no others.
-fn leaves_open(alloc: Global, row: Open) -> Result<bool> {
-    let (calls, depth, encoding, wanted) = row;
-    let expression = nested(alloc, calls, depth)?;
-    let (fixups, count) = fixups_of(alloc, &expression, encoding)?;
-    Ok(fixups == wanted && count == wanted.iter().flatten().count())
+/// How many bytes two texts have in common at their begin.
+fn common(found: &[u8], wanted: &[u8]) -> usize {
+    for (i, (left, right)) in found.iter().zip(wanted).enumerate() {
+        if left != right {
+            return i;
+        }
+    }
+    found.len().min(wanted.len())
+}
+
+/// What is answered of an expression's size, and of the expression, where it is written: how many
+/// bytes are right, and whether all the rest is, too.
+type Answer = (Result<usize>, Result<(usize, bool)>);
+
+/// What a row tells of the answer.
+fn wanted_of(row: Row) -> Answer {
+    match row.3 {
+        Ok((begin, _, _)) => (row.2, Ok((begin.len(), true))),
+        Err(error) => (row.2, Err(error)),
+    }
+}
+
+/// Writes a row's expression.
+fn answer_of(alloc: Global, expression: &Expression, row: Row) -> Answer {
+    let (begin, end, fixups) = row.3.unwrap_or((&[], &[], NONE));
+    let size = expression.size(row.1.encoding, row.1.places.as_ref());
+    let mut w = EndianVec::new(alloc, LittleEndian);
+    let mut list = FixupList::new(alloc);
+    let written = write(expression, row.1, &mut w, &mut list);
+    let bytes = w.slice();
+    let is_right = bytes.ends_with(end)
+        && size == Ok(bytes.len())
+        && fixups == [list.get(0), list.get(1)];
+    (size, written.and(Ok((common(bytes, begin), is_right))))
+}
+
+fn write_row(alloc: Global, row: Row) -> Result<Answer> {
+    let expression = build(alloc, row.0)?;
+    Ok(answer_of(alloc, &expression, row))
 }
 
 #[test]
-fn leaves_places_open(rt: HostRuntime) {
-    for (i, row) in open_places().iter().enumerate() {
-        assert_eq!(rt; (i, leaves_open(rt.alloc(), *row)), (i, Ok(true)));
+fn writes_or_refuses_expressions(rt: HostRuntime) {
+    for (i, row) in rows().iter().enumerate() {
+        let answer = write_row(rt.alloc(), *row);
+        assert_eq!(rt; (i, answer), (i, Ok(wanted_of(*row))));
     }
 }
 
@@ -491,7 +494,7 @@ fn differs_with_more(expression: &Expression, copy: &mut Expression) -> Result<(
 
 /// The same of `DW_OP_fbreg -20` within an entry value.
 fn is_copied(alloc: Global) -> Result<(bool, bool)> {
-    let expression = nested(alloc, &[Fbreg(-20)], 1)?;
+    let expression = nested(alloc, 1, &[Fbreg(-20)])?;
     let mut copy = expression.try_clone()?;
     differs_with_more(&expression, &mut copy)
 }
@@ -501,14 +504,22 @@ fn copies_equal_what_they_are_of(rt: HostRuntime) {
     assert_eq!(rt; is_copied(rt.alloc()), Ok((true, true)));
 }
 
-/// Only one raw operation is raw.
-#[test]
-fn tells_raw_expressions(rt: HostRuntime) -> std::result::Result<(), Fail> {
-    let bytes = [0x12, 0x96];
-    assert!(rt; Expression::new(rt.alloc()).as_raw().is_none());
-    let mut expression = Expression::raw(rt.alloc(), Bytes::new(rt.alloc(), &bytes)?)?;
-    assert_eq!(rt; expression.as_raw(), Some(bytes.as_slice()));
+/// Whether an expression is these raw bytes, and is raw no more with one operation more.
+fn is_raw_alone(expression: &mut Expression, bytes: &[u8]) -> Result<(bool, bool)> {
+    let is_raw = expression.as_raw() == Some(bytes);
     expression.op(DW_OP_nop)?;
-    assert!(rt; expression.as_raw().is_none());
-    Ok(())
+    Ok((is_raw, expression.as_raw().is_none()))
+}
+
+/// The same of one raw operation.
+fn is_one_raw(alloc: Global) -> Result<(bool, bool)> {
+    let bytes = [0x12, 0x96];
+    let mut expression = Expression::raw(alloc, Bytes::new(alloc, &bytes)?)?;
+    is_raw_alone(&mut expression, &bytes)
+}
+
+#[test]
+fn tells_raw_expressions(rt: HostRuntime) {
+    assert!(rt; Expression::new(rt.alloc()).as_raw().is_none());
+    assert_eq!(rt; is_one_raw(rt.alloc()), Ok((true, true)));
 }

@@ -7,8 +7,8 @@ mod calls;
 #[cfg(test)]
 mod expressions;
 #[cfg(test)]
-mod locations;
-#[cfg(test)]
-mod ranges;
+mod lists;
 #[cfg(test)]
 mod read_back;
+#[cfg(test)]
+mod tables;
