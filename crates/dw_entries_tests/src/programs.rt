@@ -54,9 +54,9 @@ pub enum Step {
 /// A version, a format and a width of addresses.
 pub type Unit = (u16, Format, u8);
 
-/// A program: its encoding, the minimum length of its instructions, and the steps that it is built
-/// by.
-pub type Built = (Unit, u8, &'static [Step]);
+/// A program: its encoding, the minimum length of its instructions, its working directory, and the
+/// steps that it is built by.
+pub type Built = (Unit, u8, Name, &'static [Step]);
 
 pub fn encoding_of(unit: Unit) -> Encoding {
     let (version, format, address_size) = unit;
@@ -221,10 +221,9 @@ fn take_all(alloc: Global, program: &mut LineProgram, steps: &[Step]) -> Result<
     Ok(())
 }
 
-/// A program of a working directory, after its steps.
-pub fn built(alloc: Global, root: &Name, program: Built) -> Result<LineProgram> {
-    let (unit, minimum, steps) = program;
-    let mut program = begun(alloc, unit, minimum, root)?;
-    take_all(alloc, &mut program, steps)?;
-    Ok(program)
+/// A program after its steps.
+pub fn built(alloc: Global, program: &Built) -> Result<LineProgram> {
+    let mut line_program = begun(alloc, program.0, program.1, &program.2)?;
+    take_all(alloc, &mut line_program, program.3)?;
+    Ok(line_program)
 }

@@ -1,10 +1,23 @@
 //! Programs as they are written, beside bytes that were put down by hand.
 
+use crate::programs::{Unit, encoding_of};
 use dw_base::{Encoding, Error, Result, RunTimeEndian};
 use dw_line::LineProgram;
 use dw_strings::{LineStringTable, StringTable};
 use dw_writer::{DebugLine, EndianVec, FaultVec, RelocVec, Relocation, Writer};
 use std::alloc::Global;
+
+/// What the writing of a program comes to.
+pub enum Wanted {
+    /// These bytes, in this order.
+    Bytes(RunTimeEndian, &'static str),
+    /// These bytes and records, by a writer that leaves places to a linker.
+    Records(&'static str, &'static [Relocation]),
+    /// This refusal, or none, for a unit of this encoding.
+    Answer(Unit, Option<Error>),
+    /// The writer's fault at this call, behind what stood there.
+    FaultAt(u64),
+}
 
 /// The value of a hex digit.
 fn digit(byte: u8) -> Option<u8> {
@@ -61,14 +74,14 @@ fn write<W: Writer>(
 }
 
 /// Tells that a program is written as these bytes.
-pub fn is_written(alloc: Global, program: &LineProgram, endian: RunTimeEndian, hex: &str) -> bool {
+fn is_written(alloc: Global, program: &LineProgram, endian: RunTimeEndian, hex: &str) -> bool {
     let mut w = DebugLine::from(EndianVec::new(alloc, endian));
     let place = write(alloc, program, program.encoding(), &mut w);
     place == Ok(0) && is_spelled(w.0.slice(), hex)
 }
 
 /// Tells that a writer of relocations gets these bytes, and these relocations.
-pub fn is_relocated(
+fn is_relocated(
     alloc: Global,
     program: &LineProgram,
     hex: &str,
@@ -80,13 +93,13 @@ pub fn is_relocated(
 }
 
 /// Why a program is refused for a unit of an encoding.
-pub fn refusal(alloc: Global, program: &LineProgram, unit: Encoding) -> Option<Error> {
+fn refusal(alloc: Global, program: &LineProgram, unit: Encoding) -> Option<Error> {
     let mut w = DebugLine::from(EndianVec::new(alloc, RunTimeEndian::Little));
     write(alloc, program, unit, &mut w).err()
 }
 
 /// What a write answers where this call of the writer fails, if it leaves what stood before it.
-pub fn fault(alloc: Global, program: &LineProgram, failing: u64) -> Result<Option<Error>> {
+fn fault(alloc: Global, program: &LineProgram, failing: u64) -> Result<Option<Error>> {
     let calls = vec![in alloc; failing]?;
     let mut w = DebugLine::from(FaultVec::new(alloc, RunTimeEndian::Little, calls));
     w.0.write(&[1, 2, 3])?;
@@ -95,5 +108,15 @@ pub fn fault(alloc: Global, program: &LineProgram, failing: u64) -> Result<Optio
         Ok(answer.err())
     } else {
         Ok(None)
+    }
+}
+
+/// Tells that the writing of a program comes to what is wanted.
+pub fn is_as(alloc: Global, program: &LineProgram, wanted: &Wanted) -> bool {
+    match wanted {
+        Wanted::Bytes(endian, hex) => is_written(alloc, program, *endian, hex),
+        Wanted::Records(hex, records) => is_relocated(alloc, program, hex, records),
+        Wanted::Answer(unit, why) => refusal(alloc, program, encoding_of(*unit)) == *why,
+        Wanted::FaultAt(call) => fault(alloc, program, *call) == Ok(Some(Error::WriteFault)),
     }
 }
