@@ -9,7 +9,7 @@ use crate::reading::{EMPTY, Texts, dwarf_of, first};
 use dw_base::RunTimeEndian::Little;
 use dw_base::{Encoding, Format, LocationListsOffset, RangeListsOffset};
 use dw_convert::{NoConvertDebugInfoRef, expression, location_list, range_list};
-use dw_read::Expression;
+use dw_read::{Expression, ReadError};
 use dw_read_units::UnitRef;
 use dw_sources::ConvertError;
 use std::alloc::Global;
@@ -87,45 +87,54 @@ pub(crate) fn refusal(
 /// What is converted, in which unit, of which bytes, and why it is refused.
 type Refused = (Kind, &'static [u8], &'static [u8], ConvertError);
 
-const REFUSED: [Refused; 5] = [
-    (
-        Kind::Expression,
-        FIVE,
-        b"\x03\x01\x80\x00\x00",
-        ConvertError::InvalidAddress,
-    ),
-    (
-        Kind::Ranges,
-        FIVE,
-        b"\x05\x01\x80\x00\x00\x00",
-        ConvertError::InvalidAddress,
-    ),
-    (
-        Kind::Locations,
-        FIVE,
-        b"\x07\x00\x10\x00\x00\x01\x80\x00\x00\x00\x00",
-        ConvertError::InvalidAddress,
-    ),
-    // A base, and a pair that counts from it, of which the end is a symbol.
-    (
-        Kind::Ranges,
-        FOUR,
-        b"\xff\xff\xff\xff\x00\x10\x00\x00\x01\x00\x00\x00\x00\x80\x00\x00",
-        ConvertError::InvalidRangeRelativeAddress,
-    ),
-    (
-        Kind::Locations,
-        FOUR,
-        b"\xff\xff\xff\xff\x00\x10\x00\x00\x01\x00\x00\x00\x00\x80\x00\x00\x00\x00\x00",
-        ConvertError::InvalidRangeRelativeAddress,
-    ),
-];
+fn refused() -> [Refused; 6] {
+    [
+        (
+            Kind::Expression,
+            FIVE,
+            b"\x03\x01\x80\x00\x00",
+            ConvertError::InvalidAddress,
+        ),
+        // The index of an address that isn't there.
+        (
+            Kind::Expression,
+            FIVE,
+            b"\xa1\x02",
+            ConvertError::Read(ReadError::UnexpectedEof),
+        ),
+        (
+            Kind::Ranges,
+            FIVE,
+            b"\x05\x01\x80\x00\x00\x00",
+            ConvertError::InvalidAddress,
+        ),
+        (
+            Kind::Locations,
+            FIVE,
+            b"\x07\x00\x10\x00\x00\x01\x80\x00\x00\x00\x00",
+            ConvertError::InvalidAddress,
+        ),
+        // A base, and a pair that counts from it, of which the end is a symbol.
+        (
+            Kind::Ranges,
+            FOUR,
+            b"\xff\xff\xff\xff\x00\x10\x00\x00\x01\x00\x00\x00\x00\x80\x00\x00",
+            ConvertError::InvalidRangeRelativeAddress,
+        ),
+        (
+            Kind::Locations,
+            FOUR,
+            b"\xff\xff\xff\xff\x00\x10\x00\x00\x01\x00\x00\x00\x00\x80\x00\x00\x00\x00\x00",
+            ConvertError::InvalidRangeRelativeAddress,
+        ),
+    ]
+}
 
 #[test]
 fn refuses_what_has_no_image(rt: HostRuntime) {
-    for (number, (kind, info, bytes, reason)) in REFUSED.iter().copied().enumerate() {
+    for (kind, info, bytes, reason) in refused() {
         let refused = refusal(rt.alloc(), kind, info, bytes);
-        assert_eq!(rt; (number, refused), (number, Some(reason)));
+        assert_eq!(rt; refused, Some(reason), "of {bytes:?}");
     }
 }
 
@@ -143,14 +152,20 @@ fn deep(depth: usize) -> [u8; 192] {
     bytes
 }
 
+/// Why so many expressions within each other are refused.
+fn refusal_of_deep(alloc: Global, depth: usize) -> Option<ConvertError> {
+    let bytes = deep(depth);
+    let bytes = bytes.get(..depth.min(65).saturating_sub(1) * 3);
+    refusal(alloc, Kind::Expression, FIVE, bytes.unwrap_or_default())
+}
+
 #[test]
 fn refuses_what_is_too_deep(rt: HostRuntime) {
-    let (last, too_deep) = (deep(64), deep(65));
-    let refused = [
-        refusal(rt.alloc(), Kind::Expression, FIVE, &last[..189]),
-        refusal(rt.alloc(), Kind::Expression, FIVE, &too_deep),
-    ];
-    assert_eq!(rt; refused, [None, Some(ConvertError::NoMemory)]);
+    assert_eq!(rt; refusal_of_deep(rt.alloc(), 64), None);
+    assert_eq!(rt;
+        refusal_of_deep(rt.alloc(), 65),
+        Some(ConvertError::NoMemory)
+    );
 }
 
 /// Why an expression is refused without a unit, where an index leads nowhere, and no entry is
@@ -166,16 +181,18 @@ fn refusal_alone(alloc: Global, bytes: &[u8]) -> Option<ConvertError> {
     expression(alloc, read, encoding, unit, &moved, &NoConvertDebugInfoRef).err()
 }
 
-const REFUSED_ALONE: [(&[u8], ConvertError); 4] = [
-    (b"\xa1\x01", ConvertError::UnsupportedOperation),
-    (b"\xa2\x01", ConvertError::UnsupportedOperation),
-    (b"\xa8\x02", ConvertError::InvalidUnitRef),
-    (b"\x9a\x02\x00\x00\x00", ConvertError::InvalidDebugInfoRef),
-];
+fn refused_alone() -> [(&'static [u8], ConvertError); 4] {
+    [
+        (b"\xa1\x01", ConvertError::UnsupportedOperation),
+        (b"\xa2\x01", ConvertError::UnsupportedOperation),
+        (b"\xa8\x02", ConvertError::InvalidUnitRef),
+        (b"\x9a\x02\x00\x00\x00", ConvertError::InvalidDebugInfoRef),
+    ]
+}
 
 #[test]
 fn refuses_what_needs_a_unit(rt: HostRuntime) {
-    for (bytes, reason) in REFUSED_ALONE {
+    for (bytes, reason) in refused_alone() {
         let refused = refusal_alone(rt.alloc(), bytes);
         assert_eq!(rt; refused, Some(reason), "of {bytes:?}");
     }

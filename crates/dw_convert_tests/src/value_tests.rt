@@ -85,6 +85,19 @@ fn becomes(
     is_value && have(alloc, &tables, named(number), version)
 }
 
+/// Whether there is one value, which is what the value of a number becomes.
+fn are_wanted(
+    alloc: Global,
+    number: usize,
+    version: u16,
+    values: &[(DwAt, AttributeValue)],
+) -> bool {
+    match values {
+        [(_, value)] => is_wanted(alloc, number, version, value),
+        _ => false,
+    }
+}
+
 /// Whether the attributes of an entry become the value of a number alone.
 fn all_become(
     alloc: Global,
@@ -95,10 +108,7 @@ fn all_become(
     let version = unit.encoding().version;
     let mut tables = none(alloc);
     let are_values = match all_converted(alloc, unit, attributes, &mut tables) {
-        Ok(values) => match values.as_slice() {
-            [(_, value)] => is_wanted(alloc, number, version, value),
-            _ => false,
-        },
+        Ok(values) => are_wanted(alloc, number, version, &values),
         Err(_) => false,
     };
     are_values && have(alloc, &tables, named(number), version)
@@ -167,7 +177,7 @@ fn unit_holds(alloc: Global, sections: &Written, number: usize, layout: Layout) 
 fn comes_back(alloc: Global, number: usize, layout: Layout) -> bool {
     match Sections::new(alloc, EndianVec::new(alloc, layout.endian)) {
         Ok(mut sections) => {
-            let is_written = write(alloc, number, layout, &mut sections).is_ok();
+            let is_written = write(alloc, number, layout, &mut sections);
             is_written && unit_holds(alloc, &sections, number, layout)
         }
         Err(_) => false,

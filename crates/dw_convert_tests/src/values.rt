@@ -20,7 +20,7 @@ pub(crate) type Row = (DwAt, Seen);
 pub(crate) const VALUES: usize = 37;
 
 /// Values that are read alike in each version.
-const ROWS: [Row; 28] = [
+const ROWS: &[Row] = &[
     (DW_AT_name, ("Addr", 0x1234)),
     (DW_AT_name, ("Data1", 0x12)),
     (DW_AT_name, ("Data2", 0x1234)),
@@ -54,6 +54,17 @@ const ROWS: [Row; 28] = [
     (DW_AT_inline, ("Udata", 0x12)),
 ];
 
+fn rows() -> &'static [Row] {
+    ROWS
+}
+
+fn plain_row(number: usize) -> Row {
+    match rows().get(number) {
+        Some(row) => *row,
+        None => (DwAt(0), ("none", 0)),
+    }
+}
+
 /// The others. Below version 4 an expression is a block, and up to version 4 a list is named by its
 /// place, behind others: four addresses for each, and of locations as many with a length of two
 /// bytes and an expression of two. Strings stand behind others with their zeros.
@@ -61,7 +72,7 @@ pub(crate) fn row(number: usize, encoding: Encoding) -> Row {
     let version = encoding.version;
     let size = encoding.address_size as u64;
     match number {
-        0..28 => ROWS[number],
+        0..28 => plain_row(number),
         28 if version >= 4 => (DW_AT_location, ("Exprloc", 0x1039)),
         28 => (DW_AT_location, ("Block", 0x1039)),
         29 => (DW_AT_name, ("Flag", 1)),

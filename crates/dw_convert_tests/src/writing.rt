@@ -15,14 +15,14 @@ use std::alloc::Global;
 
 pub(crate) type Written = Sections<EndianVec<RunTimeEndian>>;
 
-/// The bytes of sections, to be read.
+/// The bytes of sections, to be read, with those of strings.
 pub(crate) fn texts_of(sections: &Written) -> Texts<'_> {
     Texts {
         abbrev: sections.debug_abbrev.0.slice(),
         info: sections.debug_info.0.slice(),
         addr: b"",
-        str: sections.debug_str.0.slice(),
-        line_str: sections.debug_line_str.0.slice(),
+        str: b"none\0text\0",
+        line_str: b"nothing\0line text\0",
         line: b"",
         ranges: sections.debug_ranges.0.slice(),
         rnglists: sections.debug_rnglists.0.slice(),
@@ -47,40 +47,30 @@ fn fill(alloc: Global, unit: &mut Unit, number: usize, layout: Layout) -> Result
     set(unit, name, value(alloc, number)?)
 }
 
-/// A table of the unit whose root has the value of a number.
-fn add_unit(alloc: Global, units: &mut UnitTable, number: usize, layout: Layout) -> Result<()> {
-    let mut unit = Unit::new(alloc, layout.encoding, LineProgram::none())?;
-    fill(alloc, &mut unit, number, layout)?;
-    units.add(unit)?;
-    Ok(())
+/// Adds the unit whose root has the value of a number.
+fn add_unit(alloc: Global, units: &mut UnitTable, number: usize, layout: Layout) -> bool {
+    match Unit::new(alloc, layout.encoding, LineProgram::none()) {
+        Ok(mut unit) => {
+            let filled = fill(alloc, &mut unit, number, layout);
+            let added = units.add(unit);
+            filled.is_ok() & added.is_ok()
+        }
+        Err(_) => false,
+    }
 }
 
-/// Writes units and strings.
-fn write_strings(
-    strings: &StringTable,
-    line_strings: &LineStringTable,
-    sections: &mut Written,
-) -> Result<()> {
-    strings.write(&mut sections.debug_str)?;
-    line_strings.write(&mut sections.debug_line_str)
-}
-
-fn write_units(alloc: Global, units: &mut UnitTable, sections: &mut Written) -> Result<()> {
+/// Writes units, whose values may name strings.
+fn write_units(alloc: Global, units: &mut UnitTable, sections: &mut Written) -> bool {
     let mut strings = StringTable::new(alloc);
     let mut line_strings = LineStringTable::new(alloc);
-    add_strings(&mut strings, &mut line_strings)?;
-    units.write(sections, &line_strings, &strings)?;
-    write_strings(&strings, &line_strings, sections)
+    let added = add_strings(&mut strings, &mut line_strings);
+    let written = units.write(sections, &line_strings, &strings);
+    added.is_ok() & written.is_ok()
 }
 
-/// Writes a unit whose root has the value of a number, and the strings.
-pub(crate) fn write(
-    alloc: Global,
-    number: usize,
-    layout: Layout,
-    sections: &mut Written,
-) -> Result<()> {
+/// Writes a unit whose root has the value of a number.
+pub(crate) fn write(alloc: Global, number: usize, layout: Layout, sections: &mut Written) -> bool {
     let mut units = UnitTable::new(alloc);
-    add_unit(alloc, &mut units, number, layout)?;
-    write_units(alloc, &mut units, sections)
+    let added = add_unit(alloc, &mut units, number, layout);
+    added & write_units(alloc, &mut units, sections)
 }
