@@ -4,7 +4,7 @@ use dw_base::DebugMacroOffset;
 use dw_base::constants::DW_AT_sibling;
 use dw_dwarf::{
     Address, AttributeValue, Bytes, DebugInfoRef, DwAt, DwTag, EntryMut, Error, Expression,
-    Location, LocationList, LocationListId, Range, RangeList, RangeListId, Result, Unit,
+    Location, LocationList, LocationListId, Range, RangeList, RangeListId, Result, StringId, Unit,
     UnitEntryId,
 };
 use std::alloc::Global;
@@ -12,8 +12,8 @@ use std::alloc::Global;
 /// The value of an attribute.
 pub(crate) enum Value {
     Text(&'static [u8]),
+    InTable(StringId),
     Data1(u8),
-    Udata(u64),
     UnitRef(UnitEntryId),
     InfoRef(DebugInfoRef),
     Address(Address),
@@ -22,16 +22,14 @@ pub(crate) enum Value {
     Locations(usize),
 }
 
-/// A call of a handle of an entry.
-pub(crate) enum Change {
-    Reserve(usize),
-    Sibling(bool),
-    Set(DwAt, Value),
-    Delete(DwAt),
-    /// Puts a value in the place of that under a name, by `get_mut`.
-    Replace(DwAt, Value),
-    /// Puts a value in the place of the first attribute's, which has this name, by a walk.
-    ReplaceFirst(DwAt, Value),
+/// How a value is put under a name.
+#[derive(Clone, Copy)]
+pub(crate) enum How {
+    Set,
+    /// In the place of the value that stands there, by `get_mut`.
+    Replace,
+    /// In the place of the first attribute's, which has this name, by a walk.
+    ReplaceFirst,
 }
 
 /// A call of a unit.
@@ -41,24 +39,22 @@ pub(crate) enum Call {
     Add(usize, DwTag),
     /// A reserved id, a parent and a tag.
     AddReserved(usize, usize, DwTag),
-    /// An entry and a call of its handle.
-    Change(usize, Change),
+    /// An entry, a name and a value.
+    Put(How, usize, DwAt, Value),
     /// A range list of one item.
     List(Range),
-    /// A location list of one item: 16 bytes from an address on, where the object is what the
-    /// expression of another entry tells.
-    Located(Address, DebugInfoRef),
-    /// A location list of one item, whose expression is empty.
-    Location(Range),
+    /// A location list of one item. Its expression is empty, or the object is what the expression
+    /// of another entry tells.
+    Locate(Range, Option<DebugInfoRef>),
     Skip,
 }
 
 /// The value, in memory of its own.
-pub(crate) fn value_of(alloc: Global, value: &Value) -> Result<AttributeValue> {
+fn value_of(alloc: Global, value: &Value) -> Result<AttributeValue> {
     Ok(match value {
         Value::Text(text) => AttributeValue::String(Bytes::new(alloc, text)?),
+        Value::InTable(id) => AttributeValue::StringRef(*id),
         Value::Data1(number) => AttributeValue::Data1(*number),
-        Value::Udata(number) => AttributeValue::Udata(*number),
         Value::UnitRef(entry) => AttributeValue::UnitRef(*entry),
         Value::InfoRef(entry) => AttributeValue::DebugInfoRef(*entry),
         Value::Address(address) => AttributeValue::Address(*address),
@@ -68,7 +64,7 @@ pub(crate) fn value_of(alloc: Global, value: &Value) -> Result<AttributeValue> {
     })
 }
 
-/// Sets an attribute of an entry.
+/// Sets an attribute of an entry, with room that was made for it.
 fn set(entry: &mut EntryMut<'_>, name: DwAt, value: AttributeValue) -> Result<()> {
     if name.0 == 0 || name == DW_AT_sibling {
         return Err(Error::InvalidAttributeValue);
@@ -94,58 +90,66 @@ fn replace_first(entry: &mut EntryMut<'_>, name: DwAt, value: AttributeValue) ->
     Ok(())
 }
 
-/// Makes a call of the handle of an entry.
-fn make_change(alloc: Global, unit: &mut Unit, index: usize, change: &Change) -> Result<()> {
+/// Puts a value under a name of an entry.
+fn put_value(entry: &mut EntryMut<'_>, how: How, name: DwAt, value: AttributeValue) -> Result<()> {
+    match how {
+        How::Set => set(entry, name, value),
+        How::Replace => replace(entry, name, value),
+        How::ReplaceFirst => replace_first(entry, name, value),
+    }
+}
+
+/// Puts a value under a name of the entry of an index, with room for one attribute more.
+pub(crate) fn put(
+    alloc: Global,
+    unit: &mut Unit,
+    how: How,
+    index: usize,
+    name: DwAt,
+    value: &Value,
+) -> Result<()> {
     if index >= unit.count() {
         return Err(Error::InvalidReference);
     }
     let mut entry = unit.get_mut(UnitEntryId::new(index));
-    match change {
-        Change::Reserve(additional) => entry.reserve(*additional)?,
-        Change::Sibling(sibling) => entry.set_sibling(*sibling),
-        Change::Set(name, value) => set(&mut entry, *name, value_of(alloc, value)?)?,
-        Change::Delete(name) => entry.delete(*name),
-        Change::Replace(name, value) => replace(&mut entry, *name, value_of(alloc, value)?)?,
-        Change::ReplaceFirst(name, value) => {
-            replace_first(&mut entry, *name, value_of(alloc, value)?)?;
-        }
-    }
-    Ok(())
+    entry.reserve(1)?;
+    put_value(&mut entry, how, name, value_of(alloc, value)?)
 }
 
-/// Adds the entry of a reserved id, which isn't reserved then.
-fn add_reserved(
-    unit: &mut Unit,
-    child: UnitEntryId,
-    parent: UnitEntryId,
-    tag: DwTag,
-) -> Result<()> {
-    if unit.is_freed() || !unit.is_reserved(child) || parent.0 >= unit.reserved() || tag.0 == 0 {
+/// Adds an entry, which has the next id.
+fn add(unit: &mut Unit, parent: usize, tag: DwTag) -> Result<()> {
+    let next = unit.reserved();
+    let has_room = next < usize::MAX;
+    if unit.is_freed() || !has_room || parent >= next || tag.0 == 0 {
         return Err(Error::InvalidReference);
     }
-    unit.add_reserved(child, parent, tag)?;
-    if unit.is_reserved(child) {
-        return Err(Error::InvalidReference);
+    match unit.add(UnitEntryId::new(parent), tag) {
+        Ok(id) if id.index() == next => Ok(()),
+        Ok(_) => Err(Error::InvalidReference),
+        Err(error) => Err(error),
     }
-    Ok(())
 }
 
-/// Adds a location list of one item, whose expression calls that of another entry.
-fn locate(alloc: Global, unit: &mut Unit, begin: Address, entry: DebugInfoRef) -> Result<()> {
+/// Adds the entry of a reserved id.
+fn add_reserved(unit: &mut Unit, child: usize, parent: usize, tag: DwTag) -> Result<()> {
+    let child = UnitEntryId::new(child);
+    if unit.is_freed() || !unit.is_reserved(child) || parent >= unit.reserved() || tag.0 == 0 {
+        return Err(Error::InvalidReference);
+    }
+    unit.add_reserved(child, UnitEntryId::new(parent), tag)
+}
+
+/// An expression that is empty, or calls that of an entry.
+fn expression_of(alloc: Global, entry: Option<DebugInfoRef>) -> Result<Expression> {
     let mut expression = Expression::new(alloc);
-    expression.op_call_ref(entry)?;
-    let item = Location::StartLength {
-        begin,
-        length: 16,
-        expression,
-    };
-    unit.locations.add(LocationList(vec![in alloc; item]?))?;
-    Ok(())
+    if let Some(entry) = entry {
+        expression.op_call_ref(entry)?;
+    }
+    Ok(expression)
 }
 
-/// An item of a location list: the same addresses, with an empty expression.
-fn located(alloc: Global, range: Range) -> Location {
-    let expression = Expression::new(alloc);
+/// An item of a location list: the same addresses, with an expression.
+fn located(range: Range, expression: Expression) -> Location {
     match range {
         Range::BaseAddress { address } => Location::BaseAddress { address },
         Range::OffsetPair { begin, end } => Location::OffsetPair {
@@ -166,40 +170,48 @@ fn located(alloc: Global, range: Range) -> Location {
     }
 }
 
+/// Adds a range list of one item.
+fn list(alloc: Global, unit: &mut Unit, range: Range) -> Result<()> {
+    unit.ranges.add(RangeList(vec![in alloc; range]?))?;
+    Ok(())
+}
+
+/// Adds a location list of one item.
+fn locate(alloc: Global, unit: &mut Unit, range: Range, entry: Option<DebugInfoRef>) -> Result<()> {
+    let item = located(range, expression_of(alloc, entry)?);
+    unit.locations.add(LocationList(vec![in alloc; item]?))?;
+    Ok(())
+}
+
+/// Hands out an id for a later entry.
+fn reserve(unit: &mut Unit) -> Result<()> {
+    let has_room = unit.reserved() < usize::MAX;
+    if unit.is_freed() || !has_room {
+        return Err(Error::InvalidReference);
+    }
+    unit.reserve();
+    Ok(())
+}
+
+/// Has the unit left out when its table is written.
+fn skip(unit: &mut Unit) -> Result<()> {
+    if unit.is_written() {
+        return Err(Error::InvalidReference);
+    }
+    unit.skip();
+    Ok(())
+}
+
 /// Makes a call of a unit. One that the unit's state forbids is `InvalidReference`.
 fn make_call(alloc: Global, unit: &mut Unit, call: &Call) -> Result<()> {
-    let takes_entries = !unit.is_freed() && unit.reserved() < usize::MAX;
     match call {
-        Call::Reserve if takes_entries => {
-            unit.reserve();
-            Ok(())
-        }
-        Call::Add(parent, tag) if takes_entries && *parent < unit.reserved() && tag.0 != 0 => {
-            unit.add(UnitEntryId::new(*parent), *tag)?;
-            Ok(())
-        }
-        Call::AddReserved(child, parent, tag) => add_reserved(
-            unit,
-            UnitEntryId::new(*child),
-            UnitEntryId::new(*parent),
-            *tag,
-        ),
-        Call::Change(index, change) => make_change(alloc, unit, *index, change),
-        Call::List(range) => {
-            unit.ranges.add(RangeList(vec![in alloc; *range]?))?;
-            Ok(())
-        }
-        Call::Located(begin, entry) => locate(alloc, unit, *begin, *entry),
-        Call::Location(range) => {
-            let item = located(alloc, *range);
-            unit.locations.add(LocationList(vec![in alloc; item]?))?;
-            Ok(())
-        }
-        Call::Skip if !unit.is_written() => {
-            unit.skip();
-            Ok(())
-        }
-        _ => Err(Error::InvalidReference),
+        Call::Reserve => reserve(unit),
+        Call::Add(parent, tag) => add(unit, *parent, *tag),
+        Call::AddReserved(child, parent, tag) => add_reserved(unit, *child, *parent, *tag),
+        Call::Put(how, index, name, value) => put(alloc, unit, *how, *index, *name, value),
+        Call::List(range) => list(alloc, unit, *range),
+        Call::Locate(range, entry) => locate(alloc, unit, *range, *entry),
+        Call::Skip => skip(unit),
     }
 }
 

@@ -1,19 +1,38 @@
-//! The tests of `dw_dwarf` and `dw_unit` by calls. What scripts can build stands among the cases of
-//! `dwarf_build`. The tests stand over the finished crates: beside their code they would have it
-//! proved a second time.
+//! The tests of `dw_dwarf` and `dw_unit` by calls. What scripts and listings show stands among the
+//! cases of `dwarf_build`. The tests stand over the finished crates: beside their code they would
+//! have it proved a second time.
+//!
+//! What is written goes into new sections, which `writing::write` alone makes and owns: each other
+//! function has a loan of them, and answers plain data.
 #![tactic(auto)]
 
 #[cfg(test)]
+mod alone;
+#[cfg(test)]
 mod building;
 #[cfg(test)]
-mod dwarf_unit_tests;
+mod converting;
 #[cfg(test)]
-mod line_program_tests;
+mod entry_tests;
+#[cfg(test)]
+mod filling;
+#[cfg(test)]
+mod finding;
+#[cfg(test)]
+mod line_programs;
 #[cfg(test)]
 mod plans;
 #[cfg(test)]
+mod reading;
+#[cfg(test)]
 mod relocation_tests;
+#[cfg(test)]
+mod table_files;
 #[cfg(test)]
 mod tests;
 #[cfg(test)]
-mod unit_tests;
+mod text_tests;
+#[cfg(test)]
+mod units;
+#[cfg(test)]
+mod writing;

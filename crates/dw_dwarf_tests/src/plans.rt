@@ -1,14 +1,10 @@
 //! Units by plan: how they are built, and what they are to tell once they were written.
 
-ghost use Rattle.std.specs.Prelude.{IfOk};
-ghost use Rattle.dw_writer.specs.Sections.{NoFixups};
-
 use crate::building::{Call, make_calls};
 use dw_dwarf::{
-    Dwarf, Encoding, Error, Format, LineProgram, LittleEndian, Result, Sections, Unit, UnitEntryId,
-    UnitTable, Writer,
+    Dwarf, Encoding, Error, Format, LineProgram, Result, Sections, Unit, UnitEntryId, UnitTable,
+    Writer,
 };
-use dw_writer::FaultVec;
 use std::alloc::Global;
 
 /// A unit of version 5 in `.debug_info`: its length, the version, the type of a compile unit, the
@@ -51,38 +47,36 @@ pub(crate) const ROOT: Plan = Plan {
     places: &[],
 };
 
-/// Sections in memory, the lowest byte first. The calls with these numbers fail in each of them.
-pub(crate) fn new_sections(
-    alloc: Global,
-    failing: Vec<u64>,
-) -> Result<Sections<FaultVec<LittleEndian>>>
-    ensures { IfOk result NoFixups }
-{
-    Sections::new(alloc, FaultVec::new(alloc, LittleEndian, failing))
-}
+pub(crate) const ONE_ROOT: &[Plan] = &[ROOT];
 
-/// Adds a unit of a plan. It is made in version 5, and its encoding is changed.
-fn add_unit(alloc: Global, units: &mut UnitTable, plan: &Plan) -> Result<()> {
+/// Adds a unit, which has its root alone, with these calls of it. It is made in version 5, and its
+/// encoding is changed.
+pub(crate) fn add_unit(
+    alloc: Global,
+    units: &mut UnitTable,
+    encoding: Encoding,
+    calls: &[Call],
+) -> Result<()> {
     let id = units.add(Unit::new(alloc, VERSION_5, LineProgram::none())?)?;
     let unit = units.get_mut(id);
-    unit.set_encoding(plan.encoding);
-    make_calls(alloc, unit, plan.calls)
+    unit.set_encoding(encoding);
+    make_calls(alloc, unit, calls)
 }
 
 /// Adds a unit for each plan.
 pub(crate) fn add_units(alloc: Global, units: &mut UnitTable, plans: &[Plan]) -> Result<()> {
     for plan in plans {
-        add_unit(alloc, units, plan)?;
+        add_unit(alloc, units, plan.encoding, plan.calls)?;
     }
     Ok(())
 }
 
 /// The children of an entry, where there is one.
-pub(crate) fn children_of(unit: &Unit, index: usize) -> &[UnitEntryId] {
+fn children_of(unit: &Unit, index: usize) -> &[UnitEntryId] {
     if index >= unit.count() {
         return &[];
     }
-    unit.get(UnitEntryId::new(index)).children().as_slice()
+    unit.get(UnitEntryId::new(index)).child_ids()
 }
 
 /// Where an entry stands, in its unit and in `.debug_info`.
@@ -107,44 +101,62 @@ fn is_as_planned(unit: &Unit, plan: &Plan) -> bool {
         && children_of(unit, 0) == plan.children
 }
 
-/// The index of the first unit that isn't as its plan wants it, or whose plan is missing.
-fn first_wrong(units: &UnitTable, plans: &[Plan]) -> Option<usize> {
+/// Tells whether these are the units of the plans, as these want them.
+fn are_as_planned(units: &UnitTable, plans: &[Plan]) -> bool {
     for (id, unit) in units.iter() {
         match plans.get(id.index()) {
             Some(plan) if is_as_planned(unit, plan) => {}
-            _ => return Some(id.index()),
+            _ => return false,
         }
     }
-    (units.count() != plans.len()).then_some(units.count())
+    units.count() == plans.len()
 }
 
-/// What came of a write: why it was refused, and the first unit that isn't as its plan wants it
-/// then.
-pub(crate) type Outcome = (Option<Error>, Option<usize>);
+/// What came of a write: why it was refused, and whether all else is as it is to be then.
+pub(crate) type Told = (Option<Error>, bool);
 
-/// Writes a `Dwarf`.
-fn write<W: Writer>(dwarf: &mut Dwarf, plans: &[Plan], sections: &mut Sections<W>) -> Outcome {
+/// Writes a `Dwarf` of these units.
+fn write<W: Writer>(dwarf: &mut Dwarf, plans: &[Plan], sections: &mut Sections<W>) -> Told {
     let refusal = dwarf.write(sections).err();
-    (refusal, first_wrong(&dwarf.units, plans))
+    (refusal, are_as_planned(&dwarf.units, plans))
 }
 
-/// Adds the units of these plans to a `Dwarf`, and writes it twice.
+/// Adds the units of these plans to a `Dwarf`, and writes it twice. The second write finds what
+/// the first one wrote, and is answered as that.
 fn write_twice<W: Writer>(
     alloc: Global,
     dwarf: &mut Dwarf,
     plans: &[Plan],
     sections: &mut Sections<W>,
-) -> Result<[Outcome; 2]> {
+) -> Result<Told> {
     add_units(alloc, &mut dwarf.units, plans)?;
-    Ok([write(dwarf, plans, sections), write(dwarf, plans, sections)])
+    let first = write(dwarf, plans, sections);
+    let second = write(dwarf, plans, sections);
+    Ok((first.0, first.1 && second == first))
 }
 
-/// Writes a new `Dwarf` of these units twice. The second write finds what the first one wrote.
-pub(crate) fn write_units<W: Writer>(
+/// Writes a new `Dwarf` of these units twice.
+pub(crate) fn write_plans<W: Writer>(
     alloc: Global,
     plans: &[Plan],
     sections: &mut Sections<W>,
-) -> Result<[Outcome; 2]> {
+) -> Result<Told> {
     let mut dwarf = Dwarf::new(alloc);
     write_twice(alloc, &mut dwarf, plans, sections)
+}
+
+/// Adds a root to a `Dwarf`, and writes it.
+fn write_added<W: Writer>(
+    alloc: Global,
+    dwarf: &mut Dwarf,
+    sections: &mut Sections<W>,
+) -> Result<Told> {
+    add_units(alloc, &mut dwarf.units, ONE_ROOT)?;
+    Ok(write(dwarf, ONE_ROOT, sections))
+}
+
+/// Writes a new `Dwarf` of a root alone once.
+pub(crate) fn write_root<W: Writer>(alloc: Global, sections: &mut Sections<W>) -> Result<Told> {
+    let mut dwarf = Dwarf::new(alloc);
+    write_added(alloc, &mut dwarf, sections)
 }

@@ -1,7 +1,7 @@
 //! Units, written with relocations. Zeros stand for what a linker puts in.
 
-use crate::building::{Call, Change, Value};
-use crate::plans::{Outcome, Plan, ROOT, write_units};
+use crate::building::{Call, How, Value};
+use crate::plans::{Plan, ROOT, Told, write_plans};
 use dw_base::constants::{DW_AT_location, DW_AT_low_pc, DW_AT_macros, DW_AT_ranges, DW_AT_type};
 use dw_dwarf::{
     Address, DebugInfoRef, Error, LittleEndian, Range, Result, SectionId, Sections, UnitEntryId,
@@ -9,7 +9,6 @@ use dw_dwarf::{
 };
 use dw_writer::{RelocVec, Relocation, RelocationTarget};
 use std::alloc::Global;
-use std::test::Fail;
 
 /// Units with why they are refused, or the bytes and relocations that they are written as.
 struct Row {
@@ -62,8 +61,8 @@ const ROWS: &[Row] = &[
         name: "a symbol and a place in another section",
         units: &[Plan {
             calls: &[
-                Call::Change(0, Change::Set(DW_AT_low_pc, Value::Address(SYMBOL))),
-                Call::Change(0, Change::Set(DW_AT_macros, Value::Macros(0x22))),
+                Call::Put(How::Set, 0, DW_AT_low_pc, Value::Address(SYMBOL)),
+                Call::Put(How::Set, 0, DW_AT_macros, Value::Macros(0x22)),
             ],
             ..ROOT
         }],
@@ -97,7 +96,7 @@ const ROWS: &[Row] = &[
         name: "a reference across units",
         units: &[
             Plan {
-                calls: &[Call::Change(0, Change::Set(DW_AT_type, Value::InfoRef(NEXT_ROOT)))],
+                calls: &[Call::Put(How::Set, 0, DW_AT_type, Value::InfoRef(NEXT_ROOT))],
                 ..ROOT
             },
             ROOT,
@@ -132,7 +131,7 @@ const ROWS: &[Row] = &[
         units: &[Plan {
             calls: &[
                 Call::List(RANGE),
-                Call::Change(0, Change::Set(DW_AT_ranges, Value::Ranges(0))),
+                Call::Put(How::Set, 0, DW_AT_ranges, Value::Ranges(0)),
             ],
             ..ROOT
         }],
@@ -164,8 +163,8 @@ const ROWS: &[Row] = &[
         name: "a location list that names an entry",
         units: &[Plan {
             calls: &[
-                Call::Located(FIRST_SYMBOL, OWN_ROOT),
-                Call::Change(0, Change::Set(DW_AT_location, Value::Locations(0))),
+                Call::Locate(RANGE, Some(OWN_ROOT)),
+                Call::Put(How::Set, 0, DW_AT_location, Value::Locations(0)),
             ],
             ..ROOT
         }],
@@ -202,8 +201,8 @@ const ROWS: &[Row] = &[
         name: "a place past the largest addend",
         units: &[Plan {
             calls: &[
-                Call::Change(0, Change::Set(DW_AT_low_pc, Value::Address(SYMBOL))),
-                Call::Change(0, Change::Set(DW_AT_macros, Value::Macros(1 << 63))),
+                Call::Put(How::Set, 0, DW_AT_low_pc, Value::Address(SYMBOL)),
+                Call::Put(How::Set, 0, DW_AT_macros, Value::Macros(1 << 63)),
             ],
             is_written: false,
             ..ROOT
@@ -231,32 +230,31 @@ fn holds(row: &Row, sections: &Sections<RelocVec<LittleEndian>>) -> bool {
     is_written && is_recorded && sections.debug_abbrev.0.relocations().is_empty()
 }
 
-/// What came of a row: its outcomes, and whether the sections hold what they are to.
-type Written = ([Outcome; 2], bool);
-
 /// Writes the units of a row into these sections.
 fn write_row(
     alloc: Global,
     row: &Row,
     sections: &mut Sections<RelocVec<LittleEndian>>,
-) -> Result<Written> {
-    let outcomes = write_units(alloc, row.units, sections)?;
-    Ok((outcomes, row.refusal.is_some() || holds(row, sections)))
+) -> Result<Told> {
+    let (refusal, is_planned) = write_plans(alloc, row.units, sections)?;
+    let is_recorded = refusal.is_some() || holds(row, sections);
+    Ok((refusal, is_planned && is_recorded))
 }
 
 /// Writes the units of a row into new sections.
-fn run_row(alloc: Global, row: &Row) -> Result<Written> {
+fn write_new(alloc: Global, row: &Row) -> Result<Told> {
     let mut sections = Sections::new(alloc, RelocVec::new(alloc, LittleEndian))?;
     write_row(alloc, row, &mut sections)
 }
 
 #[test]
-fn records_what_a_linker_puts_in(rt: HostRuntime) -> std::result::Result<(), Fail> {
+fn records_what_a_linker_puts_in(rt: HostRuntime) {
     for row in ROWS {
         assert_eq!(rt;
-            (row.name, run_row(rt.alloc(), row)?),
-            (row.name, ([(row.refusal, None); 2], true))
+            write_new(rt.alloc(), row),
+            Ok((row.refusal, true)),
+            "{}",
+            row.name
         );
     }
-    Ok(())
 }

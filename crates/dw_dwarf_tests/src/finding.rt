@@ -1,10 +1,9 @@
 //! Whether units are those of a file.
 
-use crate::layouts::encoding;
-use crate::rows::{Kept, Named, Row, UNITS};
+use crate::table_files::{Kept, Named, Row, encoding, unit_rows};
 use dw_base::{StringId, UnitEntryId};
 use dw_dwarf::{
-    Attribute, AttributeValue, DebuggingInformationEntry, StringTable, Unit, UnitTable,
+    Attribute, AttributeValue, DebuggingInformationEntry, Dwarf, Encoding, StringTable, Unit,
 };
 
 /// A string of the table.
@@ -50,9 +49,8 @@ fn is_row(strings: &StringTable, entry: &DebuggingInformationEntry, row: &Row) -
 
 /// Whether the entries of a unit are as the rows have them.
 fn are_rows(strings: &StringTable, unit: &Unit, rows: &[Row]) -> bool {
-    let count = unit.count();
     for (index, row) in rows.iter().enumerate() {
-        if index >= count {
+        if index >= unit.count() {
             return false;
         }
         let entry = unit.get(UnitEntryId(index));
@@ -60,20 +58,28 @@ fn are_rows(strings: &StringTable, unit: &Unit, rows: &[Row]) -> bool {
             return false;
         }
     }
-    count == rows.len()
+    unit.count() == rows.len() && unit.reserved() == rows.len()
 }
 
-/// The first unit that isn't as its file has it, or the number of units where there are others.
-pub(crate) fn differs(file: usize, units: &UnitTable, strings: &StringTable) -> Option<usize> {
-    let count = units.count();
-    for (number, rows) in UNITS.iter().enumerate() {
-        if number >= count {
-            return Some(number);
+/// Whether a unit tells this encoding.
+fn is_encoded(unit: &Unit, encoding: Encoding) -> bool {
+    unit.root() == UnitEntryId(0)
+        && unit.encoding() == encoding
+        && unit.version() == encoding.version
+        && unit.address_size() == encoding.address_size
+        && unit.format() == encoding.format
+}
+
+/// Whether the units of a `Dwarf` are those of a file.
+pub(crate) fn are_found(file: usize, dwarf: &Dwarf) -> bool {
+    for (number, rows) in unit_rows().iter().enumerate() {
+        if number >= dwarf.units.count() {
+            return false;
         }
-        let unit = units.get(units.id(number));
-        if unit.encoding() != encoding(file, number) || !are_rows(strings, unit, rows) {
-            return Some(number);
+        let unit = dwarf.units.get(dwarf.units.id(number));
+        if !is_encoded(unit, encoding(file, number)) || !are_rows(&dwarf.strings, unit, rows) {
+            return false;
         }
     }
-    (count != UNITS.len()).then_some(count)
+    dwarf.units.count() == unit_rows().len()
 }

@@ -1,9 +1,8 @@
 //! The units of files as they are read.
 
-use crate::layouts::encoding;
-use crate::rows::{Kept, Named, Row, UNITS};
+use crate::table_files::{Kept, Named, Row, encoding, unit_rows};
+use crate::writing::Written;
 use dw_base::{Encoding, RunTimeEndian};
-use dw_dwarf::{EndianVec, Sections};
 use dw_read::{
     Attribute, AttributeValue, DebuggingInformationEntry, EndianSlice, EntriesRaw, ReadError,
     ReadResult, Reader, UnitHeader, UnitHeadersIter,
@@ -12,8 +11,6 @@ use dw_read_units::{Dwarf, UnitRef};
 use std::alloc::Global;
 
 pub(crate) type Slice<'a> = EndianSlice<'a, RunTimeEndian>;
-
-pub(crate) type Written = Sections<EndianVec<RunTimeEndian>>;
 
 /// A reader of these bytes. No proof but this function's knows what it reads.
 fn reader(bytes: &[u8], endian: RunTimeEndian) -> Slice<'_> {
@@ -80,42 +77,32 @@ fn is_row(entry: &DebuggingInformationEntry<Slice<'_>>, row: &Row) -> bool {
 }
 
 /// Whether the next entry is as a row has it.
-fn reads_row(
-    alloc: Global,
-    unit: UnitRef<'_, Slice<'_>>,
-    entries: &mut EntriesRaw<'_, Slice<'_>>,
+fn reads_row<'a>(
+    unit: UnitRef<'_, Slice<'a>>,
+    entries: &mut EntriesRaw<'_, Slice<'a>>,
+    entry: &mut DebuggingInformationEntry<Slice<'a>>,
     row: &Row,
 ) -> ReadResult<bool> {
-    let mut entry = DebuggingInformationEntry::new(alloc);
-    if !entries.read_entry(&mut entry)? || !is_row(&entry, row) {
+    if !entries.read_entry(entry)? || !is_row(entry, row) {
         return Ok(false);
     }
     are_named(unit, &entry.attrs, &row.3)
 }
 
-/// Whether the entries are as the rows have them, but for their end.
-fn reads_rows(
-    alloc: Global,
-    unit: UnitRef<'_, Slice<'_>>,
-    entries: &mut EntriesRaw<'_, Slice<'_>>,
+/// Whether the entries are as the rows have them, and end behind a null entry, where the root has
+/// children.
+fn reads_rows<'a>(
+    unit: UnitRef<'_, Slice<'a>>,
+    entries: &mut EntriesRaw<'_, Slice<'a>>,
+    entry: &mut DebuggingInformationEntry<Slice<'a>>,
     rows: &[Row],
 ) -> ReadResult<bool> {
     for row in rows {
-        if !reads_row(alloc, unit, entries, row)? {
+        if !reads_row(unit, entries, entry, row)? {
             return Ok(false);
         }
     }
-    Ok(true)
-}
-
-/// Whether the entries end here: behind a null entry, where the root has children.
-fn ends(
-    alloc: Global,
-    entries: &mut EntriesRaw<'_, Slice<'_>>,
-    has_children: bool,
-) -> ReadResult<bool> {
-    let mut entry = DebuggingInformationEntry::new(alloc);
-    if has_children && entries.read_entry(&mut entry)? {
+    if rows.len() > 1 && entries.read_entry(entry)? {
         return Ok(false);
     }
     Ok(entries.is_empty())
@@ -124,10 +111,8 @@ fn ends(
 /// Whether the entries of a unit are those of the rows.
 fn reads_entries(alloc: Global, unit: UnitRef<'_, Slice<'_>>, rows: &[Row]) -> ReadResult<bool> {
     let mut entries = unit.entries_raw(alloc, None)?;
-    if !reads_rows(alloc, unit, &mut entries, rows)? {
-        return Ok(false);
-    }
-    ends(alloc, &mut entries, rows.len() > 1)
+    let mut entry = DebuggingInformationEntry::new(alloc);
+    reads_rows(unit, &mut entries, &mut entry, rows)
 }
 
 /// Whether a unit is read with this encoding and the entries of the rows.
@@ -159,18 +144,13 @@ fn reads_next(
     }
 }
 
-/// The first unit that isn't read as its file has it, or the number of units where there is
-/// another.
-pub(crate) fn differs(
-    alloc: Global,
-    file: usize,
-    dwarf: &Dwarf<Slice<'_>>,
-) -> ReadResult<Option<usize>> {
+/// Whether the units are read as their file has them, and no others.
+pub(crate) fn are_read(alloc: Global, file: usize, dwarf: &Dwarf<Slice<'_>>) -> ReadResult<bool> {
     let mut headers = dwarf.units();
-    for (number, rows) in UNITS.iter().enumerate() {
+    for (number, rows) in unit_rows().iter().enumerate() {
         if !reads_next(alloc, dwarf, &mut headers, encoding(file, number), rows)? {
-            return Ok(Some(number));
+            return Ok(false);
         }
     }
-    Ok(headers.next()?.map(|_| UNITS.len()))
+    Ok(headers.next()?.is_none())
 }

@@ -1,0 +1,154 @@
+//! Files of three units of different encodings, as they are built, written, read and converted back
+//! (DWARF 5, 7.5).
+
+use crate::building::{Call, How, Value};
+use crate::plans::{Told, add_unit};
+use crate::writing::Written;
+use crate::{finding, reading};
+use dw_base::constants::{DW_AT_name, DW_AT_producer, DW_TAG_compile_unit, DW_TAG_subprogram};
+use dw_base::{DwAt, DwTag};
+use dw_dwarf::{Address, ConvertResult, Dwarf, Encoding, Format, Result, RunTimeEndian, StringId};
+use std::alloc::Global;
+
+/// Where a text is kept: in its entry, or in `.debug_str`.
+#[derive(Clone, Copy, PartialEq, Eq)]
+pub(crate) enum Kept {
+    InEntry,
+    InTable,
+}
+
+/// The name of an attribute and its text.
+pub(crate) type Named = (DwAt, Kept, &'static [u8]);
+
+/// An entry: its parent, its tag, its children, and its attribute.
+pub(crate) type Row = (Option<usize>, DwTag, &'static [usize], Option<Named>);
+
+/// A root alone.
+const ALONE: &[Row] = &[(None, DW_TAG_compile_unit, &[], None)];
+
+/// A unit whose root has a producer and two subprograms.
+const FAMILY: &[Row] = &[
+    (
+        None,
+        DW_TAG_compile_unit,
+        &[1, 2],
+        Some((DW_AT_producer, Kept::InEntry, b"root")),
+    ),
+    (
+        Some(0),
+        DW_TAG_subprogram,
+        &[],
+        Some((DW_AT_name, Kept::InTable, b"child1")),
+    ),
+    (
+        Some(0),
+        DW_TAG_subprogram,
+        &[],
+        Some((DW_AT_name, Kept::InTable, b"child2")),
+    ),
+];
+
+/// How that unit is built: the first subprogram has its name by a walk, the second by a second
+/// call.
+const FAMILY_CALLS: &[Call] = &[
+    Call::Put(How::Set, 0, DW_AT_producer, Value::Text(b"root")),
+    Call::Add(0, DW_TAG_subprogram),
+    Call::Put(How::Set, 1, DW_AT_name, Value::Text(b"tmp")),
+    Call::Put(
+        How::ReplaceFirst,
+        1,
+        DW_AT_name,
+        Value::InTable(StringId(0)),
+    ),
+    Call::Add(0, DW_TAG_subprogram),
+    Call::Put(How::Set, 2, DW_AT_name, Value::Text(b"tmp")),
+    Call::Put(How::Set, 2, DW_AT_name, Value::InTable(StringId(1))),
+];
+
+/// The entries of the units of each file.
+pub(crate) fn unit_rows() -> [&'static [Row]; 3] {
+    [FAMILY, ALONE, ALONE]
+}
+
+/// How many files there are: one for each encoding of their first unit and order of bytes.
+pub(crate) const FILES: usize = 32;
+
+/// The order of bytes of a file.
+pub(crate) fn endian(file: usize) -> RunTimeEndian {
+    [RunTimeEndian::Little, RunTimeEndian::Big][file % 2]
+}
+
+/// The encoding of a number: versions, formats and sizes of addresses.
+fn numbered(number: usize) -> Encoding {
+    Encoding {
+        address_size: [4, 8][number % 2],
+        format: [Format::Dwarf32, Format::Dwarf64][number / 2 % 2],
+        version: [2, 3, 4, 5][number / 4 % 4],
+    }
+}
+
+/// The encoding of a unit of a file. The numbers of a file's three units differ in these bits, so
+/// that one of the files has a unit of version 4 with 8-byte addresses in the 32-bit format (9), one
+/// of version 2 with 4-byte addresses in the 64-bit format (2), and one of version 5 with 4-byte
+/// addresses in the 32-bit format (12).
+pub(crate) fn encoding(file: usize, unit: usize) -> Encoding {
+    numbered(file / 2 % 16 ^ [0, 11, 5][unit % 3])
+}
+
+/// Adds the units of a file and their strings.
+fn build(alloc: Global, file: usize, dwarf: &mut Dwarf) -> Result<()> {
+    dwarf.strings.add(b"child1")?;
+    dwarf.strings.add(b"child2")?;
+    for (number, calls) in [FAMILY_CALLS, &[], &[]].iter().enumerate() {
+        add_unit(alloc, &mut dwarf.units, encoding(file, number), calls)?;
+    }
+    Ok(())
+}
+
+/// Builds the units of a file and writes them. Tells whether they are found as they are built.
+fn write_built(
+    alloc: Global,
+    file: usize,
+    dwarf: &mut Dwarf,
+    sections: &mut Written,
+) -> Result<Told> {
+    build(alloc, file, dwarf)?;
+    let is_found = finding::are_found(file, dwarf);
+    Ok((dwarf.write(sections).err(), is_found))
+}
+
+/// The same of a new `Dwarf`.
+fn write_new(alloc: Global, file: usize, sections: &mut Written) -> Result<Told> {
+    let mut dwarf = Dwarf::new(alloc);
+    write_built(alloc, file, &mut dwarf, sections)
+}
+
+/// What the sections of a file become.
+fn converted(alloc: Global, file: usize, sections: &Written) -> ConvertResult<Dwarf> {
+    let address = |address| Some(Address::Constant(address));
+    Dwarf::from(alloc, &reading::read(sections, endian(file)), &address)
+}
+
+/// Tells whether the sections of a file become what was built.
+fn come_back(alloc: Global, file: usize, sections: &Written) -> bool {
+    match converted(alloc, file, sections) {
+        Ok(dwarf) => finding::are_found(file, &dwarf),
+        Err(_) => false,
+    }
+}
+
+/// Tells whether the sections of a file are read as what was built.
+fn are_read(alloc: Global, file: usize, sections: &Written) -> bool {
+    let dwarf = reading::read(sections, endian(file));
+    reading::are_read(alloc, file, &dwarf) == Ok(true)
+}
+
+/// Builds the units of a file, writes, reads and converts them.
+pub(crate) fn write_file(alloc: Global, file: usize, sections: &mut Written) -> Result<Told> {
+    let (refusal, is_built) = write_new(alloc, file, sections)?;
+    let is_read = are_read(alloc, file, sections);
+    Ok((
+        refusal,
+        is_built && is_read && come_back(alloc, file, sections),
+    ))
+}

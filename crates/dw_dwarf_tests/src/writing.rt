@@ -1,0 +1,58 @@
+//! New sections, and what is written into them.
+
+ghost use Rattle.dw_writer.specs.Sections.{NoFixups};
+
+use crate::alone::{Alone, write_alone};
+use crate::converting::{Conversion, write_converted};
+use crate::filling::fill_in;
+use crate::line_programs::{Program, write_program};
+use crate::plans::{Told, write_root};
+use crate::table_files::write_file;
+use crate::units::{Units, write_units};
+use dw_dwarf::{Result, RunTimeEndian, Sections};
+use dw_writer::FaultVec;
+use std::alloc::Global;
+
+/// Sections in memory.
+pub(crate) type Written = Sections<FaultVec<RunTimeEndian>>;
+
+/// What is written.
+#[derive(Clone, Copy)]
+pub(crate) enum Job {
+    /// A root alone, once.
+    Root,
+    Units(&'static Units),
+    Alone(Alone),
+    Program(Program),
+    Conversion(Conversion),
+    /// The file of a number of `table_files`.
+    File(usize),
+    /// What `filling` writes step by step.
+    Filling,
+}
+
+/// Writes into sections without fixups.
+fn write_into(alloc: Global, job: Job, sections: &mut Written) -> Result<Told>
+    requires { NoFixups sections.old }
+{
+    match job {
+        Job::Root => write_root(alloc, sections),
+        Job::Units(units) => write_units(alloc, units, sections),
+        Job::Alone(alone) => write_alone(alloc, alone, sections),
+        Job::Program(program) => write_program(alloc, program, sections),
+        Job::Conversion(conversion) => write_converted(alloc, conversion, sections),
+        Job::File(file) => write_file(alloc, file, sections),
+        Job::Filling => fill_in(alloc, sections),
+    }
+}
+
+/// Writes into new sections of a byte order. The calls with these numbers fail in each of them.
+pub(crate) fn write(
+    alloc: Global,
+    endian: RunTimeEndian,
+    failing: Vec<u64>,
+    job: Job,
+) -> Result<Told> {
+    let mut sections = Sections::new(alloc, FaultVec::new(alloc, endian, failing))?;
+    write_into(alloc, job, &mut sections)
+}
