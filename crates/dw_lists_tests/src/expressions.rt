@@ -436,24 +436,14 @@ fn write(
     expression.write(w, refs, way.encoding, way.places.as_ref())
 }
 
-/// How many bytes two texts have in common at their begin.
-fn common(found: &[u8], wanted: &[u8]) -> usize {
-    for (i, (left, right)) in found.iter().zip(wanted).enumerate() {
-        if left != right {
-            return i;
-        }
-    }
-    found.len().min(wanted.len())
-}
-
-/// What is answered of an expression's size, and of the expression, where it is written: how many
-/// bytes are right, and whether all the rest is, too.
-type Answer = (Result<usize>, Result<(usize, bool)>);
+/// What is answered of an expression's size, and of the expression, where it is written: whether it
+/// is as the row tells.
+type Answer = (Result<usize>, Result<bool>);
 
 /// What a row tells of the answer.
 fn wanted_of(row: Row) -> Answer {
     match row.3 {
-        Ok((begin, _, _)) => (row.2, Ok((begin.len(), true))),
+        Ok(_) => (row.2, Ok(true)),
         Err(error) => (row.2, Err(error)),
     }
 }
@@ -466,10 +456,11 @@ fn answer_of(alloc: Global, expression: &Expression, row: Row) -> Answer {
     let mut list = FixupList::new(alloc);
     let written = write(expression, row.1, &mut w, &mut list);
     let bytes = w.slice();
-    let is_right = bytes.ends_with(end)
+    let is_right = bytes.starts_with(begin)
+        && bytes.ends_with(end)
         && size == Ok(bytes.len())
         && fixups == [list.get(0), list.get(1)];
-    (size, written.and(Ok((common(bytes, begin), is_right))))
+    (size, written.and(Ok(is_right)))
 }
 
 fn write_row(alloc: Global, row: Row) -> Result<Answer> {
@@ -518,8 +509,14 @@ fn is_one_raw(alloc: Global) -> Result<(bool, bool)> {
     is_raw_alone(&mut expression, &bytes)
 }
 
+/// Whether an expression without operations is raw.
+fn is_none_raw(alloc: Global) -> bool {
+    let expression = Expression::new(alloc);
+    expression.as_raw().is_some()
+}
+
 #[test]
 fn tells_raw_expressions(rt: HostRuntime) {
-    assert!(rt; Expression::new(rt.alloc()).as_raw().is_none());
-    assert_eq!(rt; is_one_raw(rt.alloc()), Ok((true, true)));
+    let none = is_none_raw(rt.alloc());
+    assert_eq!(rt; (none, is_one_raw(rt.alloc())), (false, Ok((true, true))));
 }
