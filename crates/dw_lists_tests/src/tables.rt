@@ -1,4 +1,4 @@
-//! Tables of lists as plain values, so that other tables can hold them, and what is written of them.
+//! Tables of lists as plain values, so that other tables can hold them, and how they are written.
 
 use crate::calls::Call::{self, Op};
 use crate::calls::expression_of;
