@@ -4,8 +4,6 @@
 mod line_string_table;
 mod string_list;
 mod string_table;
-#[cfg(test)]
-mod tests;
 
 pub use line_string_table::LineStringTable;
 pub use string_table::StringTable;

@@ -1,7 +1,9 @@
-//! The tests of `dw_writer`. They stand over the finished crate: beside its code they would have
-//! it proved a second time.
+//! The tests of `dw_writer`, `dw_abbrev` and `dw_strings`. They stand over the finished crates: beside
+//! their code they would have it proved a second time.
 #![tactic(auto)]
 
+#[cfg(test)]
+mod abbreviation_tests;
 #[cfg(test)]
 mod calls;
 #[cfg(test)]
@@ -10,5 +12,7 @@ mod code_tests;
 mod relocation_tests;
 #[cfg(test)]
 mod section_tests;
+#[cfg(test)]
+mod string_tests;
 #[cfg(test)]
 mod vector_tests;

@@ -2,13 +2,12 @@
 
 use crate::calls::Call::{Address, Offset, OffsetAt, Pointer, Reference, U8, U8At, U128};
 use crate::calls::{Answer, Call, SYMBOL, first_unanswered, leaves};
-use crate::vector_tests::{EACH, Fork, PCREL_SDATA4, forks};
+use crate::vector_tests::{EACH, Fork, PCREL_SDATA4};
 use dw_base::Address::{Constant, Symbol};
 use dw_base::RunTimeEndian::{Big, Little};
 use dw_base::constants::DW_EH_PE_uleb128;
 use dw_base::{Error, RunTimeEndian, SectionId};
-use dw_writer::{RelocVec, RelocateWriter, Relocation, RelocationTarget, Writer};
-use std::test::Fail;
+use dw_writer::{RelocVec, Relocation, RelocationTarget};
 
 /// The records of each call.
 const EACH_RECORDS: &[Relocation] = &[
@@ -176,11 +175,15 @@ const HELD: &[Row] = &[
     ),
 ];
 
+/// The table, into which no other proof looks.
+fn held() -> &'static [Row] {
+    HELD
+}
+
 #[test]
 fn records_what_a_linker_puts_in(rt: HostRuntime) {
-    for (i, (order, calls, bytes, records)) in HELD.iter().enumerate() {
+    for (i, (order, calls, bytes, records)) in held().iter().enumerate() {
         let w = RelocVec::new(rt.alloc(), *order);
-        assert_eq!(rt; (i, w.writer().len(), w.endian()), (i, 0, *order));
         assert!(rt; leaves(w, calls, bytes, records), "at {i}");
     }
 }
@@ -223,7 +226,7 @@ fn refuses_calls_and_records_nothing(rt: HostRuntime) {
 }
 
 /// A record that both have, and one that the copy doesn't get.
-const FORKED: Fork = Fork {
+pub const FORKED: Fork = Fork {
     before: &[(Offset(1, SectionId::DebugStr, 2), Ok(()))],
     own: (
         &[(Offset(2, SectionId::DebugLine, 1), Ok(()))],
@@ -257,9 +260,3 @@ const FORKED: Fork = Fork {
         }],
     ),
 };
-
-#[test]
-fn copies_have_their_own_records(rt: HostRuntime) -> std::result::Result<(), Fail> {
-    assert!(rt; forks(RelocVec::new(rt.alloc(), Big), &FORKED)?);
-    Ok(())
-}

@@ -4,15 +4,12 @@ ghost use Rattle.std.specs.Prelude.{◌≡◌};
 
 use crate::calls::Call::{Offset, U8, U8At};
 use crate::calls::{Answer, FAULT, Held, first_wrong};
-use dw_base::{
-    DebugInfoOffset, Error, LittleEndian, Result, RunTimeEndian, SectionId, UnitEntryId, UnitId,
-};
+use dw_base::{Error, LittleEndian, Result, RunTimeEndian, SectionId, UnitEntryId, UnitId};
 use dw_writer::{
-    Bytes, DebugInfo, DebugInfoFixup, EndianVec, FaultVec, FixupList, RelocVec, Relocation,
-    RelocationTarget, Section, Sections, Writer,
+    Bytes, DebugInfoFixup, EndianVec, FaultVec, FixupList, RelocVec, Relocation, RelocationTarget,
+    Section, Sections, Writer,
 };
 use std::alloc::Global;
-use std::test::Fail;
 
 /// The sections that are written, in their order.
 const WRITTEN: [SectionId; 11] = [
@@ -43,13 +40,6 @@ const NAMES: [&str; 11] = [
     ".debug_frame",
     ".eh_frame",
 ];
-
-/// Sections that each begin as a clone. No proof but this function's knows how they begin.
-fn new_sections<W: Writer + Clone>(alloc: Global, section: W) -> Result<Sections<W>>
-    requires { (w : W) → W.is_clone section w → W.meaning w ≡ W.meaning section }
-{
-    Sections::new(alloc, section)
-}
 
 /// Gives each section its number, so often as that tells: sections of different lengths.
 fn fill<W: Writer>(sections: &mut Sections<W>) -> Result<()> {
@@ -84,12 +74,25 @@ fn fixup_at(offset: usize) -> DebugInfoFixup {
     }
 }
 
+const INFO_PLACES: &[usize] = &[0, 1, 2, 3];
+
+const LOC_PLACES: &[usize] = &[10, 11, 12, 13, 14];
+
+const LOCLISTS_PLACES: &[usize] = &[20, 21, 22, 23, 24, 25];
+
 /// Adds fixups at these places.
 fn add_fixups(list: &mut FixupList, places: &[usize]) -> Result<()> {
     for place in places {
         list.push(fixup_at(*place))?;
     }
     Ok(())
+}
+
+/// Adds fixups to each list.
+fn add_each_fixup<W: Writer>(sections: &mut Sections<W>) -> Result<()> {
+    add_fixups(&mut sections.debug_info_fixups, INFO_PLACES)?;
+    add_fixups(&mut sections.debug_loc_fixups, LOC_PLACES)?;
+    add_fixups(&mut sections.debug_loclists_fixups, LOCLISTS_PLACES)
 }
 
 /// Tells that a list has fixups at these places, and no others.
@@ -99,20 +102,7 @@ fn has_fixups(list: &FixupList, places: &[usize]) -> bool {
             return false;
         }
     }
-    list.len() == places.len() && list.get(places.len()).is_none()
-}
-
-const INFO_PLACES: &[usize] = &[0, 1, 2, 3];
-
-const LOC_PLACES: &[usize] = &[10, 11, 12, 13, 14];
-
-const LOCLISTS_PLACES: &[usize] = &[20, 21, 22, 23, 24, 25];
-
-/// Adds fixups to each list.
-fn add_each_fixup<W: Writer>(sections: &mut Sections<W>) -> Result<()> {
-    add_fixups(&mut sections.debug_info_fixups, INFO_PLACES)?;
-    add_fixups(&mut sections.debug_loc_fixups, LOC_PLACES)?;
-    add_fixups(&mut sections.debug_loclists_fixups, LOCLISTS_PLACES)
+    list.len() == places.len()
 }
 
 /// Tells that each list has these fixups.
@@ -133,72 +123,30 @@ fn visit_up_to<W: Writer>(sections: &mut Sections<W>, last: Option<SectionId>) -
     })
 }
 
-/// Tells that a visit of filled sections that fails at the one of this index leaves the others.
-fn visits_up_to<W: Writer + Clone + Held>(alloc: Global, section: W, index: usize) -> Result<bool>
-    requires { (w : W) → W.is_clone section w → W.meaning w ≡ W.meaning section }
-{
-    let mut sections = new_sections(alloc, section)?;
-    fill(&mut sections)?;
-    add_each_fixup(&mut sections)?;
+/// Tells that a visit of filled sections that fails at the one of this index leaves the others. No
+/// clause can say what a section holds after the loan that a visit was given.
+fn visits_up_to<W: Writer + Held>(sections: &mut Sections<W>, index: usize) -> bool {
+    let is_filled = fill(sections).is_ok() && add_each_fixup(sections).is_ok();
     let last = WRITTEN.get(index).copied();
-    let answer = visit_up_to(&mut sections, last);
+    let answer = visit_up_to(sections, last);
     let is_told = answer == if last.is_some() { FAULT } else { Ok(()) };
-    Ok(is_told && first_not_filled(&sections, index).is_none() && has_each_fixup(&sections))
+    is_filled && is_told && first_not_filled(sections, index).is_none() && has_each_fixup(sections)
 }
 
-/// No clause can say what a section holds after the loan that a visit was given.
-#[test]
-fn visits_sections_up_to_the_first_error(rt: HostRuntime) -> std::result::Result<(), Fail> {
-    for i in 0..12 {
-        let section = EndianVec::new(rt.alloc(), LittleEndian);
-        assert!(rt; visits_up_to(rt.alloc(), section, i)?, "at {i}");
-    }
-    Ok(())
-}
-
-/// Collects the names of filled sections, and fails at one.
-fn look_up_to<W: Writer>(
-    sections: &Sections<W>,
-    last: Option<SectionId>,
-    names: &mut Vec<&'static str>,
-) -> Result<()> {
-    sections.for_each(|id, section| {
-        names.push(id.name())?;
-        if Some(id) == last || section.len() != id as usize {
-            Err(Error::WriteFault)
-        } else {
+/// Tells that sections are looked at in their order, and that a look at one fails where it should.
+fn looks_up_to<W: Writer>(sections: &Sections<W>, last: Option<SectionId>, wanted: usize) -> bool {
+    let mut count = 0usize;
+    let answer = sections.for_each(|id, section| {
+        let is_next = NAMES.get(count) == Some(&id.name()) && section.len() == 0;
+        count = count.saturating_add(1);
+        if is_next && Some(id) != last {
             Ok(())
+        } else {
+            Err(Error::WriteFault)
         }
-    })
-}
-
-/// Tells that filled sections are looked at in their order, up to the one at which a look fails.
-fn looks_up_to<W: Writer + Clone>(
-    alloc: Global,
-    section: W,
-    last: Option<SectionId>,
-    count: usize,
-) -> Result<bool>
-    requires { (w : W) → W.is_clone section w → W.meaning w ≡ W.meaning section }
-{
-    let mut sections = new_sections(alloc, section)?;
-    fill(&mut sections)?;
-    let mut names = Vec::new(alloc);
-    let answer = look_up_to(&sections, last, &mut names);
+    });
     let is_told = answer == if last.is_some() { FAULT } else { Ok(()) };
-    Ok(is_told && NAMES.get(..count) == Some(names.as_slice()))
-}
-
-#[test]
-fn looks_at_sections_in_order(rt: HostRuntime) -> std::result::Result<(), Fail> {
-    for (last, count) in [(None, 11), (Some(SectionId::DebugLine), 4)] {
-        let section = EndianVec::new(rt.alloc(), LittleEndian);
-        assert!(rt;
-            looks_up_to(rt.alloc(), section, last, count)?,
-            "at {count}"
-        );
-    }
-    Ok(())
+    is_told && count == wanted
 }
 
 /// What the sections are, by their types.
@@ -218,80 +166,79 @@ fn ids_of<W: Writer>(sections: &Sections<W>) -> [SectionId; 11] {
     ]
 }
 
-/// The first section that is lent, to look at or to write, though it isn't written.
-fn first_lent<W: Writer>(sections: &mut Sections<W>) -> Option<SectionId> {
-    for id in [
-        SectionId::DebugAddr,
-        SectionId::DebugStrOffsets,
-        SectionId::DebugMacinfo,
-        SectionId::DebugMacro,
-        SectionId::DebugAranges,
-    ] {
-        if sections.get(id).is_some() || sections.get_mut(id).is_some() {
-            return Some(id);
-        }
+/// What two sections answer, and the bytes and records that the first has then.
+struct Calls {
+    line: &'static [Answer],
+    loc: &'static [Answer],
+    bytes: &'static [u8],
+    records: &'static [Relocation],
+}
+
+fn answers<W: Writer + Held>(sections: &mut Sections<W>, calls: &Calls) -> bool {
+    let line = first_wrong(sections.debug_line.section_mut(), calls.line);
+    let loc = first_wrong(sections.debug_loc.section_mut(), calls.loc);
+    let section = sections.debug_line.section();
+    line.is_none()
+        && loc.is_none()
+        && section.bytes() == calls.bytes
+        && section.records() == calls.records
+}
+
+/// What new sections are tried for.
+enum Trial {
+    /// They are those that are written, by their types.
+    Written,
+    Visit(usize),
+    Look(Option<SectionId>, usize),
+    Answers(Calls),
+}
+
+fn passes<W: Writer + Held>(sections: &mut Sections<W>, trial: &Trial) -> bool {
+    match trial {
+        Trial::Written => ids_of(sections) == WRITTEN,
+        Trial::Visit(index) => visits_up_to(sections, *index),
+        Trial::Look(last, count) => looks_up_to(sections, *last, *count),
+        Trial::Answers(calls) => answers(sections, calls),
     }
-    None
 }
 
-/// Tells that the sections are those that are written, by their types, and no others are lent.
-fn has_written<W: Writer + Clone>(alloc: Global, section: W) -> Result<bool>
-    requires { (w : W) → W.is_clone section w → W.meaning w ≡ W.meaning section }
-{
-    let mut sections = new_sections(alloc, section)?;
-    Ok(ids_of(&sections) == WRITTEN && first_lent(&mut sections).is_none())
-}
-
-#[test]
-fn has_the_sections_that_are_written(rt: HostRuntime) -> std::result::Result<(), Fail> {
-    let section = EndianVec::new(rt.alloc(), LittleEndian);
-    assert!(rt; has_written(rt.alloc(), section)?);
-    Ok(())
-}
-
-/// Tells that a section ends behind its bytes.
-fn ends_behind<W: Writer + Held + Drop>(mut info: DebugInfo<W>, bytes: &[u8]) -> Result<bool> {
-    let begin = info.offset();
-    info.section_mut().write(bytes)?;
-    let end = DebugInfoOffset(bytes.len());
-    Ok(begin == DebugInfoOffset(0) && info.offset() == end && info.section().bytes() == bytes)
-}
-
-#[test]
-fn tells_where_a_section_ends(rt: HostRuntime) -> std::result::Result<(), Fail> {
-    let info = DebugInfo::from(EndianVec::new(rt.alloc(), LittleEndian));
-    assert_eq!(rt;
-        (info.id(), info.name()),
-        (SectionId::DebugInfo, ".debug_info")
-    );
-    assert!(rt; ends_behind(info, b"abc")?);
-    Ok(())
-}
-
-/// Tells that two of the sections that each begin as a clone answer what they should, and that the
-/// first then has these bytes and records.
-fn two_sections<W: Writer + Clone + Held>(
+/// Tells that sections which each begin as a clone pass a trial.
+fn new_sections_pass<W: Writer + Clone + Held>(
     alloc: Global,
     section: W,
-    answers: (&[Answer], &[Answer]),
-    bytes: &[u8],
-    records: &[Relocation],
+    trial: &Trial,
 ) -> Result<bool>
     requires { (w : W) → W.is_clone section w → W.meaning w ≡ W.meaning section }
 {
-    let (first, second) = answers;
-    let mut sections = new_sections(alloc, section)?;
-    let line = first_wrong(sections.debug_line.section_mut(), first);
-    let loc = first_wrong(sections.debug_loc.section_mut(), second);
-    let line_section = sections.debug_line.section();
-    let is_held = line_section.bytes() == bytes && line_section.records() == records;
-    Ok(line.is_none() && loc.is_none() && is_held)
+    let mut sections = Sections::new(alloc, section)?;
+    Ok(passes(&mut sections, trial))
 }
 
-const RELOCATED: &[Answer] = &[
-    (Offset(5, SectionId::DebugAbbrev, 4), Ok(())),
-    (U8(8), Ok(())),
-];
+/// What the sections are made of.
+#[derive(Clone, Copy)]
+enum Kind {
+    Plain,
+    Relocating,
+    /// The second call that writes fails.
+    Failing,
+}
+
+fn pass_over(alloc: Global, kind: Kind, trial: &Trial) -> Result<bool> {
+    match kind {
+        Kind::Plain => new_sections_pass(alloc, EndianVec::new(alloc, LittleEndian), trial),
+        Kind::Relocating => {
+            new_sections_pass(alloc, RelocVec::new(alloc, RunTimeEndian::Little), trial)
+        }
+        Kind::Failing => {
+            let calls = vec![in alloc; 1]?;
+            new_sections_pass(
+                alloc,
+                FaultVec::new(alloc, RunTimeEndian::Little, calls),
+                trial,
+            )
+        }
+    }
+}
 
 const RECORD: Relocation = Relocation {
     offset: 0,
@@ -301,47 +248,66 @@ const RECORD: Relocation = Relocation {
     eh_pe: None,
 };
 
-/// The other section has no byte to be patched.
-const EMPTY: &[Answer] = &[(U8At(0, 1), Err(Error::LengthOutOfBounds))];
+const TRIALS: &[(Kind, Trial)] = &[
+    (Kind::Plain, Trial::Written),
+    (Kind::Plain, Trial::Look(None, 11)),
+    (Kind::Plain, Trial::Look(Some(SectionId::DebugLine), 4)),
+    (Kind::Plain, Trial::Visit(0)),
+    (Kind::Plain, Trial::Visit(1)),
+    (Kind::Plain, Trial::Visit(2)),
+    (Kind::Plain, Trial::Visit(3)),
+    (Kind::Plain, Trial::Visit(4)),
+    (Kind::Plain, Trial::Visit(5)),
+    (Kind::Plain, Trial::Visit(6)),
+    (Kind::Plain, Trial::Visit(7)),
+    (Kind::Plain, Trial::Visit(8)),
+    (Kind::Plain, Trial::Visit(9)),
+    (Kind::Plain, Trial::Visit(10)),
+    (Kind::Plain, Trial::Visit(11)),
+    // The other section has no byte to be patched.
+    (
+        Kind::Relocating,
+        Trial::Answers(Calls {
+            line: &[
+                (Offset(5, SectionId::DebugAbbrev, 4), Ok(())),
+                (U8(8), Ok(())),
+            ],
+            loc: &[(U8At(0, 1), Err(Error::LengthOutOfBounds))],
+            bytes: b"\0\0\0\0\x08",
+            records: &[RECORD],
+        }),
+    ),
+    // Each section counts its own calls.
+    (
+        Kind::Failing,
+        Trial::Answers(Calls {
+            line: &[(U8(1), Ok(())), (U8(2), FAULT)],
+            loc: &[(U8(3), Ok(()))],
+            bytes: b"\x01",
+            records: &[],
+        }),
+    ),
+];
 
-#[test]
-fn makes_sections_of_relocating_vectors(rt: HostRuntime) -> std::result::Result<(), Fail> {
-    let w = RelocVec::new(rt.alloc(), RunTimeEndian::Little);
-    let bytes = b"\0\0\0\0\x08";
-    assert!(rt; two_sections(rt.alloc(), w, (RELOCATED, EMPTY), bytes, &[RECORD])?);
-    Ok(())
+/// The table, into which no other proof looks.
+fn trials() -> &'static [(Kind, Trial)] {
+    TRIALS
 }
 
-/// Each section counts its own calls.
-const FAILING: &[Answer] = &[(U8(1), Ok(())), (U8(2), FAULT)];
-
-const ONCE: &[Answer] = &[(U8(3), Ok(()))];
-
 #[test]
-fn makes_sections_of_failing_vectors(rt: HostRuntime) -> std::result::Result<(), Fail> {
-    let calls = vec![in rt.alloc(); 1]?;
-    let w = FaultVec::new(rt.alloc(), RunTimeEndian::Little, calls);
-    assert!(rt; two_sections(rt.alloc(), w, (FAILING, ONCE), b"\x01", &[])?);
-    Ok(())
+fn tries_new_sections(rt: HostRuntime) {
+    for (i, (kind, trial)) in trials().iter().enumerate() {
+        assert_eq!(rt; pass_over(rt.alloc(), *kind, trial), Ok(true), "at {i}");
+    }
+}
+
+/// Tells that a copy of a copy of bytes holds them.
+fn copies(alloc: Global, bytes: &[u8]) -> Result<bool> {
+    let copy = Bytes::new(alloc, bytes)?.try_clone()?;
+    Ok(copy.slice() == bytes)
 }
 
 #[test]
-fn lists_and_clears_fixups(rt: HostRuntime) -> std::result::Result<(), Fail> {
-    let mut list = FixupList::new(rt.alloc());
-    add_fixups(&mut list, &[11, 15])?;
-    let has_two = has_fixups(&list, &[11, 15]) && !list.is_empty();
-    list.clear();
-    assert_eq!(rt; (has_two, list.is_empty(), list.get(0)), (true, true, None));
-    Ok(())
-}
-
-#[test]
-fn copies_bytes(rt: HostRuntime) -> std::result::Result<(), Fail> {
-    let bytes = Bytes::new(rt.alloc(), b"abc")?;
-    let copy = bytes.try_clone()?;
-    let none = Bytes::from(Vec::new(rt.alloc()));
-    assert!(rt; copy == bytes && copy.slice() == b"abc".as_slice());
-    assert!(rt; bytes.len() == 3 && !bytes.is_empty() && none.is_empty() && none != bytes);
-    assert!(rt; bytes.into_vec().as_slice() == b"abc".as_slice());
-    Ok(())
+fn copies_bytes(rt: HostRuntime) {
+    assert_eq!(rt; copies(rt.alloc(), b"abc"), Ok(true));
 }

@@ -7,6 +7,7 @@ use crate::calls::Call::{
     Sleb128, U8, U8At, U16, U16At, U32, U32At, U64, U64At, U128, Udata, UdataAt, Uleb128,
 };
 use crate::calls::{Answer, Call, FAULT, Held, SYMBOL, first_unanswered, first_wrong, leaves};
+use crate::relocation_tests::FORKED;
 use dw_base::Address::Constant;
 use dw_base::RunTimeEndian::{Big, Little};
 use dw_base::constants::{
@@ -14,12 +15,9 @@ use dw_base::constants::{
     DW_EH_PE_sleb128, DW_EH_PE_textrel, DW_EH_PE_udata2, DW_EH_PE_udata4, DW_EH_PE_udata8,
     DW_EH_PE_uleb128,
 };
-use dw_base::{
-    BigEndian, DwEhPe, Error, Format, LittleEndian, RunTimeEndian, SectionId, one_fault_more,
-};
-use dw_writer::{EndianVec, FaultVec, Relocation, Writer};
-use std::alloc::AllocError;
-use std::test::Fail;
+use dw_base::{BigEndian, DwEhPe, Error, Format, LittleEndian, Result, RunTimeEndian, SectionId};
+use dw_writer::{EndianVec, FaultVec, RelocVec, Relocation, Writer};
+use std::alloc::{AllocError, Global};
 
 /// Bytes, a number of each width, numbers by their widths, and LEB128; a length, an address and
 /// offsets; and then each call that patches.
@@ -149,56 +147,35 @@ const HELD: &[(RunTimeEndian, &[Call], &[u8])] = &[
     ),
 ];
 
-#[test]
-fn holds_what_calls_leave(rt: HostRuntime) {
-    for (i, (order, calls, bytes)) in HELD.iter().enumerate() {
-        let plain = EndianVec::new(rt.alloc(), *order);
-        let faulty = FaultVec::new(rt.alloc(), *order, Vec::new(rt.alloc()));
-        let is_plain = leaves(plain, calls, bytes, &[]);
-        assert_eq!(rt;
-            (i, is_plain, leaves(faulty, calls, bytes, &[])),
-            (i, true, true)
-        );
+/// The table, into which no other proof looks.
+fn held() -> &'static [(RunTimeEndian, &'static [Call], &'static [u8])] {
+    HELD
+}
+
+/// Tells that calls leave these bytes in a vector whose order is chosen when the program is built.
+fn leaves_in_order(alloc: Global, order: RunTimeEndian, calls: &[Call], bytes: &[u8]) -> bool {
+    match order {
+        Big => leaves(EndianVec::new(alloc, BigEndian), calls, bytes, &[]),
+        Little => leaves(EndianVec::new(alloc, LittleEndian), calls, bytes, &[]),
     }
 }
 
-const NUMBERS: &[Call] = &[
-    U8(0x01),
-    U16(0x0203),
-    U32(0x0405_0607),
-    U64(0x0809_0a0b_0c0d_0e0f),
-    Udata(0x1011, 2),
-    Sdata(-2, 4),
-];
-
-/// The orders that are chosen when the program is built.
-#[test]
-fn puts_numbers_in_fixed_orders(rt: HostRuntime) {
-    let big = [
-        0x01, 0x02, 0x03, 0x04, 0x05, 0x06, 0x07, 0x08, 0x09, 0x0a, 0x0b, 0x0c, 0x0d, 0x0e, 0x0f,
-        0x10, 0x11, 0xff, 0xff, 0xff, 0xfe,
-    ];
-    let little = [
-        0x01, 0x03, 0x02, 0x07, 0x06, 0x05, 0x04, 0x0f, 0x0e, 0x0d, 0x0c, 0x0b, 0x0a, 0x09, 0x08,
-        0x11, 0x10, 0xfe, 0xff, 0xff, 0xff,
-    ];
-    let is_big = leaves(EndianVec::new(rt.alloc(), BigEndian), NUMBERS, &big, &[]);
-    let is_little = leaves(
-        EndianVec::new(rt.alloc(), LittleEndian),
-        NUMBERS,
-        &little,
-        &[],
-    );
-    assert_eq!(rt; (is_big, is_little), (true, true));
+/// Tells that calls leave these bytes in each vector that records nothing.
+fn leave(alloc: Global, order: RunTimeEndian, calls: &[Call], bytes: &[u8]) -> [bool; 3] {
+    let no_faults = Vec::new(alloc);
+    [
+        leaves(FaultVec::new(alloc, order, no_faults), calls, bytes, &[]),
+        leaves(EndianVec::new(alloc, order), calls, bytes, &[]),
+        leaves_in_order(alloc, order, calls, bytes),
+    ]
 }
 
-/// The bytes, without a copy.
 #[test]
-fn hands_its_bytes_out(rt: HostRuntime) -> std::result::Result<(), Fail> {
-    let mut w = EndianVec::new(rt.alloc(), LittleEndian);
-    w.write(b"abc")?;
-    assert_eq!(rt; w.into_vec().as_slice(), b"abc".as_slice());
-    Ok(())
+fn holds_what_calls_leave(rt: HostRuntime) {
+    for (i, (order, calls, bytes)) in held().iter().enumerate() {
+        let held = leave(rt.alloc(), *order, calls, bytes);
+        assert_eq!(rt; held, [true; 3], "at {i}");
+    }
 }
 
 /// Four zeros, and calls that a vector of these refuses that records nothing.
@@ -242,15 +219,18 @@ const REFUSED: &[Answer] = &[
     ),
 ];
 
+/// The first calls that are answered otherwise by the vectors that record nothing.
+fn unanswered(alloc: Global) -> [Option<usize>; 2] {
+    let no_faults = Vec::new(alloc);
+    [
+        first_unanswered(FaultVec::new(alloc, Big, no_faults), REFUSED, &[0; 4]),
+        first_unanswered(EndianVec::new(alloc, Big), REFUSED, &[0; 4]),
+    ]
+}
+
 #[test]
 fn refuses_calls_and_adds_nothing(rt: HostRuntime) {
-    let plain = EndianVec::new(rt.alloc(), Big);
-    let faulty = FaultVec::new(rt.alloc(), Big, Vec::new(rt.alloc()));
-    let wrong = first_unanswered(plain, REFUSED, &[0; 4]);
-    assert_eq!(rt;
-        (wrong, first_unanswered(faulty, REFUSED, &[0; 4])),
-        (None, None)
-    );
+    assert_eq!(rt; unanswered(rt.alloc()), [None, None]);
 }
 
 /// A copy under a bound, which promises that clones are the same writers.
@@ -269,10 +249,7 @@ pub struct Fork {
 }
 
 /// Tells that a writer and its copy answer what they should, and get their own bytes and records.
-pub fn forks<W: Writer + Clone + Held>(
-    mut w: W,
-    fork: &Fork,
-) -> std::result::Result<bool, AllocError>
+fn forks<W: Writer + Clone + Held>(mut w: W, fork: &Fork) -> std::result::Result<bool, AllocError>
     requires { (s n : W) → W.is_clone s n → W.meaning n ≡ W.meaning s }
 {
     let before = first_wrong(&mut w, fork.before);
@@ -332,18 +309,16 @@ const FAILING: Fork = Fork {
     copied: (&[(Uleb128(0), FAULT)], b"\x01\x02\x07", &[]),
 };
 
-#[test]
-fn copies_are_apart(rt: HostRuntime) -> std::result::Result<(), Fail> {
-    assert!(rt; forks(EndianVec::new(rt.alloc(), LittleEndian), &PATCHED)?);
-    let calls = vec![in rt.alloc(); 0, 3, 5, 6]?;
-    assert!(rt; forks(FaultVec::new(rt.alloc(), Big, calls), &FAILING)?);
-    Ok(())
+/// Whether writers of each kind and their copies are apart.
+fn copies(alloc: Global) -> Result<[bool; 3]> {
+    let plain = forks(EndianVec::new(alloc, LittleEndian), &PATCHED)?;
+    let relocating = forks(RelocVec::new(alloc, Big), &FORKED)?;
+    let calls = vec![in alloc; 0, 3, 5, 6]?;
+    let faulty = forks(FaultVec::new(alloc, Big, calls), &FAILING)?;
+    Ok([plain, relocating, faulty])
 }
 
 #[test]
-fn counts_faults_to_their_end(rt: HostRuntime) {
-    assert_eq!(rt;
-        (one_fault_more(7), one_fault_more(u64::MAX)),
-        (8, u64::MAX)
-    );
+fn copies_are_apart(rt: HostRuntime) {
+    assert_eq!(rt; copies(rt.alloc()), Ok([true; 3]));
 }
