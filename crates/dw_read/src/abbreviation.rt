@@ -15,7 +15,7 @@ use std::marker::Model;
 ///     }
 /// }
 /// ```
-#[derive(Clone, Copy, Debug, PartialEq, Eq, Hash)]
+#[derive(Clone, Copy, PartialEq, Eq, Hash)]
 pub struct AttributeSpecification {
     pub(crate) name: DwAt,
     pub(crate) form: DwForm,

@@ -5,7 +5,7 @@ ghost use Rattle.std.specs.Prelude.{◌≤◌};
 use dw_base::{DwUt, Encoding};
 
 /// What a header says after its length.
-#[derive(Debug, Drop)]
+#[derive(Drop)]
 pub(crate) struct Fields {
     pub(crate) encoding: Encoding,
     pub(crate) unit_type: Option<DwUt>,

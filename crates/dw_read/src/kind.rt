@@ -9,7 +9,7 @@ use dw_base::constants::*;
 use dw_base::{DwForm, Encoding};
 
 /// How an operand is laid out.
-#[derive(Clone, Copy, Debug)]
+#[derive(Clone, Copy)]
 pub(crate) enum Kind {
     /// No bytes at all.
     Empty,

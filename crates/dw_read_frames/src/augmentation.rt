@@ -11,7 +11,7 @@ use dw_base::DwEhPe;
 use dw_read::{ReadError, ReadResult, Reader};
 
 /// What the augmentation of a CIE says.
-#[derive(Clone, Copy, Debug, PartialEq, Eq)]
+#[derive(Clone, Copy)]
 pub(crate) struct Augmentation {
     /// How FDEs encode the pointer to their data.
     pub(crate) lsda: Option<DwEhPe>,

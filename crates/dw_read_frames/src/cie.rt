@@ -19,7 +19,7 @@ use dw_base::{DwEhPe, Encoding, Format, Register};
 use dw_read::{ReadError, ReadResult, Reader};
 
 /// What a CIE says before its instructions.
-#[derive(Clone, Copy, Debug, PartialEq, Eq)]
+#[derive(Clone, Copy)]
 pub(crate) struct CieFields {
     pub(crate) encoding: Encoding,
     pub(crate) augmentation: Option<Augmentation>,

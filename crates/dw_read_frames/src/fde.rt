@@ -16,7 +16,7 @@ use dw_base::constants::DW_EH_PE_absptr;
 use dw_read::{ReadResult, Reader};
 
 /// What an FDE says before its instructions.
-#[derive(Clone, Copy, Debug, PartialEq, Eq)]
+#[derive(Clone, Copy)]
 pub(crate) struct FdeFields {
     pub(crate) initial_address: u64,
     pub(crate) length: u64,

@@ -10,7 +10,7 @@ use dw_base::DwForm;
 use dw_read::Reader;
 
 /// A part of entries: what it tells of a directory or a file, and the form of its value.
-#[derive(Clone, Copy, Debug, PartialEq, Eq)]
+#[derive(Clone, Copy, PartialEq, Eq)]
 pub struct FileEntryFormat {
     /// The code of a content, as `DW_LNCT_path` is one; vendors have their own.
     pub content_type: u64,

@@ -87,7 +87,7 @@ pub(crate) fn old_id<R: Reader>(attrs: &[Attribute<R>]) -> Option<DwoId>
 }
 
 /// Where the parts of other sections begin that belong to a unit.
-#[derive(Clone, Copy, Debug, PartialEq, Eq)]
+#[derive(Clone, Copy)]
 pub(crate) struct Bases {
     pub(crate) str_offsets: usize,
     pub(crate) addr: usize,

@@ -4,58 +4,43 @@ ghost use Rattle.std.specs.Prelude.{◌≡◌};
 
 use dw_read::ReadError;
 use std::alloc::{AllocError, AllocFailed};
-use thiserror::Error as ThisError;
+use std::fmt;
 
 /// The result of a call that converts what is read into what is written.
 pub type ConvertResult<T> = std::result::Result<T, ConvertError>;
 
 /// Why a call that converts refuses.
-#[derive(Clone, Copy, Debug, PartialEq, Eq, ThisError)]
+#[derive(Clone, Copy, Debug, PartialEq, Eq)]
 pub enum ConvertError {
     /// What is converted can't be read.
-    #[error("{0}")]
     Read(ReadError),
     /// No memory could be had, also by the reader.
-    #[error("out of memory")]
     NoMemory,
     /// An address has no image on the target.
-    #[error("an address can't be converted")]
     InvalidAddress,
     /// No entry that is converted begins at a place in a unit.
-    #[error("a place in a unit leads to no entry")]
     InvalidUnitRef,
     /// No entry that is converted begins at a place in `.debug_info`.
-    #[error("a place in .debug_info leads to no entry")]
     InvalidDebugInfoRef,
     /// A branch leads neither to the begin of an operation nor to the end.
-    #[error("a branch leads to no operation")]
     InvalidBranchTarget,
     /// A place in a section stands for an attribute whose section isn't known.
-    #[error("an attribute leads to an unknown section")]
     InvalidAttributeValue,
     /// An attribute names another line program than its unit's.
-    #[error("an attribute names the line program of another unit")]
     InvalidLineRef,
     /// A file isn't in the line program's list.
-    #[error("a file isn't in the line program")]
     InvalidFileIndex,
     /// A directory isn't in the line program's list, or version 5 has none.
-    #[error("a directory isn't in the line program")]
     InvalidDirectoryIndex,
     /// A pair of addresses counts from a base, and their images aren't both constants.
-    #[error("a range that counts from a base isn't constant")]
     InvalidRangeRelativeAddress,
     /// An operation needs a unit, and there is none.
-    #[error("an operation needs a unit")]
     UnsupportedOperation,
     /// An instruction of a call frame sets the place.
-    #[error("a frame instruction isn't supported")]
     UnsupportedCfiInstruction,
     /// A line program has what no line program here can say.
-    #[error("a line program isn't supported")]
     UnsupportedLineProgram,
     /// A number that was read doesn't fit what it becomes.
-    #[error("a number is too large")]
     IntegerOverflow,
 }
 
@@ -85,6 +70,41 @@ impl ConvertError {
         }
     }
 }
+
+impl ConvertError {
+    /// The text of what isn't an error of the reader.
+    fn text(&self) -> &'static str {
+        match self {
+            ConvertError::Read(error) => error.name(),
+            ConvertError::NoMemory => "out of memory",
+            ConvertError::InvalidAddress => "an address can't be converted",
+            ConvertError::InvalidUnitRef => "a place in a unit leads to no entry",
+            ConvertError::InvalidDebugInfoRef => "a place in .debug_info leads to no entry",
+            ConvertError::InvalidBranchTarget => "a branch leads to no operation",
+            ConvertError::InvalidAttributeValue => "an attribute leads to an unknown section",
+            ConvertError::InvalidLineRef => "an attribute names the line program of another unit",
+            ConvertError::InvalidFileIndex => "a file isn't in the line program",
+            ConvertError::InvalidDirectoryIndex => "a directory isn't in the line program",
+            ConvertError::InvalidRangeRelativeAddress =>
+                "a range that counts from a base isn't constant",
+            ConvertError::UnsupportedOperation => "an operation needs a unit",
+            ConvertError::UnsupportedCfiInstruction => "a frame instruction isn't supported",
+            ConvertError::UnsupportedLineProgram => "a line program isn't supported",
+            ConvertError::IntegerOverflow => "a number is too large",
+        }
+    }
+}
+
+impl fmt::Display for ConvertError {
+    fn fmt<W: fmt::Write>(&self, f: &mut fmt::Formatter<W>) -> fmt::Result {
+        match self {
+            ConvertError::Read(error) => write!(f, "{error}"),
+            other => f.write_str(other.text()),
+        }
+    }
+}
+
+impl std::error::Error for ConvertError {}
 
 impl From<ReadError> for ConvertError {
     ghost use Rattle.dw_sources.specs.ConvertErrors.{from_read};

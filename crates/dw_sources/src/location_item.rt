@@ -82,7 +82,7 @@ pub enum RawLocListEntry<R: Reader> {
 }
 
 /// What an item has before its expression, if it has one.
-#[derive(Clone, Copy, Debug)]
+#[derive(Clone, Copy)]
 pub(crate) enum Before {
     Base(u64),
     Basex(u64),
@@ -90,7 +90,7 @@ pub(crate) enum Before {
 }
 
 /// The addresses that an expression is for.
-#[derive(Clone, Copy, Debug)]
+#[derive(Clone, Copy)]
 pub(crate) enum Spot {
     Pair(u64, u64),
     StartxEndx(u64, u64),

@@ -20,7 +20,7 @@ use dw_read::{ReadError, ReadResult, Reader};
 /// ```
 /// let item = RawRngListEntry::StartLength { begin: 0x1000, length: 0x20 };
 /// ```
-#[derive(Clone, Copy, Debug, PartialEq, Eq)]
+#[derive(Clone, Copy, PartialEq, Eq)]
 pub enum RawRngListEntry {
     /// Up to version 4: two addresses, or two offsets where a base is in force.
     AddressOrOffsetPair { begin: u64, end: u64 },
