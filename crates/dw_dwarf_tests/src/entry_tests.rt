@@ -58,10 +58,7 @@ fn tag_at(alloc: Global, read: &ReadDwarf<Slice>, offset: usize) -> ConvertResul
 fn reads_entries_at_their_offsets(rt: HostRuntime) {
     let read = read_sections(&TWO_UNITS);
     for (offset, tag) in OFFSETS {
-        assert_eq!(rt;
-            (offset, &tag_at(rt.alloc(), &read, *offset)),
-            (offset, tag)
-        );
+        assert!(rt; tag_at(rt.alloc(), &read, *offset) == *tag, "at {offset}");
     }
 }
 

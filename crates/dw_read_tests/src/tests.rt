@@ -1,5 +1,4 @@
 mod abbreviations;
-mod entry_ids;
 mod frames;
 mod input;
 mod joined;

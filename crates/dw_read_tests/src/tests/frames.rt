@@ -1,10 +1,12 @@
 //! The entries of three sections, with their bytes by hand (DWARF 5, 6.4.1).
 
+use crate::tests::input::Items;
 use crate::tests::sections::{Slice, little};
 use dw_base::{DwEhPe, Format, Register, RunTimeEndian};
 use dw_read::{EndianSlice, ReadError, ReadResult};
 use dw_read_frames::{
-    CallFrameInstruction, CallFrameInstructionIter, CieOrFde, DebugFrame, EhFrame, UnwindSection,
+    CallFrameInstruction, CallFrameInstructionIter, CfiEntriesIter, CieOrFde,
+    CommonInformationEntry, DebugFrame, EhFrame, FrameDescriptionEntry, UnwindSection,
 };
 
 // `.debug_frame` in little endian, with addresses of 4 bytes. At 0 a CIE of version 1: factors 1
@@ -46,176 +48,194 @@ fn told(instruction: &CallFrameInstruction<Slice<'_>>) -> Told {
     }
 }
 
-/// Five answers of instructions; where there is none the name is empty.
-fn five_of(mut instructions: CallFrameInstructionIter<Slice<'_>>) -> ReadResult<[Told; 5]> {
-    let mut all = [("", 0, 0); 5];
-    for place in &mut all {
-        if let Some(instruction) = instructions.next()? {
-            *place = told(&instruction);
+/// Whether these are all instructions.
+fn are_told(mut instructions: CallFrameInstructionIter<Slice<'_>>, wanted: &[Told]) -> bool {
+    for told in wanted {
+        if !is_next(&mut instructions, told) {
+            return false;
         }
     }
-    Ok(all)
+    matches!(instructions.next(), Ok(None))
 }
 
-/// The place of a CIE, its version, its size of addresses and its format, its factors and column, its pointers, and its instructions.
-type Common = (
-    (usize, (u16, u8, Format)),
-    (u64, i64, Register),
-    (Option<(DwEhPe, u64)>, Option<DwEhPe>, Option<DwEhPe>, bool),
-    ReadResult<[Told; 5]>,
-);
-
-/// The first entry of a section, where it is a CIE.
-fn common<'a, S: UnwindSection<Slice<'a>>>(section: &S) -> ReadResult<Option<Common>> {
-    let Some(CieOrFde::Cie(cie)) = section.entries().next()? else {
-        return Ok(None);
-    };
-    let encoding = cie.encoding();
-    Ok(Some((
-        (
-            cie.offset(),
-            (encoding.version, encoding.address_size, encoding.format),
-        ),
-        (
-            cie.code_alignment_factor(),
-            cie.data_alignment_factor(),
-            cie.return_address_register(),
-        ),
-        (
-            cie.personality_with_encoding(),
-            cie.lsda_encoding(),
-            cie.fde_address_encoding(),
-            cie.is_signal_trampoline(),
-        ),
-        five_of(cie.instructions()),
-    )))
-}
-
-/// The place of an FDE and that of its CIE, its addresses and its data, and its instructions.
-type Frame = (
-    (usize, usize),
-    (u64, u64, Option<u64>),
-    ReadResult<[Told; 5]>,
-);
-
-/// The second entry of a section, where it is an FDE.
-fn frame<'a, S: UnwindSection<Slice<'a>>>(section: &S) -> ReadResult<Option<Frame>> {
-    let mut entries = section.entries();
-    entries.next()?;
-    let Some(CieOrFde::Fde(partial)) = entries.next()? else {
-        return Ok(None);
-    };
-    let places = (partial.offset(), partial.cie_offset());
-    let frame = partial.parse(section.cie_from_offset(places.1)?)?;
-    let addresses = (frame.initial_address(), frame.len(), frame.lsda());
-    Ok(Some((places, addresses, five_of(frame.instructions()))))
-}
-
-/// Whether each of four entries of a section is there.
-fn are_there<'a, S: UnwindSection<Slice<'a>>>(section: &S) -> [ReadResult<bool>; 4] {
-    let mut entries = section.entries();
-    let mut answers = [Ok(false); 4];
-    for answer in &mut answers {
-        *answer = entries.next().map(|entry| entry.is_some());
+fn is_next(instructions: &mut CallFrameInstructionIter<Slice<'_>>, wanted: &Told) -> bool {
+    match instructions.next() {
+        Ok(Some(instruction)) => told(&instruction) == *wanted,
+        _ => false,
     }
-    answers
 }
 
-/// What is known of a section.
-type Facts = (
-    ReadResult<Option<Common>>,
-    ReadResult<Option<Frame>>,
-    [ReadResult<bool>; 4],
-);
+/// Whether two entries are read, and no more, however often it is asked for.
+fn are_two(mut entries: CfiEntriesIter<Slice<'_>>) -> bool {
+    for answer in [Ok(true), Ok(true), Ok(false), Ok(false)] {
+        if entries.passes() != answer {
+            return false;
+        }
+    }
+    true
+}
 
-fn facts<'a, S: UnwindSection<Slice<'a>>>(section: &S) -> Facts {
-    (common(section), frame(section), are_there(section))
+/// The place of a CIE, its version, its size of addresses and its format; its factors and column.
+type Common = ((usize, u16, u8, Format), (u64, i64, Register));
+
+/// The personality routine, how the data and the addresses of frames are encoded, and whether the
+/// functions are trampolines.
+type Pointers = (Option<(DwEhPe, u64)>, Option<DwEhPe>, Option<DwEhPe>, bool);
+
+fn common(cie: &CommonInformationEntry<Slice<'_>>) -> (Common, Pointers) {
+    let encoding = cie.encoding();
+    let kind = (
+        cie.offset(),
+        encoding.version,
+        encoding.address_size,
+        encoding.format,
+    );
+    let factors = (
+        cie.code_alignment_factor(),
+        cie.data_alignment_factor(),
+        cie.return_address_register(),
+    );
+    let pointers = (
+        cie.personality_with_encoding(),
+        cie.lsda_encoding(),
+        cie.fde_address_encoding(),
+        cie.is_signal_trampoline(),
+    );
+    ((kind, factors), pointers)
+}
+
+/// The place of an FDE and that of its CIE, its addresses and its data.
+type Frame = (usize, usize, u64, u64, Option<u64>);
+
+/// What is wanted of the one CIE and the one FDE of a section, each with its instructions.
+struct Wanted {
+    common: Common,
+    pointers: Pointers,
+    of_common: &'static [Told],
+    frame: Frame,
+    of_frame: &'static [Told],
+}
+
+/// Whether the first entry of a section is the CIE that is wanted.
+fn has_common(mut entries: CfiEntriesIter<Slice<'_>>, wanted: &Wanted) -> bool {
+    match entries.next() {
+        Ok(Some(CieOrFde::Cie(cie))) => {
+            common(&cie) == (wanted.common, wanted.pointers)
+                && are_told(cie.instructions(), wanted.of_common)
+        }
+        _ => false,
+    }
+}
+
+/// The FDE that the second entry of a section is. Its CIE is handed in.
+fn frame<'a>(
+    mut entries: CfiEntriesIter<Slice<'a>>,
+    cie: CommonInformationEntry<Slice<'a>>,
+) -> ReadResult<Option<(usize, FrameDescriptionEntry<Slice<'a>>)>> {
+    entries.next()?;
+    match entries.next()? {
+        Some(CieOrFde::Fde(partial)) => {
+            let place = partial.cie_offset();
+            Ok(Some((place, partial.parse(cie)?)))
+        }
+        _ => Ok(None),
+    }
+}
+
+/// Whether the second entry of a section is the FDE that is wanted.
+fn has_frame<'a>(
+    entries: CfiEntriesIter<Slice<'a>>,
+    cie: ReadResult<CommonInformationEntry<Slice<'a>>>,
+    wanted: &Wanted,
+) -> bool {
+    let Ok(cie) = cie else {
+        return false;
+    };
+    match frame(entries, cie) {
+        Ok(Some((cie, fde))) => {
+            let told = (
+                fde.offset(),
+                cie,
+                fde.initial_address(),
+                fde.len(),
+                fde.lsda(),
+            );
+            told == wanted.frame && are_told(fde.instructions(), wanted.of_frame)
+        }
+        _ => false,
+    }
 }
 
 const NOP: Told = ("Nop", 0, 0);
 
-const NO_MORE: Told = ("", 0, 0);
+const DEBUG: Wanted = Wanted {
+    common: ((0, 1, 4, Format::Dwarf32), (1, -4, Register(8))),
+    pointers: (None, None, None, false),
+    of_common: &[("DefCfa", 4, 4), ("Offset", 8, 1), NOP, NOP],
+    frame: (20, 0, 0x1000, 32, None),
+    of_frame: &[("AdvanceLoc", 2, 0), ("DefCfaOffset", 8, 0), NOP],
+};
 
-const TWO_ENTRIES: [ReadResult<bool>; 4] = [Ok(true), Ok(true), Ok(false), Ok(false)];
+const EH: Wanted = Wanted {
+    common: ((0, 1, 8, Format::Dwarf32), (1, -8, Register(16))),
+    pointers: (
+        Some((DwEhPe(0x9b), 0x100)),
+        Some(DwEhPe(0x1b)),
+        Some(DwEhPe(0x1b)),
+        true,
+    ),
+    of_common: &[("DefCfa", 7, 8), ("Offset", 16, 1), NOP],
+    frame: (32, 0, 0x10, 64, Some(0x200)),
+    of_frame: &[("AdvanceLoc", 1, 0), ("DefCfaOffset", 16, 0)],
+};
 
-const DEBUG: Facts = (
-    Ok(Some((
-        (0, (1, 4, Format::Dwarf32)),
-        (1, -4, Register(8)),
-        (None, None, None, false),
-        Ok([("DefCfa", 4, 4), ("Offset", 8, 1), NOP, NOP, NO_MORE]),
-    ))),
-    Ok(Some((
-        (20, 0),
-        (0x1000, 32, None),
-        Ok([
-            ("AdvanceLoc", 2, 0),
-            ("DefCfaOffset", 8, 0),
-            NOP,
-            NO_MORE,
-            NO_MORE,
-        ]),
-    ))),
-    TWO_ENTRIES,
-);
+const WIDE: Wanted = Wanted {
+    common: ((0, 4, 4, Format::Dwarf64), (4, -4, Register(128))),
+    pointers: (None, None, None, false),
+    of_common: &[],
+    frame: (28, 0, 0x1000, 32, None),
+    of_frame: &[],
+};
 
-const EH: Facts = (
-    Ok(Some((
-        (0, (1, 8, Format::Dwarf32)),
-        (1, -8, Register(16)),
-        (
-            Some((DwEhPe(0x9b), 0x100)),
-            Some(DwEhPe(0x1b)),
-            Some(DwEhPe(0x1b)),
-            true,
-        ),
-        Ok([("DefCfa", 7, 8), ("Offset", 16, 1), NOP, NO_MORE, NO_MORE]),
-    ))),
-    Ok(Some((
-        (32, 0),
-        (0x10, 64, Some(0x200)),
-        Ok([
-            ("AdvanceLoc", 1, 0),
-            ("DefCfaOffset", 16, 0),
-            NO_MORE,
-            NO_MORE,
-            NO_MORE,
-        ]),
-    ))),
-    TWO_ENTRIES,
-);
+fn has_debug_frame(section: Slice<'_>, size: u8, wanted: &Wanted) -> bool {
+    let frames = DebugFrame::new(section, size);
+    are_two(frames.entries())
+        && has_common(frames.entries(), wanted)
+        && has_frame(frames.entries(), frames.cie_from_offset(0), wanted)
+}
 
-const WIDE: Facts = (
-    Ok(Some((
-        (0, (4, 4, Format::Dwarf64)),
-        (4, -4, Register(128)),
-        (None, None, None, false),
-        Ok([NO_MORE; 5]),
-    ))),
-    Ok(Some(((28, 0), (0x1000, 32, None), Ok([NO_MORE; 5])))),
-    TWO_ENTRIES,
-);
+fn has_eh_frame(section: Slice<'_>, size: u8, wanted: &Wanted) -> bool {
+    let frames = EhFrame::new(section, size);
+    are_two(frames.entries())
+        && has_common(frames.entries(), wanted)
+        && has_frame(frames.entries(), frames.cie_from_offset(0), wanted)
+}
 
 #[test]
 fn reads_the_entries_of_frames(rt: HostRuntime) {
     let wide = EndianSlice::new(WIDE_FRAME, RunTimeEndian::Big);
-    let answers = [
-        facts(&DebugFrame::new(little(DEBUG_FRAME), 4)) == DEBUG,
-        facts(&EhFrame::new(little(EH_FRAME), 8)) == EH,
-        facts(&DebugFrame::new(wide, 8)) == WIDE,
-    ];
-    assert_eq!(rt; answers, [true; 3]);
+    assert!(rt; has_debug_frame(little(DEBUG_FRAME), 4, &DEBUG));
+    assert!(rt; has_eh_frame(little(EH_FRAME), 8, &EH));
+    assert!(rt; has_debug_frame(wide, 8, &WIDE));
+}
+
+/// Why no common entry is read at a place of `EH_FRAME`, if none is.
+fn refusal_at(place: usize) -> Option<ReadError> {
+    let frames = EhFrame::new(little(EH_FRAME), 8);
+    match frames.cie_from_offset(place) {
+        Ok(_) => None,
+        Err(reason) => Some(reason),
+    }
 }
 
 #[test]
 fn refuses_a_place_without_a_cie(rt: HostRuntime) {
-    let frames = EhFrame::new(little(EH_FRAME), 8);
     for (place, refused) in [
         (0, None),
         (32, Some(ReadError::InvalidCiePointer(32))),
         (56, Some(ReadError::InvalidCiePointer(56))),
         (EH_FRAME.len() + 1, Some(ReadError::UnexpectedEof)),
     ] {
-        assert_eq!(rt; frames.cie_from_offset(place).err(), refused);
+        assert_eq!(rt; refusal_at(place), refused);
     }
 }

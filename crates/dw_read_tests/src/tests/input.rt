@@ -1,12 +1,10 @@
 //! What bytes are read as, and how that ends.
 
-use crate::tests::entry_ids::ABBREVIATIONS;
 use crate::tests::lines::program;
 use crate::tests::operations::operations;
-use crate::tests::sections::{Bytes, NONE, Slice, little, sections};
+use crate::tests::sections::{Bytes, NONE, Slice, little};
 use crate::tests::trees::rows_of;
 use dw_base::{Encoding, RunTimeEndian};
-use dw_entry_ids::number_units;
 use dw_read::{Abbreviations, ReadResult, Reader, UnitHeadersIter};
 use dw_read_frames::{CfiEntriesIter, DebugFrame, EhFrame, UnwindSection};
 use dw_read_lines::FileEntryIter;
@@ -24,8 +22,6 @@ pub(crate) enum Input {
     Entries(&'static [u8]),
     /// `.debug_abbrev` beside units.
     Tables(&'static [u8]),
-    /// `.debug_info` whose entries are numbered.
-    Ids,
     DebugFrame,
     EhFrame,
     /// A line program.
@@ -38,44 +34,62 @@ pub(crate) enum Input {
 }
 
 /// What is read item by item.
-trait Items {
+pub(crate) trait Items {
     /// Whether there is an item.
     fn passes(&mut self) -> ReadResult<bool>;
 }
 
 impl Items for UnitHeadersIter<Slice<'_>> {
     fn passes(&mut self) -> ReadResult<bool> {
-        self.next().map(|item| item.is_some())
+        match self.next() {
+            Ok(item) => Ok(item.is_some()),
+            Err(reason) => Err(reason),
+        }
     }
 }
 
 impl Items for CfiEntriesIter<Slice<'_>> {
     fn passes(&mut self) -> ReadResult<bool> {
-        self.next().map(|item| item.is_some())
+        match self.next() {
+            Ok(item) => Ok(item.is_some()),
+            Err(reason) => Err(reason),
+        }
     }
 }
 
 impl Items for FileEntryIter<Slice<'_>> {
     fn passes(&mut self) -> ReadResult<bool> {
-        self.next().map(|item| item.is_some())
+        match self.next() {
+            Ok(item) => Ok(item.is_some()),
+            Err(reason) => Err(reason),
+        }
     }
 }
 
 impl Items for RawRngListIter<Slice<'_>> {
     fn passes(&mut self) -> ReadResult<bool> {
-        self.next().map(|item| item.is_some())
+        match self.next() {
+            Ok(item) => Ok(item.is_some()),
+            Err(reason) => Err(reason),
+        }
     }
 }
 
 impl Items for RawLocListIter<Slice<'_>> {
     fn passes(&mut self) -> ReadResult<bool> {
-        self.next().map(|item| item.is_some())
+        match self.next() {
+            Ok(item) => Ok(item.is_some()),
+            Err(reason) => Err(reason),
+        }
     }
 }
 
 impl Items for OperationIter<Slice<'_>> {
     fn passes(&mut self) -> ReadResult<bool> {
-        self.next().map(|item| item.is_some())
+        match self.next() {
+            Ok(item) => Ok(item.is_some()),
+            Err(reason) => Err(reason),
+        }
     }
 }
 
@@ -106,8 +120,7 @@ pub(crate) fn ending(
         Input::Declarations => table_end(alloc, bytes),
         Input::Entries(abbrev) => units_end(alloc, bytes, abbrev),
         Input::Tables(info) => units_end(alloc, info, bytes),
-        Input::Ids => ids_end(alloc, bytes),
-        Input::Lines => program(bytes, 0).map(|_| true),
+        Input::Lines => line_end(bytes),
         Input::Directories => directories_end(bytes),
         Input::DebugFrame | Input::EhFrame => frames_end(input, bytes),
         Input::Ranges | Input::Locations | Input::Operations => {
@@ -125,22 +138,23 @@ fn table_end(alloc: Global, bytes: &[u8]) -> ReadResult<bool> {
     }
 }
 
-fn units_end(alloc: Global, info: &[u8], abbrev: &[u8]) -> ReadResult<bool> {
+pub(crate) fn units_end<'a>(alloc: Global, info: &'a [u8], abbrev: &'a [u8]) -> ReadResult<bool> {
     let bytes = Bytes {
         info,
         abbrev,
         ..NONE
     };
-    rows_of(alloc, &bytes).map(|_| true)
+    match rows_of(alloc, &bytes) {
+        Ok(_) => Ok(true),
+        Err(reason) => Err(reason),
+    }
 }
 
-fn ids_end(alloc: Global, info: &[u8]) -> ReadResult<bool> {
-    let dwarf = sections(&Bytes {
-        info,
-        abbrev: ABBREVIATIONS,
-        ..NONE
-    });
-    number_units(alloc, &dwarf).map(|_| true)
+fn line_end(bytes: &[u8]) -> ReadResult<bool> {
+    match program(bytes, 0) {
+        Ok(_) => Ok(true),
+        Err(reason) => Err(reason),
+    }
 }
 
 fn directories_end(bytes: &[u8]) -> ReadResult<bool> {

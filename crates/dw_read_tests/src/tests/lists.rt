@@ -123,7 +123,7 @@ const OF_PAIRS: &[Told] = &[
     END,
 ];
 
-const RANGE_LISTS: [Case; 5] = [
+const RANGE_LISTS: &[Case] = &[
     (
         RANGES,
         5,
@@ -153,11 +153,15 @@ const RANGE_LISTS: [Case; 5] = [
     ),
 ];
 
+fn range_lists() -> &'static [Case] {
+    RANGE_LISTS
+}
+
 #[test]
 fn reads_range_lists(rt: HostRuntime) {
-    for (bytes, version, size, wanted) in RANGE_LISTS {
-        let mut items = RawRngListIter::new(little(bytes), encoding(version, size));
-        for told in wanted {
+    for (bytes, version, size, wanted) in range_lists() {
+        let mut items = RawRngListIter::new(little(bytes), encoding(*version, *size));
+        for told in *wanted {
             assert_eq!(rt; next_range(&mut items), Ok(*told), "of version {version}");
         }
     }
@@ -176,7 +180,7 @@ pub(crate) const OLD_LOCATIONS: &[u8] =
 
 const OF_OLD: &[Told] = &[("base", 0x1000, 0, 0), ("pair", 1, 2, 0x96), END];
 
-const LOCATION_LISTS: [Case; 4] = [
+const LOCATION_LISTS: &[Case] = &[
     (
         LOCATIONS,
         5,
@@ -198,11 +202,15 @@ const LOCATION_LISTS: [Case; 4] = [
     (OLD_LOCATIONS, 4, 4, OF_OLD),
 ];
 
+fn location_lists() -> &'static [Case] {
+    LOCATION_LISTS
+}
+
 #[test]
 fn reads_location_lists(rt: HostRuntime) {
-    for (bytes, version, size, wanted) in LOCATION_LISTS {
-        let mut items = RawLocListIter::new(little(bytes), encoding(version, size));
-        for told in wanted {
+    for (bytes, version, size, wanted) in location_lists() {
+        let mut items = RawLocListIter::new(little(bytes), encoding(*version, *size));
+        for told in *wanted {
             assert_eq!(rt;
                 next_location(&mut items),
                 Ok(*told),
@@ -217,10 +225,12 @@ const FIVE: &[u8] = b"\x09\x00\x00\x00\x05\x00\x01\x04\x00\x00\x00\x00\x01";
 
 const FOUR: &[u8] = b"\x08\x00\x00\x00\x04\x00\x00\x00\x00\x00\x04\x01";
 
-/// The first item of a range list, and of a location list, at an offset.
-type AtOffset = (ReadResult<Told>, ReadResult<Told>);
-
-fn at_offset(alloc: Global, info: &[u8], offset: usize) -> ReadResult<AtOffset> {
+/// The first items of the range list and of the location list at an offset of a unit.
+fn at_offset(
+    alloc: Global,
+    info: &[u8],
+    offset: usize,
+) -> ReadResult<(ReadResult<Told>, ReadResult<Told>)> {
     let dwarf = sections(&Bytes {
         info,
         abbrev: b"\x01\x11\x00\x00\x00\x00",
@@ -228,27 +238,39 @@ fn at_offset(alloc: Global, info: &[u8], offset: usize) -> ReadResult<AtOffset> 
         old_lists: b"..\x03\x00\x00\x00\x04\x00\x00\x00\x00\x00",
         ..NONE
     });
-    first(alloc, &dwarf).map(|unit| {
-        let both = UnitRef {
-            dwarf: &dwarf,
-            unit: &unit,
-        };
-        let range = match raw_ranges(both, RangeListsOffset(offset)) {
-            Ok(mut items) => next_range(&mut items),
-            Err(reason) => Err(reason),
-        };
-        let location = match raw_locations(both, LocationListsOffset(offset)) {
-            Ok(mut items) => next_location(&mut items),
-            Err(reason) => Err(reason),
-        };
-        (range, location)
-    })
+    match first(alloc, &dwarf) {
+        Ok(unit) => {
+            let both = UnitRef {
+                dwarf: &dwarf,
+                unit: &unit,
+            };
+            Ok((range_at(both, offset), location_at(both, offset)))
+        }
+        Err(reason) => Err(reason),
+    }
 }
+
+fn range_at(both: UnitRef<'_, Slice<'_>>, offset: usize) -> ReadResult<Told> {
+    match raw_ranges(both, RangeListsOffset(offset)) {
+        Ok(mut items) => next_range(&mut items),
+        Err(reason) => Err(reason),
+    }
+}
+
+fn location_at(both: UnitRef<'_, Slice<'_>>, offset: usize) -> ReadResult<Told> {
+    match raw_locations(both, LocationListsOffset(offset)) {
+        Ok(mut items) => next_location(&mut items),
+        Err(reason) => Err(reason),
+    }
+}
+
+/// A unit, an offset, and the first items there.
+type OfUnit = (&'static [u8], usize, ReadResult<Told>, ReadResult<Told>);
 
 const CUT: ReadResult<Told> = Err(ReadError::UnexpectedEof);
 
 // An offset at a section's end leads to no item, one past it to no list.
-const OF_UNITS: [(&[u8], usize, ReadResult<Told>, ReadResult<Told>); 6] = [
+const OF_UNITS: &[OfUnit] = &[
     (
         FIVE,
         3,
@@ -262,10 +284,14 @@ const OF_UNITS: [(&[u8], usize, ReadResult<Told>, ReadResult<Told>); 6] = [
     (FOUR, 2, Ok(("pair", 3, 4, 0)), Ok(("pair", 3, 4, 0))),
 ];
 
+fn of_units() -> &'static [OfUnit] {
+    OF_UNITS
+}
+
 #[test]
 fn reads_lists_of_units(rt: HostRuntime) {
-    for (info, offset, range, location) in OF_UNITS {
-        let read = at_offset(rt.alloc(), info, offset);
-        assert_eq!(rt; read, Ok((range, location)), "at {offset}");
+    for (info, offset, range, location) in of_units() {
+        let read = at_offset(rt.alloc(), info, *offset);
+        assert_eq!(rt; read, Ok((*range, *location)), "at {offset}");
     }
 }

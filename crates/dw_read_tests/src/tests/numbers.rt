@@ -198,24 +198,33 @@ fn reads_numbers_and_texts(rt: HostRuntime) {
     }
 }
 
-/// Numbers of 300 bytes: the first byte, the last one and those between, and what they are without
-/// a sign and with one. A number may have any length as far as its value fits.
-const LONG: [(u8, u8, u8, ReadResult<u128>, ReadResult<u128>); 4] = [
+/// Numbers of 300 bytes: the first byte, those between and the last, and what they are without a
+/// sign and with one. A number may have any length as far as its value fits.
+type Long = (u8, u8, u8, ReadResult<u128>, ReadResult<u128>);
+
+const LONG: &[Long] = &[
     (0x85, 0x80, 0x00, Ok(5), Ok(5)),
     (0x85, 0x80, 0x01, LARGE, LARGE),
     (0xff, 0xff, 0xff, CUT, CUT),
     (0xff, 0xff, 0x7f, LARGE, Ok(0xffff_ffff_ffff_ffff)),
 ];
 
+fn long() -> &'static [Long] {
+    LONG
+}
+
+/// What a call answers at the begin of bytes.
+fn answer_at(bytes: &[u8], call: Call) -> ReadResult<u128> {
+    answer(&mut EndianSlice::new(bytes, Little), call)
+}
+
 #[test]
 fn reads_numbers_of_any_length(rt: HostRuntime) {
-    for (first, middle, last, unsigned, signed) in LONG {
-        let mut bytes = [middle; 300];
-        bytes[0] = first;
-        bytes[299] = last;
-        let mut reader = EndianSlice::new(&bytes, Little);
-        let mut other = EndianSlice::new(&bytes, Little);
-        let read = (answer(&mut reader, Uleb), answer(&mut other, Sleb));
-        assert_eq!(rt; read, (unsigned, signed), "{first:#x} to {last:#x}");
+    for (first, middle, last, unsigned, signed) in long() {
+        let mut bytes = [*middle; 300];
+        bytes[0] = *first;
+        bytes[299] = *last;
+        let read = (answer_at(&bytes, Uleb), answer_at(&bytes, Sleb));
+        assert_eq!(rt; read, (*unsigned, *signed), "{first:#x} to {last:#x}");
     }
 }

@@ -1,8 +1,7 @@
 //! Units with bits turned.
 
+use crate::tests::input::units_end;
 use crate::tests::joined::turned;
-use crate::tests::sections::{Bytes, NONE};
-use crate::tests::trees::rows_of;
 use dw_read::ReadError;
 use std::alloc::Global;
 
@@ -194,20 +193,17 @@ enum Part {
 
 /// Why the units can't be read with bits of one byte turned.
 fn letter_at(alloc: Global, case: &Case, part: Part, place: usize, mask: u8) -> u8 {
-    let changed = match part {
-        Part::Info => turned(case.info, place, mask),
-        Part::Abbrev => turned(case.abbrev, place, mask),
+    let end = match part {
+        Part::Info => {
+            let changed = turned(case.info, place, mask);
+            units_end(alloc, changed.as_slice(), case.abbrev)
+        }
+        Part::Abbrev => {
+            let changed = turned(case.abbrev, place, mask);
+            units_end(alloc, case.info, changed.as_slice())
+        }
     };
-    let (info, abbrev) = match part {
-        Part::Info => (changed.as_slice(), case.abbrev),
-        Part::Abbrev => (case.info, changed.as_slice()),
-    };
-    let bytes = Bytes {
-        info,
-        abbrev,
-        ..NONE
-    };
-    letter(rows_of(alloc, &bytes).err())
+    letter(end.err())
 }
 
 /// The letters of one byte, one for each mask.

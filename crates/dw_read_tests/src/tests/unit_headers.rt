@@ -112,7 +112,7 @@ fn reads_headers_of_units(rt: HostRuntime) {
     for (bytes, wanted) in cases() {
         let mut headers = UnitHeadersIter::new(little(bytes));
         for answer in wanted {
-            assert_eq!(rt; next_of(&mut headers), *answer, "of {bytes:?}");
+            assert!(rt; next_of(&mut headers) == *answer, "of {bytes:?}");
         }
     }
 }
