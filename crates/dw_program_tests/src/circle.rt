@@ -1,19 +1,18 @@
 //! A listing that is converted to itself, and is too long to be written down.
 
-use crate::runs::words_of;
-use dw_program::run::run;
-use dw_program::{SliceSource, VecSink};
+use crate::runs::{shown, words_of};
 use std::alloc::{AllocError, Global};
 use std::fmt::Write;
 use std::test::Fail;
 
-/// The status of `convert` over a listing, and whether it prints this one.
-pub fn converted(alloc: Global, input: &str, listing: &str) -> Result<(u8, bool), AllocError> {
-    let words = words_of(alloc, "convert")?;
-    let mut sink = VecSink::new(alloc);
-    let mut source = SliceSource::new(input.as_bytes());
-    let status = run(alloc, &words, &mut source, &mut sink);
-    Ok((status, sink.slice() == listing.as_bytes()))
+/// The status and the text of `convert` over a listing.
+pub fn converted(alloc: Global, listing: &str) -> Result<String, AllocError> {
+    shown(
+        alloc,
+        &words_of(alloc, "convert")?,
+        listing.as_bytes(),
+        u64::MAX,
+    )
 }
 
 /// The listing, as it is printed, of abbreviations, strings and units.
@@ -61,7 +60,7 @@ fn converts_a_long_circle(rt: HostRuntime) -> Result<(), Fail> {
     let info = circle(rt.alloc())?;
     let sections = ("01110100000234004913000000", "", info.as_str());
     let listing = listing_of(rt.alloc(), "big", sections)?;
-    let converted = converted(rt.alloc(), listing.as_str(), listing.as_str())?;
-    assert_eq!(rt; converted, (0, true));
+    let text = converted(rt.alloc(), listing.as_str())?;
+    assert!(rt; text.as_str().strip_prefix("0 ") == Some(listing.as_str()));
     Ok(())
 }

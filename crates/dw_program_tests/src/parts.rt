@@ -1,8 +1,7 @@
 //! Parts of scripts and listings, by the calls that read them.
 
 use dw_base::RunTimeEndian;
-use dw_ends::{HexBytes, ListingReader, listing_text};
-use dw_writer::{EndianVec, Sections, Writer};
+use dw_ends::{HexBytes, Listing, ListingReader};
 use std::alloc::{AllocError, Global};
 use std::test::Fail;
 
@@ -18,6 +17,17 @@ const LINES: [(&str, bool, bool); 8] = [
     (".debug_info 1 0g", true, true),
 ];
 
+/// Tells whether a listing says what the lines that are taken say.
+fn is_kept(listing: &Listing) -> bool {
+    for (place, section) in listing.sections.iter().enumerate() {
+        let want: &[u8] = if place == 1 { b"a" } else { b"" };
+        if section.slice() != want {
+            return false;
+        }
+    }
+    listing.endian == RunTimeEndian::Big
+}
+
 #[test]
 fn keeps_what_stood_before_a_refused_line(rt: HostRuntime) -> Result<(), Fail> {
     let mut reader = ListingReader::new(rt.alloc())?;
@@ -29,41 +39,7 @@ fn keeps_what_stood_before_a_refused_line(rt: HostRuntime) -> Result<(), Fail> {
             "{line}"
         );
     }
-    let listing = reader.finish();
-    assert_eq!(rt; listing.endian, RunTimeEndian::Big);
-    for (place, section) in listing.sections.iter().enumerate() {
-        let want: &[u8] = if place == 1 { b"a" } else { b"" };
-        assert_eq!(rt; section.slice(), want, "{place}");
-    }
-    Ok(())
-}
-
-/// A listing of sections of which three have bytes.
-fn listed(alloc: Global) -> dw_base::Result<Vec<u8>> {
-    let mut sections = Sections::new(alloc, EndianVec::new(alloc, RunTimeEndian::Big))?;
-    sections.debug_abbrev.0.write(&[0x01, 0x11, 0x00])?;
-    sections.debug_info.0.write(&[0x00; 12])?;
-    sections.eh_frame.0.write(&[0xff])?;
-    Ok(listing_text(alloc, &sections)?)
-}
-
-const LISTED: &[u8] = b"order big
-.debug_abbrev 3 011100
-.debug_str 0
-.debug_line_str 0
-.debug_line 0
-.debug_ranges 0
-.debug_rnglists 0
-.debug_loc 0
-.debug_loclists 0
-.debug_info 12 000000000000000000000000
-.debug_frame 0
-.eh_frame 1 ff
-";
-
-#[test]
-fn lists_sections(rt: HostRuntime) -> Result<(), Fail> {
-    assert_eq!(rt; listed(rt.alloc())?.as_slice(), LISTED);
+    assert!(rt; is_kept(&reader.finish()));
     Ok(())
 }
 

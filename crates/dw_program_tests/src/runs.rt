@@ -125,11 +125,16 @@ pub fn words_of(alloc: Global, text: &str) -> Result<Vec<String>, AllocError> {
     Ok(words)
 }
 
-/// What a run prints behind its status, where this read of the source fails.
-fn shown(alloc: Global, words: &Vec<String>, call: u64) -> Result<String, AllocError> {
+/// The status and the text of a run over an input, of which this read fails.
+pub fn shown(
+    alloc: Global,
+    words: &Vec<String>,
+    input: &[u8],
+    call: u64,
+) -> Result<String, AllocError> {
     let mut failing = Vec::new(alloc);
     failing.push(call)?;
-    let mut source = FailingSource::new(b"unit 5 8 32", failing);
+    let mut source = FailingSource::new(input, failing);
     let mut sink = VecSink::new(alloc);
     let status = run(alloc, words, &mut source, &mut sink);
     let text = String::from_utf8_lossy(alloc, sink.slice())?;
@@ -139,7 +144,8 @@ fn shown(alloc: Global, words: &Vec<String>, call: u64) -> Result<String, AllocE
 #[test]
 fn reads_what_words_ask_for(rt: HostRuntime) -> Result<(), Fail> {
     for (words, call, want) in rows() {
-        let text = shown(rt.alloc(), &words_of(rt.alloc(), words)?, *call)?;
+        let words_read = words_of(rt.alloc(), words)?;
+        let text = shown(rt.alloc(), &words_read, b"unit 5 8 32", *call)?;
         assert_eq!(rt; text.as_str(), *want, "at {words}");
     }
     Ok(())
@@ -147,7 +153,7 @@ fn reads_what_words_ask_for(rt: HostRuntime) -> Result<(), Fail> {
 
 #[test]
 fn tells_the_usage_of_no_words(rt: HostRuntime) -> Result<(), Fail> {
-    let text = shown(rt.alloc(), &Vec::new(rt.alloc()), 0)?;
+    let text = shown(rt.alloc(), &Vec::new(rt.alloc()), b"unit 5 8 32", 0)?;
     assert_eq!(rt; text.as_str(), USAGE);
     Ok(())
 }
@@ -180,17 +186,13 @@ fn tells_a_sink_that_is_full(rt: HostRuntime) -> Result<(), Fail> {
 #[test]
 fn reads_no_more_than_the_limit(rt: HostRuntime) -> Result<(), Fail> {
     let words = words_of(rt.alloc(), "build")?;
-    let lines = vec![in rt.alloc(); b'\n'; 16_777_217]?;
-    for (first, want) in [(1, 0), (0, 7)] {
-        let mut source = SliceSource::new(&lines.as_slice()[first..]);
-        let mut sink = VecSink::new(rt.alloc());
-        let status = run(rt.alloc(), &words, &mut source, &mut sink);
-        assert_eq!(rt; status, want, "from {first}");
-        assert_eq!(rt;
-            sink.slice() == b"too long\n".as_slice(),
-            want == 7,
-            "from {first}"
-        );
+    for (size, want) in [
+        (16_777_216, "0 order little\n"),
+        (16_777_217, "7 too long\n"),
+    ] {
+        let lines = vec![in rt.alloc(); b'\n'; size]?;
+        let text = shown(rt.alloc(), &words, lines.as_slice(), u64::MAX)?;
+        assert!(rt; text.as_str().starts_with(want), "of {size}");
     }
     Ok(())
 }
