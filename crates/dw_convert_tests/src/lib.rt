@@ -1,6 +1,6 @@
-//! The tests of `dw_convert` and of `dw_convert_lines`: values, operations and lists that are built,
-//! written, read and converted back, and what calls alone show of line programs. They stand over
-//! the finished crates: beside their code they would have it proved a second time.
+//! The tests of `dw_convert` and of `dw_convert_lines`: values, operations and lists that are
+//! built, written, read and converted back, and what calls alone show of line programs. They stand
+//! over the finished crates: beside their code they would have it proved a second time.
 #![tactic(auto)]
 
 #[cfg(test)]

@@ -88,9 +88,9 @@ fn numbered(number: usize) -> Encoding {
 }
 
 /// The encoding of a unit of a file. The numbers of a file's three units differ in these bits, so
-/// that one of the files has a unit of version 4 with 8-byte addresses in the 32-bit format (9), one
-/// of version 2 with 4-byte addresses in the 64-bit format (2), and one of version 5 with 4-byte
-/// addresses in the 32-bit format (12).
+/// that one of the files has a unit of version 4 with 8-byte addresses in the 32-bit format (9),
+/// one of version 2 with 4-byte addresses in the 64-bit format (2), and one of version 5 with
+/// 4-byte addresses in the 32-bit format (12).
 pub(crate) fn encoding(file: usize, unit: usize) -> Encoding {
     numbered(file / 2 % 16 ^ [0, 11, 5][unit % 3])
 }

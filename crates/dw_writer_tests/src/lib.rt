@@ -1,5 +1,5 @@
-//! The tests of `dw_writer`, `dw_abbrev` and `dw_strings`. They stand over the finished crates: beside
-//! their code they would have it proved a second time.
+//! The tests of `dw_writer`, `dw_abbrev` and `dw_strings`. They stand over the finished crates:
+//! beside their code they would have it proved a second time.
 #![tactic(auto)]
 
 #[cfg(test)]

@@ -55,7 +55,8 @@ fn digits_of(alloc: Global, lines: &str, head: Head, section: &str) -> Text {
     digits
 }
 
-/// Appends a unit that has these fields behind its root's code (DWARF 5, 7.5.1.1; DWARF 4, 7.5.1.1).
+/// Appends a unit that has these fields behind its root's code (DWARF 5, 7.5.1.1; DWARF 4,
+/// 7.5.1.1).
 fn push_unit(alloc: Global, digits: &mut Text, head: Head, rest: &str) {
     let mut unit = Text::new(alloc);
     push_header(&mut unit, head);

@@ -44,8 +44,8 @@ type Case = (&'static [u8], usize, &'static [Wanted]);
 
 // Two codes for compile units: the first has children, a name and a size of -1, the second has no
 // children and no attribute, and a byte stands behind the table. Codes that are out of order, of
-// which one has a form that no standard has, which is no fault of its table. Codes of 2^60, 2^64 - 1
-// and 1: they are kept by what was read of them, however large they are.
+// which one has a form that no standard has, which is no fault of its table. Codes of 2^60,
+// 2^64 - 1 and 1: they are kept by what was read of them, however large they are.
 const CASES: &[Case] = &[
     (
         b"\x01\x11\x01\x03\x08\x0b\x21\x7f\x00\x00\x02\x11\x00\x00\x00\x00\xff",

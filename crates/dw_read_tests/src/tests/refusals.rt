@@ -387,8 +387,8 @@ fn refuses_addresses_of_three_bytes(rt: HostRuntime) {
 /// What bytes are read as, in which versions, the bytes, and the sizes at which a cut is whole.
 type Whole = (Input, u16, u16, &'static [u8], &'static [usize]);
 
-// Sections, tables and lists. Behind the first entry of `.debug_frame` nothing is cut; a byte stands
-// behind the close of the newer lists.
+// Sections, tables and lists. Behind the first entry of `.debug_frame` nothing is cut; a byte
+// stands behind the close of the newer lists.
 const SECTIONS: &[Whole] = &[
     (
         Headers,

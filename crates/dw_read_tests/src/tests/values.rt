@@ -99,9 +99,9 @@ const NAMED: &str = "2 5 little 020a 0196 exprloc 96
 2 5 little b14207 0807060504030201 dwo_id 102030405060708
 2 5 little 0b0b 05 data1 5";
 
-// A place in .debug_info has the width of an address, which is 8 bytes here, in version 2. Versions 2
-// and 3 have places in other sections as numbers as wide as a word, but for a start scope (DWARF 3,
-// figure 20).
+// A place in .debug_info has the width of an address, which is 8 bytes here, in version 2.
+// Versions 2 and 3 have places in other sections as numbers as wide as a word, but for a start
+// scope (DWARF 3, figure 20).
 const BY_VERSION: &str = "2 2 little 4910 2200000000000000 info_ref 22
 3 5 little 4910 22000000 info_ref 22
 3 3 little 2c06 22000000 data4 22
