@@ -59,7 +59,12 @@ plain factor read.RestoreState = Ok (Some built.RestoreState)
 plain factor (read.ArgsSize size) = with built.ArgsSize (in_u32 size)
 plain factor read.NegateRaState = Ok (Some built.NegateRaState)
 -- what only moves on or pads
-plain factor i = Ok None
+plain factor (read.AdvanceLoc delta) = Ok None
+plain factor read.Nop = Ok None
+-- those with an expression, which have rows of their own below
+plain factor (read.DefCfaExpression bytes) = Ok None
+plain factor (read.Expression n bytes) = Ok None
+plain factor (read.ValExpression n bytes) = Ok None
 
 -- By the encoding of the CIE and its factor of data offsets, where the caller is known by its answers for addresses.
 module _ (answers : ℕ → Option Address → Type 0) (big : Bool) (e : Encoding) (factor : ℤ) where

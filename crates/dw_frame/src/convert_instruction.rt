@@ -116,7 +116,11 @@ fn convert_plain<R: Reader>(
         ReadInstruction::RestoreState => Ok(Some(CallFrameInstruction::RestoreState)),
         ReadInstruction::ArgsSize { size } => args_size(in_u32(*size)),
         ReadInstruction::NegateRaState => Ok(Some(CallFrameInstruction::NegateRaState)),
-        _ => Ok(None),
+        ReadInstruction::AdvanceLoc { .. } | ReadInstruction::Nop => Ok(None),
+        // These have arms of their own above.
+        ReadInstruction::DefCfaExpression { .. }
+        | ReadInstruction::Expression { .. }
+        | ReadInstruction::ValExpression { .. } => Ok(None),
     }
 }
 
