@@ -110,46 +110,38 @@ impl ReadError {
 }
 
 impl ReadError {
-    /// The text, before and behind what the variant holds.
-    fn text(&self) -> (&'static str, &'static str) {
+    /// The text, in which `#` stands for what the variant holds.
+    fn text(&self) -> &'static str {
         match self {
-            ReadError::UnexpectedEof => ("the bytes end too early", ""),
-            ReadError::BadLeb128 => ("a LEB128 number is too large", ""),
-            ReadError::UnknownReservedLength => ("an initial length is reserved", ""),
-            ReadError::UnknownVersion(_) => ("version ", " is unknown"),
-            ReadError::UnsupportedAddressSize(_) => ("addresses of ", " bytes are not supported"),
-            ReadError::UnsupportedSegmentSize(_) => {
-                ("segment selectors of ", " bytes are not supported")
+            ReadError::UnexpectedEof => "the bytes end too early",
+            ReadError::BadLeb128 => "a LEB128 number is too large",
+            ReadError::UnknownReservedLength => "an initial length is reserved",
+            ReadError::UnknownVersion(_) => "version # is unknown",
+            ReadError::UnsupportedAddressSize(_) => "addresses of # bytes are not supported",
+            ReadError::UnsupportedSegmentSize(_) =>
+                "segment selectors of # bytes are not supported",
+            ReadError::UnknownUnitType(_) => "the unit type # is unknown",
+            ReadError::AbbreviationTagZero => "an abbreviation has the tag zero",
+            ReadError::AttributeNameZero => "an attribute has the name zero",
+            ReadError::BadHasChildren(_) => {
+                "the byte # says neither that there are children nor that there are none"
             }
-            ReadError::UnknownUnitType(_) => ("the unit type ", " is unknown"),
-            ReadError::AbbreviationTagZero => ("an abbreviation has the tag zero", ""),
-            ReadError::AttributeNameZero => ("an attribute has the name zero", ""),
-            ReadError::BadHasChildren(_) => (
-                "the byte ",
-                " says neither that there are children nor that there are none",
-            ),
-            ReadError::DuplicateAbbreviationCode(_) => {
-                ("the abbreviation code ", " is declared twice")
-            }
-            ReadError::UnknownForm(_) => ("the form ", " is unknown"),
-            ReadError::UnknownAbbreviation(_) => ("the abbreviation code ", " is unknown"),
-            ReadError::MissingUnitDie => ("a unit has no root entry", ""),
-            ReadError::MissingSplitUnit => ("the split sections have no unit", ""),
-            ReadError::NoEntryAtGivenOffset(_) => ("no entry stands at the offset ", ""),
-            ReadError::OffsetOutOfBounds(_) => ("the offset ", " lies past the end"),
-            ReadError::InvalidExpression(_) => ("the operation ", " is unknown"),
-            ReadError::InvalidPiece => ("a piece is too large", ""),
-            ReadError::UnknownRangeListsEntry(_) => {
-                ("the kind ", " of a range list's item is unknown")
-            }
-            ReadError::UnknownLocListsEntry(_) => {
-                ("the kind ", " of a location list's item is unknown")
-            }
-            ReadError::UnknownCallFrameInstruction(_) => ("the frame instruction ", " is unknown"),
-            ReadError::UnknownAugmentation => ("an augmentation is unknown", ""),
-            ReadError::UnknownPointerEncoding(_) => ("the pointer encoding ", " is unknown"),
-            ReadError::InvalidCiePointer(_) => ("no common frame entry begins at ", ""),
-            ReadError::NoMemory => ("out of memory", ""),
+            ReadError::DuplicateAbbreviationCode(_) => "the abbreviation code # is declared twice",
+            ReadError::UnknownForm(_) => "the form # is unknown",
+            ReadError::UnknownAbbreviation(_) => "the abbreviation code # is unknown",
+            ReadError::MissingUnitDie => "a unit has no root entry",
+            ReadError::MissingSplitUnit => "the split sections have no unit",
+            ReadError::NoEntryAtGivenOffset(_) => "no entry stands at the offset #",
+            ReadError::OffsetOutOfBounds(_) => "the offset # lies past the end",
+            ReadError::InvalidExpression(_) => "the operation # is unknown",
+            ReadError::InvalidPiece => "a piece is too large",
+            ReadError::UnknownRangeListsEntry(_) => "the kind # of a range list's item is unknown",
+            ReadError::UnknownLocListsEntry(_) => "the kind # of a location list's item is unknown",
+            ReadError::UnknownCallFrameInstruction(_) => "the frame instruction # is unknown",
+            ReadError::UnknownAugmentation => "an augmentation is unknown",
+            ReadError::UnknownPointerEncoding(_) => "the pointer encoding # is unknown",
+            ReadError::InvalidCiePointer(_) => "no common frame entry begins at #",
+            ReadError::NoMemory => "out of memory",
         }
     }
 
@@ -193,19 +185,20 @@ impl fmt::Display for Held {
     fn fmt<W: fmt::Write>(&self, f: &mut fmt::Formatter<W>) -> fmt::Result {
         match self {
             Held::Nothing => Ok(()),
-            Held::Number(number) => write!(f, "{number}"),
+            Held::Number(number) => fmt::Display::fmt(number, f),
             Held::Offset(offset) => write!(f, "{offset:#x}"),
-            Held::UnitType(unit_type) => write!(f, "{unit_type:?}"),
-            Held::Form(form) => write!(f, "{form:?}"),
-            Held::Operation(operation) => write!(f, "{operation:?}"),
-            Held::Encoding(encoding) => write!(f, "{encoding:?}"),
+            Held::UnitType(unit_type) => fmt::Debug::fmt(unit_type, f),
+            Held::Form(form) => fmt::Debug::fmt(form, f),
+            Held::Operation(operation) => fmt::Debug::fmt(operation, f),
+            Held::Encoding(encoding) => fmt::Debug::fmt(encoding, f),
         }
     }
 }
 
 impl fmt::Display for ReadError {
     fn fmt<W: fmt::Write>(&self, f: &mut fmt::Formatter<W>) -> fmt::Result {
-        let (before, behind) = self.text();
+        let text = self.text();
+        let (before, behind) = text.split_once('#').unwrap_or((text, ""));
         write!(f, "{before}{}{behind}", self.held())
     }
 }

@@ -26,14 +26,12 @@ pub(crate) fn read_fields<R: Reader>(input: &mut R, format: Format) -> ReadResul
 {
     let version = input.read_u16()?;
     if version == 5 {
-        let fields = read_new_fields(input, format)?;
-        return Ok(fields);
+        return read_new_fields(input, format);
     }
     if !is_old_version(version) {
         return Err(ReadError::UnknownVersion(version));
     }
-    let fields = read_old_fields(input, format, version)?;
-    Ok(fields)
+    read_old_fields(input, format, version)
 }
 
 /// Whether a version is one of 2 to 4.

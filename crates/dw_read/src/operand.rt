@@ -45,10 +45,7 @@ pub(crate) fn read_form<R: Reader>(
         return Err(ReadError::UnknownForm(form));
     };
     match kind {
-        Kind::Indirect => {
-            let found = read_indirect(input, encoding)?;
-            Ok(found)
-        }
+        Kind::Indirect => read_indirect(input, encoding),
         _ => {
             let operand = read_operand(input, kind)?;
             Ok((form, operand))

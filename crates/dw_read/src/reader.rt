@@ -169,8 +169,7 @@ pub trait Reader: Sized + Drop {
         if !is_address_size(size) {
             return Err(ReadError::UnsupportedAddressSize(size));
         }
-        let value = self.read_uint(size as usize)?;
-        Ok(value)
+        self.read_uint(size as usize)
     }
 
     /// A word of a format: a length or an offset into a section.

@@ -1,4 +1,4 @@
-use Rattle.std.proofs.Common.{ℕ, Option, refl, rules}
+use Rattle.std.proofs.Common.{◌∙◌, sym, ℕ, Option, refl}
 use Rattle.std.proofs.lemmas.Result.{err_from_is_err_and}
 use Rattle.dw_base.specs.Numbers.{word_of}
 use Rattle.dw_base.specs.Headers.{Header}
@@ -41,7 +41,7 @@ returns-then-not-is_unit_type-clause-err g c =
     let n3 = number_took big (word_of c.args.format) _ _ _ (went_order _ _ w2) c.in_ok-table_offset.ensures.ok in
     let w3 = went_then _ _ _ w2 (went_of (word_of c.args.format) _ _ c.in_ok-table_offset.ensures.passes) in
     let b = new_begins big c.args.format _ _ _ _ _ _ _ n1 n2 n3 in
-    new_bad_type big c.args.format _ _ _ _ _ b (search (rules, c.is_unit_type.ensures))
+    new_bad_type big c.args.format _ _ _ _ _ b (sym c.is_unit_type.ensures ∙ c.if-not-is_unit_type.true)
 
 pub returns-then-not-is_address_size-clause-err : goal.returns-then-not-is_address_size-clause-err
 returns-then-not-is_address_size-clause-err g c =
@@ -53,7 +53,7 @@ returns-then-not-is_address_size-clause-err g c =
     let n3 = number_took big (word_of c.args.format) _ _ _ (went_order _ _ w2) c.in_ok-table_offset.ensures.ok in
     let w3 = went_then _ _ _ w2 (went_of (word_of c.args.format) _ _ c.in_ok-table_offset.ensures.passes) in
     let b = new_begins big c.args.format _ _ _ _ _ _ _ n1 n2 n3 in
-    new_bad_size big c.args.format _ _ _ _ _ b (search (rules, c.is_unit_type.ensures)) (search (rules, c.is_address_size.ensures))
+    new_bad_size big c.args.format _ _ _ _ _ b (sym c.is_unit_type.ensures ∙ c.if-not-is_unit_type.false) (sym c.is_address_size.ensures ∙ c.if-not-is_address_size.true)
 
 pub returns-in_err-identity-clause-err : goal.returns-in_err-identity-clause-err
 returns-in_err-identity-clause-err g c =
@@ -66,7 +66,7 @@ returns-in_err-identity-clause-err g c =
     let w3 = went_then _ _ _ w2 (went_of (word_of c.args.format) _ _ c.in_ok-table_offset.ensures.passes) in
     let b = new_begins big c.args.format _ _ _ _ _ _ _ n1 n2 n3 in
     let p = err_from_is_err_and c.from_residual-in_err-identity.result c.from_residual-in_err-identity.ensures.1 in
-    rw (p.1, p.2) (new_no_identity big c.args.format _ _ _ _ _ _ b (search (rules, c.is_unit_type.ensures)) (search (rules, c.is_address_size.ensures)) (optional_at c.has_identity.result _ _ big 8 _ _ c.has_identity.ensures (went_order _ _ w3) c.in_err-identity.ensures.err))
+    rw (p.1, p.2) (new_no_identity big c.args.format _ _ _ _ _ _ b (sym c.is_unit_type.ensures ∙ c.if-not-is_unit_type.false) (sym c.is_address_size.ensures ∙ c.if-not-is_address_size.false) (optional_at c.has_identity.result _ _ big 8 _ _ c.has_identity.ensures (went_order _ _ w3) c.in_err-identity.ensures.err))
 
 pub returns-in_err-type_offset-clause-err : goal.returns-in_err-type_offset-clause-err
 returns-in_err-type_offset-clause-err g c =
@@ -80,7 +80,7 @@ returns-in_err-type_offset-clause-err g c =
     let b = new_begins big c.args.format _ _ _ _ _ _ _ n1 n2 n3 in
     let w4 = went_then _ _ _ w3 (went (Option ℕ) (optional_read c.has_identity.result (g.R.Reader.reading c.read_word.new.self).is_big 8) _ _ _ c.in_ok-identity.ensures.ok) in
     let p = err_from_is_err_and c.from_residual-in_err-type_offset.result c.from_residual-in_err-type_offset.ensures.1 in
-    rw (p.1, p.2) (new_no_place big c.args.format _ _ _ _ _ _ _ _ b (search (rules, c.is_unit_type.ensures)) (search (rules, c.is_address_size.ensures)) (optional_at c.has_identity.result _ _ big 8 _ _ c.has_identity.ensures (went_order _ _ w3) c.in_ok-identity.ensures.ok.value) (optional_at c.has_type_offset.result _ _ big (word_of c.args.format) _ _ c.has_type_offset.ensures (went_order _ _ w4) c.in_err-type_offset.ensures.err))
+    rw (p.1, p.2) (new_no_place big c.args.format _ _ _ _ _ _ _ _ b (sym c.is_unit_type.ensures ∙ c.if-not-is_unit_type.false) (sym c.is_address_size.ensures ∙ c.if-not-is_address_size.false) (optional_at c.has_identity.result _ _ big 8 _ _ c.has_identity.ensures (went_order _ _ w3) c.in_ok-identity.ensures.ok.value) (optional_at c.has_type_offset.result _ _ big (word_of c.args.format) _ _ c.has_type_offset.ensures (went_order _ _ w4) c.in_err-type_offset.ensures.err))
 
 pub returns-clause-ok : goal.returns-clause-ok
 returns-clause-ok g c =
@@ -94,4 +94,4 @@ returns-clause-ok g c =
     let b = new_begins big c.args.format _ _ _ _ _ _ _ n1 n2 n3 in
     let w4 = went_then _ _ _ w3 (went (Option ℕ) (optional_read c.has_identity.result (g.R.Reader.reading c.read_word.new.self).is_big 8) _ _ _ c.in_ok-identity.ensures.ok) in
     let w5 = went_then _ _ _ w4 (went (Option ℕ) (optional_read c.has_type_offset.result (g.R.Reader.reading c.read_identity.new.input).is_big (word_of c.args.format)) _ _ _ c.in_ok-type_offset.ensures.ok) in
-    took Header (new_fields_read big c.args.format) _ _ _ w5 (new_whole big c.args.format _ _ _ _ _ _ _ _ _ b (search (rules, c.is_unit_type.ensures)) (search (rules, c.is_address_size.ensures)) (optional_at c.has_identity.result _ _ big 8 _ _ c.has_identity.ensures (went_order _ _ w3) c.in_ok-identity.ensures.ok.value) (optional_at c.has_type_offset.result _ _ big (word_of c.args.format) _ _ c.has_type_offset.ensures (went_order _ _ w4) c.in_ok-type_offset.ensures.ok.value))
+    took Header (new_fields_read big c.args.format) _ _ _ w5 (new_whole big c.args.format _ _ _ _ _ _ _ _ _ b (sym c.is_unit_type.ensures ∙ c.if-not-is_unit_type.false) (sym c.is_address_size.ensures ∙ c.if-not-is_address_size.false) (optional_at c.has_identity.result _ _ big 8 _ _ c.has_identity.ensures (went_order _ _ w3) c.in_ok-identity.ensures.ok.value) (optional_at c.has_type_offset.result _ _ big (word_of c.args.format) _ _ c.has_type_offset.ensures (went_order _ _ w4) c.in_ok-type_offset.ensures.ok.value))

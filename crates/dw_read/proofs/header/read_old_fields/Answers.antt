@@ -1,4 +1,4 @@
-use Rattle.std.proofs.Common.{refl, rules}
+use Rattle.std.proofs.Common.{◌∙◌, sym, refl}
 use Rattle.std.proofs.lemmas.Result.{err_from_is_err_and}
 use Rattle.dw_base.specs.Numbers.{word_of}
 use Rattle.dw_base.specs.Headers.{Header}
@@ -27,7 +27,7 @@ returns-then-not-is_address_size-clause-err g c =
     let w1 = went_of (word_of c.args.format) _ _ c.in_ok-table_offset.ensures.passes in
     let n1 = number_took big (word_of c.args.format) _ _ _ refl c.in_ok-table_offset.ensures.ok in
     let n2 = number_took big 1 _ _ _ (went_order _ _ w1) c.in_ok-address_size.ensures.ok in
-    old_bad_size big c.args.format c.args.version _ _ _ _ _ n1 n2 (search (rules, c.is_address_size.ensures))
+    old_bad_size big c.args.format c.args.version _ _ _ _ _ n1 n2 (sym c.is_address_size.ensures ∙ c.if-not-is_address_size.true)
 
 pub returns-clause-ok : goal.returns-clause-ok
 returns-clause-ok g c =
@@ -36,4 +36,4 @@ returns-clause-ok g c =
     let n1 = number_took big (word_of c.args.format) _ _ _ refl c.in_ok-table_offset.ensures.ok in
     let n2 = number_took big 1 _ _ _ (went_order _ _ w1) c.in_ok-address_size.ensures.ok in
     let w2 = went_of 1 _ _ c.in_ok-address_size.ensures.passes in
-    took Header (old_fields_read big c.args.format c.args.version) _ _ _ (went_then _ _ _ w1 w2) (old_whole big c.args.format c.args.version _ _ _ _ _ n1 n2 (search (rules, c.is_address_size.ensures)))
+    took Header (old_fields_read big c.args.format c.args.version) _ _ _ (went_then _ _ _ w1 w2) (old_whole big c.args.format c.args.version _ _ _ _ _ n1 n2 (sym c.is_address_size.ensures ∙ c.if-not-is_address_size.false))
