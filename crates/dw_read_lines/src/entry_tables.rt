@@ -41,8 +41,7 @@ impl<R: Reader> LineProgramHeader<R> {
                 has_ended: false,
             });
         }
-        let entries = begin_described(input, encoding)?;
-        Ok(entries)
+        begin_described(input, encoding)
     }
 }
 
@@ -86,8 +85,7 @@ impl<R: Reader> FileEntryIter<R> {
         match &self.layout {
             Layout::Described(description) => {
                 let encoding = description.encoding.encoding;
-                let entries = begin_described(self.input.duplicate(), encoding)?;
-                Ok(entries)
+                begin_described(self.input.duplicate(), encoding)
             }
             Layout::Directories => Ok(old_files(self.input.duplicate())),
             Layout::Files => Ok(old_files(self.input.duplicate())),
@@ -139,14 +137,8 @@ fn read_next<R: Reader>(
     ensures err { IfErr result (MissesEntry R.reading (R.reading input.old) layout.now remaining) }
 {
     match layout {
-        Layout::Directories => {
-            let entry = read_old_directory(input)?;
-            Ok(entry)
-        }
-        Layout::Files => {
-            let entry = read_old_file(input)?;
-            Ok(entry)
-        }
+        Layout::Directories => read_old_directory(input),
+        Layout::Files => read_old_file(input),
         Layout::Described(description) => {
             if remaining == 0 {
                 return Ok(None);

@@ -77,15 +77,13 @@ pub(crate) fn read_instruction<R: Reader>(
 {
     let opcode = input.read_u8()?;
     if opcode == 0 {
-        let instruction = read_extended(input)?;
-        return Ok(instruction);
+        return read_extended(input);
     }
     if opcode >= parameters.opcode_base {
         return Ok(LineInstruction::Special(opcode - parameters.opcode_base));
     }
     let count = operand_count(parameters, opcode);
-    let instruction = read_standard(input, count, DwLns(opcode))?;
-    Ok(instruction)
+    read_standard(input, count, DwLns(opcode))
 }
 
 /// Reads an extended instruction after the zero that marks it.
@@ -100,8 +98,7 @@ fn read_extended<R: Reader>(input: &mut R) -> ReadResult<LineInstruction<R>>
     let length = input.read_uleb128()?;
     let mut body = input.split(length as usize)?;
     let code = body.read_u8()?;
-    let instruction = read_coded(&mut body, DwLne(code))?;
-    Ok(instruction)
+    read_coded(&mut body, DwLne(code))
 }
 
 /// Reads an extended instruction after its code, of all its bytes.

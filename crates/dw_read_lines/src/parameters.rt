@@ -58,8 +58,7 @@ fn read_operations<R: Reader>(input: &mut R, version: u16) -> ReadResult<u8>
         (left (R.reading input.old)) ≡ Err e) }
 {
     if version >= 4 {
-        let operations = input.read_u8()?;
-        return Ok(operations);
+        return input.read_u8();
     }
     Ok(1)
 }

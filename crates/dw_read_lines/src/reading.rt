@@ -30,8 +30,7 @@ pub(crate) fn read_header<R: Reader>(
 {
     let (length, format) = input.read_initial_length()?;
     let mut body = input.split(length)?;
-    let header = read_body(&mut body, offset, format, address_size)?;
-    Ok(header)
+    read_body(&mut body, offset, format, address_size)
 }
 
 /// Reads what follows the length of a program.

@@ -1,5 +1,5 @@
-use Rattle.std.proofs.Common.{◌≡◌, ◌∙◌, ap, subst, refl, Bool, Ok, Err}
-use Rattle.std.proofs.lemmas.Result.{err_from_is_err_and}
+use Rattle.std.proofs.Common.{sym, ℕ, Option, ◌≡◌, ◌∙◌, ap, subst, refl, Bool, Ok, Err}
+use Rattle.std.proofs.lemmas.Result.{err_from_is_err_and, IfOk-weaker, IfErr-weaker}
 use Rattle.dw_line_machine.specs.LineMachine.{Instruction}
 use Rattle.dw_read.specs.Reading.{Reading, left}
 use Rattle.dw_base.specs.Leb128.{uleb_at}
@@ -35,9 +35,9 @@ returns-in_err-code-clause-err g c =
     let p = err_from_is_err_and c.from_residual-in_err-code.result c.from_residual-in_err-code.ensures.1 in
     rw (p.1, p.2, n1, n2, number_not big 1 _ _ o c.in_err-code.ensures.err) refl
 
-pub returns-in_err-instruction-clause-err : goal.returns-in_err-instruction-clause-err
+pub returns-clause-err : goal.returns-clause-err
 unfolding extended_read
-returns-in_err-instruction-clause-err g c =
+returns-clause-err g c =
     let reading = g.R.Reader.reading in
     let big = (reading c.args.input.now).is_big in
     let t = took_of _ uleb_at uleb_read _ _ _ uleb_law c.in_ok-length.ensures.ok in
@@ -46,9 +46,9 @@ returns-in_err-instruction-clause-err g c =
     let o = ap (λ (r : Reading). r.is_big) c.in_ok-body.ensures.part ∙ went_order _ _ (went _ _ _ _ _ t) in
     let n3 = number_took big 1 _ _ _ o c.in_ok-code.ensures.ok in
     let w = went_order _ _ (went_of 1 _ _ c.in_ok-code.ensures.passes) ∙ o in
-    let e = subst (λ (b : Bool). coded_read b c.in_ok-code.code (left (reading c.read_u8.new.self)) ≡ Err c.in_err-instruction.field-0.0) w c.in_err-instruction.ensures.err in
-    let p = err_from_is_err_and c.from_residual-in_err-instruction.result c.from_residual-in_err-instruction.ensures.1 in
-    rw (p.1, p.2, n1, n2, n3, e) refl
+    IfErr-weaker c.read_coded.result _ _ (λ e h.
+    let k = subst (λ (b : Bool). coded_read b c.in_ok-code.code (left (reading c.read_u8.new.self)) ≡ Err e) w h in
+    rw (n1, n2, n3, k) refl) c.read_coded.ensures.err
 
 pub returns-clause-ok : goal.returns-clause-ok
 unfolding extended_read
@@ -61,8 +61,9 @@ returns-clause-ok g c =
     let o = ap (λ (r : Reading). r.is_big) c.in_ok-body.ensures.part ∙ went_order _ _ (went _ _ _ _ _ t) in
     let n3 = number_took big 1 _ _ _ o c.in_ok-code.ensures.ok in
     let w = went_order _ _ (went_of 1 _ _ c.in_ok-code.ensures.passes) ∙ o in
-    let e = subst (λ (b : Bool). coded_read b c.in_ok-code.code (left (reading c.read_u8.new.self)) ≡ Ok (instruction_of reading c.in_ok-instruction.instruction)) w c.in_ok-instruction.ensures.ok in
-    took Instruction (extended_read big) _ _ _ (went_then _ _ _ (went _ _ _ _ _ t) (went_of _ _ _ c.in_ok-body.ensures.ok)) (rw (n1, n2, n3, e) refl)
+    IfOk-weaker c.read_coded.result _ _ (λ i h.
+    let k = subst (λ (b : Bool). coded_read b c.in_ok-code.code (left (reading c.read_u8.new.self)) ≡ Ok (instruction_of reading i)) w h in
+    took Instruction (extended_read big) _ _ _ (went_then _ _ _ (went _ _ _ _ _ t) (went_of _ _ _ c.in_ok-body.ensures.ok)) (rw (n1, n2, n3, k) refl)) c.read_coded.ensures.ok
 
 pub returns-clause-code : goal.returns-clause-code
 unfolding marked_code
@@ -74,4 +75,4 @@ returns-clause-code g c =
     let n2 = bytes_took _ _ _ _ (g.met.R.Reader.is_reading c.read_uleb128.new.self) c.in_ok-body.ensures.part c.in_ok-body.ensures.ok in
     let o = ap (λ (r : Reading). r.is_big) c.in_ok-body.ensures.part ∙ went_order _ _ (went _ _ _ _ _ t) in
     let n3 = number_took big 1 _ _ _ o c.in_ok-code.ensures.ok in
-    rw (n1, n2, n3, c.in_ok-instruction.ensures.code) refl
+    IfOk-weaker c.read_coded.result _ _ (λ i h. rw (n1, n2, n3) (ap (λ (k : Option ℕ). Ok k) (sym h))) c.read_coded.ensures.code

@@ -1,5 +1,5 @@
 use Rattle.std.proofs.Common.{refl, Bool, ◌∙◌, ap, subst, ◌≡◌, Ok, Err}
-use Rattle.std.proofs.lemmas.Result.{err_from_is_err_and}
+use Rattle.std.proofs.lemmas.Result.{err_from_is_err_and, IfOk-weaker, IfErr-weaker}
 use Rattle.dw_read.specs.Reading.{Reading, left}
 use Rattle.dw_read.proofs.Lefts.{same_order}
 use Rattle.dw_read.proofs.HeaderParts.{bytes_took}
@@ -21,16 +21,16 @@ returns-in_err-body-clause-err g c =
     let n1 = length_took _ _ _ _ c.in_ok-length.ensures.ok in
     rw (p.1, p.2, n1, c.in_err-body.ensures.err.reason) refl
 
-pub returns-in_err-header-clause-err : goal.returns-in_err-header-clause-err
+pub returns-clause-err : goal.returns-clause-err
 unfolding lines_read
-returns-in_err-header-clause-err g c =
+returns-clause-err g c =
     let reading = g.R.Reader.reading in
-    let p = err_from_is_err_and c.from_residual-in_err-header.result c.from_residual-in_err-header.ensures.1 in
     let n1 = length_took _ _ _ _ c.in_ok-length.ensures.ok in
     let n2 = bytes_took _ _ _ _ (g.met.R.Reader.is_reading c.read_initial_length.new.self) c.in_ok-body.ensures.part c.in_ok-body.ensures.ok in
     let o = ap (λ (r : Reading). r.is_big) c.in_ok-body.ensures.part ∙ same_order _ _ _ c.in_ok-length.ensures.passes in
-    let e = subst (λ (b : Bool). body_read b c.in_ok-length.format c.args.address_size (left (reading c.in_ok-body.body)) ≡ Err c.in_err-header.field-0.0) o c.in_err-header.ensures.err in
-    rw (p.1, p.2, n1, n2, e) refl
+    IfErr-weaker c.read_body.result _ _ (λ e h.
+    let k = subst (λ (b : Bool). body_read b c.in_ok-length.format c.args.address_size (left (reading c.in_ok-body.body)) ≡ Err e) o h in
+    rw (n1, n2, k) refl) c.read_body.ensures.err
 
 pub returns-clause-ok : goal.returns-clause-ok
 unfolding lines_read
@@ -39,10 +39,11 @@ returns-clause-ok g c =
     let n1 = length_took _ _ _ _ c.in_ok-length.ensures.ok in
     let n2 = bytes_took _ _ _ _ (g.met.R.Reader.is_reading c.read_initial_length.new.self) c.in_ok-body.ensures.part c.in_ok-body.ensures.ok in
     let o = ap (λ (r : Reading). r.is_big) c.in_ok-body.ensures.part ∙ same_order _ _ _ c.in_ok-length.ensures.passes in
-    let e = subst (λ (b : Bool). body_read b c.in_ok-length.format c.args.address_size (left (reading c.in_ok-body.body)) ≡ Ok (lines_of reading c.in_ok-header.header)) o c.in_ok-header.ensures.ok in
-    rw (n1, n2, e) refl
+    IfOk-weaker c.read_body.result _ _ (λ x h.
+    let k = subst (λ (b : Bool). body_read b c.in_ok-length.format c.args.address_size (left (reading c.in_ok-body.body)) ≡ Ok (lines_of reading x)) o h in
+    rw (n1, n2, k) refl) c.read_body.ensures.ok
 
 pub returns-clause-order : goal.returns-clause-order
 returns-clause-order g c =
     let o = ap (λ (r : Reading). r.is_big) c.in_ok-body.ensures.part ∙ same_order _ _ _ c.in_ok-length.ensures.passes in
-    record { tables = c.in_ok-header.ensures.order.tables ∙ o; counts = c.in_ok-header.ensures.order.counts ∙ o }
+    IfOk-weaker c.read_body.result _ _ (λ x h. record { tables = h.tables ∙ o; counts = h.counts ∙ o }) c.read_body.ensures.order
