@@ -1,15 +1,15 @@
 -- Instructions, from what the calls in them answered.
-use Rattle.std.proofs.Common.{◌≡◌, ◌∙◌, sym, ap, ℕ, zero, suc, ◌-◌, ◌<◌, List, length, Ok, Err, Bool, ℤ, refl, arith}
+use Rattle.std.proofs.Common.{◌≡◌, ◌∙◌, ap, ℕ, suc, List, length, Ok, Err, Bool, refl}
 use Rattle.std.proofs.lemmas.Bool.{ne_eqb}
-use Rattle.dw_base.specs.Numbers.{number_at, value_of}
-use Rattle.dw_base.specs.Leb128.{uleb_at, sleb_at}
+use Rattle.dw_base.specs.Numbers.{value_of}
+use Rattle.dw_base.specs.Leb128.{uleb_at}
 use Rattle.dw_line_machine.specs.LineMachine.{Instruction, Copy, AdvancePc, AdvanceLine, SetFile, SetColumn, NegateStatement, SetBasicBlock, ConstAddPc, FixedAdvancePc, SetPrologueEnd, SetEpilogueBegin, SetIsa, EndSequence, SetAddress, SetDiscriminator, Passed}
 use Rattle.dw_read.specs.Reading.{Reading, IsReading, Reads, Read, left}
 use Rattle.dw_read.specs.Reasons.{number_read, uleb_read, sleb_read}
 use Rattle.dw_read.specs.Took.{Took}
 use Rattle.dw_read.specs.declared.error.ReadError.{ReadError}
-use Rattle.dw_read.proofs.Laws.{uleb_law, sleb_law, number_law}
-use Rattle.dw_read.proofs.Chain.{took_of, took, went, went_none, Went}
+use Rattle.dw_read.proofs.Laws.{uleb_law}
+use Rattle.dw_read.proofs.Chain.{took_of, took, went, went_none}
 use Rattle.dw_read_lines.specs.LineInstructions.{with_read, passed_read, standard_read, coded_read}
 
 -- extended instructions

@@ -1,5 +1,5 @@
 -- What stands behind so many of something.
-use Rattle.std.proofs.Common.{◌≡◌, ◌∙◌, sym, ap, ℕ, zero, suc, List, [], ◌∷◌, Result, Ok, Err, refl}
+use Rattle.std.proofs.Common.{◌≡◌, ◌∙◌, ap, ℕ, zero, suc, List, [], ◌∷◌, Result, Ok, Err, refl}
 use Rattle.dw_read.specs.Reading.{Read}
 use Rattle.dw_read.specs.Reasons.{◌=>>◌}
 use Rattle.dw_read.specs.declared.error.ReadError.{ReadError}

@@ -1,9 +1,7 @@
 -- A program that was read with reasons is the one that the definitions of written programs have, where it has one operation an
 -- instruction.
-use Rattle.std.proofs.Common.{◌≡◌, ◌∙◌, sym, ap, ℕ, ◌-◌, List, [], ◌∷◌, Option, Some, None, Result, Ok, Err, Bool, true, false, not, refl, nat_eq, nat_le, if◌then◌else◌}
-use Rattle.std.specs.Result.{result_ok}
-use Rattle.dw_base.specs.Numbers.{◌>>=◌, when, bytes_at, number_at, initial_length_at, is_width, word_of}
-use Rattle.dw_base.specs.declared.common.Encoding.{Encoding}
+use Rattle.std.proofs.Common.{◌≡◌, ◌∙◌, sym, ap, ℕ, ◌-◌, List, [], ◌∷◌, Option, Some, None, Result, Ok, Bool, true, false, refl, nat_eq, nat_le, if◌then◌else◌}
+use Rattle.dw_base.specs.Numbers.{◌>>=◌, bytes_at, number_at, initial_length_at, is_width, word_of}
 use Rattle.dw_base.specs.declared.common.Format.{Format}
 use Rattle.dw_line_machine.specs.LineReader.{is_line_version}
 use Rattle.dw_line_machine.specs.LineMachine.{LineHeader}
@@ -11,10 +9,10 @@ use Rattle.dw_line_machine.specs.LineReader.{ReadProgram, operations_at, paramet
 use Rattle.dw_line_machine.specs.LineTables.{byte_at}
 use Rattle.dw_read.specs.Reasons.{◌=>>◌, if_so, bytes_read, number_read, initial_length_read}
 use Rattle.dw_read.specs.declared.error.ReadError.{ReadError}
-use Rattle.dw_read.specs.declared.error.ReadError.TheVariants.{UnknownVersion, UnsupportedAddressSize, UnsupportedSegmentSize}
+use Rattle.dw_read.specs.declared.error.ReadError.TheVariants.{UnsupportedAddressSize, UnsupportedSegmentSize}
 use Rattle.dw_read.proofs.Items.{then_parts, if_so_parts}
 use Rattle.dw_read.proofs.Laws.{grammar_is, number_law, bytes_law, initial_length_law}
-use Rattle.dw_read_lines.specs.LineHeaders.{ReadLines, operations_read, parameters_read, address_size_read, body_read, lines_read, lines_at_place}
+use Rattle.dw_read_lines.specs.LineHeaders.{ReadLines, operations_read, parameters_read, address_size_read, body_read, lines_read}
 use Rattle.dw_read_lines.proofs.InstructionLaws.{byte_is, no_byte}
 
 abbrev gives : {A : Type 0} → A → Result A ReadError

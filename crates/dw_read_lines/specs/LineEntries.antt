@@ -1,6 +1,6 @@
 -- The directories and files of a line program, with the reason where one can't be read: up to version 4 lists that an empty name
 -- closes (DWARF 4, 6.2.4), in version 5 entries whose parts the header describes (DWARF 5, 6.2.4 and 6.2.4.1).
-use Rattle.std.specs.Prelude.{ℕ, zero, suc, ◌==◌, Bool, List, [], ◌∷◌, length, Option, Some, None, Result, Ok, Err, if◌then◌else◌}
+use Rattle.std.specs.Prelude.{ℕ, zero, suc, ◌==◌, Bool, List, [], ◌∷◌, length, Option, Some, None, Result, Ok, if◌then◌else◌}
 use Rattle.dw_base.specs.declared.common.Encoding.{Encoding}
 use Rattle.dw_base.specs.declared.constants.TheConstants.{DW_LNCT_path, DW_LNCT_directory_index, DW_LNCT_timestamp, DW_LNCT_size, DW_LNCT_MD5, DW_LNCT_LLVM_source}
 use Rattle.dw_read.specs.Reading.{Read}

@@ -1,4 +1,4 @@
-use Rattle.std.proofs.Common.{◌≡◌, ◌∙◌, sym, ap, refl, List, ℕ}
+use Rattle.std.proofs.Common.{◌∙◌, ap, refl}
 use Rattle.std.proofs.lemmas.Result.{err_from_is_err_and}
 use Rattle.dw_base.specs.Leb128.{uleb_at}
 use Rattle.dw_read.specs.Reading.{Reading, left}
@@ -6,7 +6,6 @@ use Rattle.dw_read.specs.Reasons.{uleb_read}
 use Rattle.dw_read.proofs.Chain.{took_of, went, went_of, went_then, number_took, number_not}
 use Rattle.dw_read.proofs.Laws.{uleb_law}
 use Rattle.dw_read_lines.specs.LineEntries.{description_read, formats_read}
-use Rattle.dw_read_lines.specs.LineEntryViews.{Describes}
 use Rattle.dw_read_lines.proofs.PastLaws.{formats_there, formats_missing}
 use Rattle.dw_read_lines.proofs.described.read_description.Goals as goal
 

@@ -1,11 +1,11 @@
-use Rattle.std.proofs.Common.{◌≡◌, ◌∙◌, sym, ap, ap₂, subst, arith, suc, ◌-◌, ◌+◌, ℕ, List, Bool}
+use Rattle.std.proofs.Common.{◌≡◌, ◌∙◌, sym, ap, ap₂, arith, ◌-◌, ◌+◌, ℕ, Bool}
 use Rattle.std.proofs.lemmas.Result.{err_from_is_err_and}
 use Rattle.dw_read.specs.Reading.{Reading, left}
 use Rattle.dw_read.specs.FormValues.{value_read}
 use Rattle.dw_read.specs.Values.{Value}
 use Rattle.dw_read.proofs.Chain.{took, went, went_none, went_then, went_order}
 use Rattle.dw_read_lines.specs.LineEntries.{Entry, untold, entry_by}
-use Rattle.dw_read_lines.specs.LineEntryViews.{entry_of, described_entry}
+use Rattle.dw_read_lines.specs.LineEntryViews.{described_entry}
 use Rattle.dw_read_lines.proofs.Orders.{took_in, err_in}
 use Rattle.dw_read_lines.proofs.EntryLaws.{by_none, by_no_format, by_no_value, by_more}
 use Rattle.dw_read_lines.proofs.described.read_entry.Goals as goal

@@ -1,4 +1,4 @@
-use Rattle.std.proofs.Common.{◌≡◌, refl, arith, ℕ, ◌^◌}
+use Rattle.std.proofs.Common.{refl, arith, ℕ, ◌^◌}
 use Rattle.std.proofs.lemmas.Bool.{lt-ltb, le-ltb}
 use Rattle.std.proofs.lemmas.Result.{err_from_is_err_and}
 use Rattle.dw_base.specs.Leb128.{uleb_at}

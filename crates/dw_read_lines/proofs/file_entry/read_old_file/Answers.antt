@@ -1,4 +1,4 @@
-use Rattle.std.proofs.Common.{◌≡◌, ◌∙◌, sym, refl, length, List, ℕ, Option}
+use Rattle.std.proofs.Common.{◌≡◌, ◌∙◌, sym, refl, length, Option}
 use Rattle.std.proofs.lemmas.Bool.{ne_eqb}
 use Rattle.std.proofs.lemmas.Result.{err_from_is_err_and}
 use Rattle.dw_base.specs.Forms.{text_at}

@@ -1,10 +1,5 @@
-use Rattle.std.proofs.Common.{◌≡◌, ap, subst, arith, refl, length, Ok}
-use Rattle.std.proofs.lemmas.Bool.{ne_eqb}
+use Rattle.std.proofs.Common.{arith}
 use Rattle.std.proofs.lemmas.Result.{err_from_is_err_and}
-use Rattle.dw_read.specs.Reading.{Reading, left}
-use Rattle.dw_read.proofs.Chain.{took_of}
-use Rattle.dw_read.proofs.Laws.{read_is, uleb_law}
-use Rattle.dw_read_lines.specs.LineInstructions.{coded_read}
 use Rattle.dw_read_lines.proofs.InstructionReads.{address_coded, discriminator_coded, discriminator_uncoded, other_coded, end_coded}
 use Rattle.dw_read_lines.proofs.instruction.read_coded.Goals as goal
 

@@ -1,6 +1,5 @@
-use Rattle.std.proofs.Common.{◌≡◌, ◌∙◌, subst, true, false, ℕ, List, Option, Some, None, Err, refl}
-use Rattle.dw_read.specs.Reading.{Reading, left}
-use Rattle.dw_read_lines.specs.LineEntries.{Entry}
+use Rattle.std.proofs.Common.{◌≡◌, subst, true, false, Some, None, refl}
+use Rattle.dw_read.specs.Reading.{Reading}
 use Rattle.dw_read_lines.specs.LineEntryViews.{entry_of}
 use Rattle.dw_read_lines.specs.FileEntryIters.{TakesEntry, MissesEntry}
 use Rattle.dw_read_lines.proofs.TakenLaws.{taken_none, taken_some}

@@ -1,5 +1,5 @@
-use Rattle.std.proofs.Common.{◌≡◌, ◌∙◌, sym, ap, subst, ◌<◌, length, true, false, ⊎_elim, Ok, Err, refl}
-use Rattle.dw_line_machine.specs.LineMachine.{LineHeader, Instruction}
+use Rattle.std.proofs.Common.{◌≡◌, ◌∙◌, subst, ◌<◌, length, true, false, ⊎_elim, Ok, Err, refl}
+use Rattle.dw_line_machine.specs.LineMachine.{Instruction}
 use Rattle.dw_line_machine.specs.Instructions.{instruction_at}
 use Rattle.dw_read.specs.Reading.{Reading, left}
 use Rattle.dw_read.specs.Took.{Took}
