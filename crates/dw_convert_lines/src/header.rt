@@ -141,18 +141,16 @@ fn working_directory<R: Reader>(
         let Some(entry) = entries.next()? else {
             return Err(ConvertError::InvalidDirectoryIndex);
         };
-        let name = convert_name(
+        return convert_name(
             alloc,
             dwarf,
             version,
             &path_of(entry),
             line_strings,
             strings,
-        )?;
-        return Ok(name);
+        );
     }
-    let name = inline(alloc, b"")?;
-    Ok(name)
+    inline(alloc, b"")
 }
 
 /// A program of a working directory alone.
@@ -286,7 +284,7 @@ fn convert_entries<R: Reader>(
         line_strings,
         strings,
     )?;
-    let files = convert_files_behind(
+    convert_files_behind(
         alloc,
         dwarf,
         header,
@@ -296,8 +294,7 @@ fn convert_entries<R: Reader>(
         program,
         line_strings,
         strings,
-    )?;
-    Ok(files)
+    )
 }
 
 /// A program of a working directory with the directories that follow it and the files behind them,

@@ -57,7 +57,7 @@ pub(crate) fn begin_program<R: Reader>(
     let header = program.header();
     let target = encoding.unwrap_or(header.encoding());
     let parameters = target_encoding(header.line_encoding(), header.opcode_base(), line_encoding)?;
-    let converted = convert_header(
+    convert_header(
         alloc,
         dwarf,
         header,
@@ -65,8 +65,7 @@ pub(crate) fn begin_program<R: Reader>(
         parameters,
         line_strings,
         strings,
-    )?;
-    Ok(converted)
+    )
 }
 
 /// Begins to convert a program that was read, by its parameters, directories and files. An encoding

@@ -16,8 +16,7 @@ pub(crate) fn text_in<R: Reader>(section: &R, offset: usize) -> ReadResult<R>
 {
     let mut input = section.duplicate();
     input.skip(offset)?;
-    let text = input.read_null_terminated()?;
-    Ok(text)
+    input.read_null_terminated()
 }
 
 /// The bytes before the first zero.

@@ -7,6 +7,7 @@ use Rattle.dw_convert_lines.specs.EntryImages.{Converting}
 use Rattle.dw_convert_lines.specs.HeaderLists.{FilesMade}
 use Rattle.dw_convert_lines.specs.Views.{texts_of, converting}
 use Rattle.dw_convert_lines.proofs.EntriesMade.{no_directory, with_files}
+use Rattle.dw_convert_lines.proofs.Outcomes.{ok_then, err_then}
 use Rattle.dw_convert_lines.proofs.Reasons.{is_err}
 use Rattle.dw_convert_lines.proofs.header.convert_entries.Goals as goal
 
@@ -23,8 +24,8 @@ returns-in_err-convert_directories-clause-err g c =
       | inr n ↦ inr (no_directory _ _ reading (texts_of reading c.args.dwarf.now) c.args.header.now (nat_le 5 c.args.version) c.args.entries.now s first q why n)
     ])
 
-pub returns-in_err-files-clause-err : goal.returns-in_err-files-clause-err
-returns-in_err-files-clause-err g c =
+pub returns-clause-err : goal.returns-clause-err
+returns-clause-err g c =
     let reading = g.R.Reader.reading in
     let h = c.args.header.now in
     let texts = texts_of reading c.args.dwarf.now in
@@ -34,13 +35,8 @@ returns-in_err-files-clause-err g c =
     let q = ap (λ (ids : List DirectoryId). converting c.args.program.now ids c.args.strings.now c.args.line_strings.now) c.in_ok-directories.ensures.ok in
     let d : Converting DirectoryId = converting c.convert_directories.new.program c.convert_directories.new.ids.items c.convert_directories.new.strings c.convert_directories.new.line_strings in
     let k = c.convert_directories.new.entries in
-    let why : ConvertError = c.in_err-files.field-0.0 in
-    let e = is_err _ why c.from_residual-in_err-files.ensures in
-    rw e (elim c.in_err-files.ensures.err [
-      | inl n ↦ inl n
-      | inr n ↦ inr (with_files _ _ reading texts h refs c.args.entries.now s first q d k (Err why) c.in_ok-convert_directories.ensures.ok c.in_ok-convert_directories.ensures.same
-          (subst (λ (ids : List DirectoryId). FilesMade reading texts h refs k (converting c.convert_directories.new.program ids c.convert_directories.new.strings c.convert_directories.new.line_strings) (Err why)) c.as_slice.ensures.value n))
-    ])
+    err_then c.convert_files_behind.result _ _ _ (λ e n. with_files _ _ reading texts h refs c.args.entries.now s first q d k (Err e) c.in_ok-convert_directories.ensures.ok c.in_ok-convert_directories.ensures.same
+    (subst (λ (ids : List DirectoryId). FilesMade reading texts h refs k (converting c.convert_directories.new.program ids c.convert_directories.new.strings c.convert_directories.new.line_strings) (Err e)) c.as_slice.ensures.value n)) c.convert_files_behind.ensures.err
 
 pub returns-clause-ok : goal.returns-clause-ok
 returns-clause-ok g c =
@@ -53,9 +49,10 @@ returns-clause-ok g c =
     let q = ap (λ (ids : List DirectoryId). converting c.args.program.now ids c.args.strings.now c.args.line_strings.now) c.in_ok-directories.ensures.ok in
     let d : Converting DirectoryId = converting c.convert_directories.new.program c.convert_directories.new.ids.items c.convert_directories.new.strings c.convert_directories.new.line_strings in
     let k = c.convert_directories.new.entries in
-    let x : Converting FileId = converting c.convert_files_behind.new.program c.in_ok-files.files.items c.convert_files_behind.new.strings c.convert_files_behind.new.line_strings in
+    ok_then c.convert_files_behind.result _ _ (λ files n.
+    let x : Converting FileId = converting c.convert_files_behind.new.program files.items c.convert_files_behind.new.strings c.convert_files_behind.new.line_strings in
     with_files _ _ reading texts h refs c.args.entries.now s first q d k (Ok x) c.in_ok-convert_directories.ensures.ok c.in_ok-convert_directories.ensures.same
-    (subst (λ (ids : List DirectoryId). FilesMade reading texts h refs k (converting c.convert_directories.new.program ids c.convert_directories.new.strings c.convert_directories.new.line_strings) (Ok x)) c.as_slice.ensures.value c.in_ok-files.ensures.ok)
+    (subst (λ (ids : List DirectoryId). FilesMade reading texts h refs k (converting c.convert_directories.new.program ids c.convert_directories.new.strings c.convert_directories.new.line_strings) (Ok x)) c.as_slice.ensures.value n)) c.convert_files_behind.ensures.ok
 
 pub convert_directories-requires-clause-begun : goal.convert_directories-requires-clause-begun
 convert_directories-requires-clause-begun g c = c.requires.begun

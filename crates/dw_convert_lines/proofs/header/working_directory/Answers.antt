@@ -15,35 +15,37 @@ use Rattle.dw_convert_lines.specs.EntryNames.{name_image}
 use Rattle.dw_convert_lines.specs.HeaderImages.{working_image}
 use Rattle.dw_convert_lines.specs.Views.{texts_of, tables}
 use Rattle.dw_convert_lines.proofs.EntrySteps.{passes, closes, read_here, closed_here, refused_here, order_passed}
+use Rattle.dw_convert_lines.proofs.Outcomes.{ok_then, err_then}
 use Rattle.dw_convert_lines.proofs.Reasons.{is_err}
 use Rattle.dw_convert_lines.proofs.WorkingLaws.{working_old, working_first, working_refused, working_none, working_missed}
 use Rattle.dw_convert_lines.proofs.header.working_directory.Goals as goal
 
 pub returns-clause-ok : goal.returns-clause-ok
-returns-clause-ok g c = λ parts has. working_old _ _ _ _ _ _ _ _ c.if-is_new.false c.in_ok-name-2.ensures.ok
+returns-clause-ok g c = ok_then c.inline.result _ _ (λ s h. λ parts has. working_old _ _ _ _ _ _ _ _ c.if-is_new.false h) c.inline.ensures.ok
 
 pub returns-then-is_new-clause-ok : goal.returns-then-is_new-clause-ok
 returns-then-is_new-clause-ok g c =
     let reading = g.R.Reader.reading in
     let old = c.args.entries.now in
     let p = passes _ _ reading _ _ _ _ c.in_ok-entry.ensures c.in-Some.is in
-    let named = subst (λ (o : Option (AttributeValue _ _)). name_image (nat_le 5 c.args.version) (texts_of reading c.args.dwarf.now) (tables c.args.strings.now c.args.line_strings.now) (option_of (value_of reading) o) ≡ Ok (c.in_ok-name.name, tables c.convert_name.new.strings c.convert_name.new.line_strings)) c.path_of.ensures c.in_ok-name.ensures.ok in
+    ok_then c.convert_name.result _ _ (λ s h.
+    let named = subst (λ (o : Option (AttributeValue _ _)). name_image (nat_le 5 c.args.version) (texts_of reading c.args.dwarf.now) (tables c.args.strings.now c.args.line_strings.now) (option_of (value_of reading) o) ≡ Ok (s, tables c.convert_name.new.strings c.convert_name.new.line_strings)) c.path_of.ensures h in
     λ parts has. subst (λ (k : ℕ). working_image c.args.is_new (nat_le 5 c.args.version) (texts_of reading c.args.dwarf.now) (next_read (reading old.input).is_big (layout_of reading old.layout parts)) old.remaining (left (reading old.input)) (tables c.args.strings.now c.args.line_strings.now)
-    ≡ Ok (record { name = c.in_ok-name.name; tables = tables c.convert_name.new.strings c.convert_name.new.line_strings; count = k; bytes = left (reading c.next.new.self.input) }))
+    ≡ Ok (record { name = s; tables = tables c.convert_name.new.strings c.convert_name.new.line_strings; count = k; bytes = left (reading c.next.new.self.input) }))
     (sym p.remaining)
-    (working_first _ _ _ _ _ _ (entry_of reading c.in-Some.entry) _ _ _ _ c.if-is_new.true (read_here _ _ reading _ _ _ _ parts refl refl has _ p) named)
+    (working_first _ _ _ _ _ _ (entry_of reading c.in-Some.entry) _ _ _ _ c.if-is_new.true (read_here _ _ reading _ _ _ _ parts refl refl has _ p) named)) c.convert_name.ensures.ok
 
 pub returns-then-is_new-clause-same : goal.returns-then-is_new-clause-same
 returns-then-is_new-clause-same g c =
     let reading = g.R.Reader.reading in
     let p = passes _ _ reading _ _ _ _ c.in_ok-entry.ensures c.in-Some.is in
-    record { layout = p.layout; order = order_passed _ _ reading _ _ _ _ c.requires.parts refl refl c.requires.described _ p }
+    ok_then c.convert_name.result _ _ (λ s h. record { layout = p.layout; order = order_passed _ _ reading _ _ _ _ c.requires.parts refl refl c.requires.described _ p }) c.convert_name.ensures.ok
 
 pub returns-then-is_new-clause-open : goal.returns-then-is_new-clause-open
 returns-then-is_new-clause-open g c =
     let reading = g.R.Reader.reading in
     let p = passes _ _ reading _ _ _ _ c.in_ok-entry.ensures c.in-Some.is in
-    record { parts = c.requires.parts; described = subst (λ (l : HeldLayout _ _). HasParts reading l c.requires.parts) (sym p.layout) c.requires.described; open_yet = p.went_on.1 }
+    ok_then c.convert_name.result _ _ (λ s h. record { parts = c.requires.parts; described = subst (λ (l : HeldLayout _ _). HasParts reading l c.requires.parts) (sym p.layout) c.requires.described; open_yet = p.went_on.1 }) c.convert_name.ensures.ok
 
 pub returns-in_err-entry-clause-err : goal.returns-in_err-entry-clause-err
 returns-in_err-entry-clause-err g c =
@@ -52,16 +54,11 @@ returns-in_err-entry-clause-err g c =
     let e = is_err _ (from_read why) c.from_residual.ensures in
     rw e (inr (λ parts has. working_missed _ _ _ _ _ _ why _ c.if-is_new.true (refused_here _ _ reading _ _ _ _ parts refl refl has why c.in_err-entry.ensures)))
 
-pub returns-in_err-name-clause-err : goal.returns-in_err-name-clause-err
-returns-in_err-name-clause-err g c =
+pub returns-then-is_new-clause-err : goal.returns-then-is_new-clause-err
+returns-then-is_new-clause-err g c =
     let reading = g.R.Reader.reading in
     let p = passes _ _ reading _ _ _ _ c.in_ok-entry.ensures c.in-Some.is in
-    let why : ConvertError = c.in_err-name.field-0.0 in
-    let e = is_err _ why c.from_residual-in_err-name.ensures in
-    rw e (elim c.in_err-name.ensures.err [
-      | inl h ↦ inl h
-      | inr h ↦ inr (λ parts has. working_refused _ _ _ _ _ _ (entry_of reading c.in-Some.entry) _ why _ c.if-is_new.true (read_here _ _ reading _ _ _ _ parts refl refl has _ p) (subst (λ (o : Option (AttributeValue _ _)). name_image (nat_le 5 c.args.version) (texts_of reading c.args.dwarf.now) (tables c.args.strings.now c.args.line_strings.now) (option_of (value_of reading) o) ≡ Err why) c.path_of.ensures h))
-    ])
+    err_then c.convert_name.result _ _ _ (λ why h. λ parts has. working_refused _ _ _ _ _ _ (entry_of reading c.in-Some.entry) _ why _ c.if-is_new.true (read_here _ _ reading _ _ _ _ parts refl refl has _ p) (subst (λ (o : Option (AttributeValue _ _)). name_image (nat_le 5 c.args.version) (texts_of reading c.args.dwarf.now) (tables c.args.strings.now c.args.line_strings.now) (option_of (value_of reading) o) ≡ Err why) c.path_of.ensures h)) c.convert_name.ensures.err
 
 pub returns-in_default-clause-err : goal.returns-in_default-clause-err
 returns-in_default-clause-err g c =
