@@ -14,3 +14,4 @@ pub mod FaultLaws
 pub mod Relocating
 pub mod PointerSteps
 pub mod Worked
+pub mod Refusals

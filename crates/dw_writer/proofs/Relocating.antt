@@ -13,7 +13,7 @@ use Rattle.dw_writer.specs.Texts.{Text, zeros, num_text, int_text}
 use Rattle.dw_writer.specs.Resolved.{sum_text, record_text}
 use Rattle.dw_writer.specs.Pointers.{address_of, pointer_text}
 use Rattle.dw_writer.specs.SectionTexts.{offset_text, address_text, eh_pointer_text, eh_pointer_size}
-use Rattle.dw_writer.specs.Meaning.{Layout, Meaning, Records, Adds, AddsWith, AddsSome, AddsSomeWith, Replaces, ReplacesWith, ReplacesSome, ReplacesSomeWith, Appends, Patches, start_of, spelled_num, pointer_bytes, pointer_records, pointer_zeros, pointer_record}
+use Rattle.dw_writer.specs.Meaning.{Layout, Meaning, IsSameWriter, Records, Adds, AddsWith, AddsSome, AddsSomeWith, Replaces, ReplacesWith, ReplacesSome, ReplacesSomeWith, Appends, Patches, start_of, spelled_num, pointer_bytes, pointer_records, pointer_zeros, pointer_record}
 use Rattle.dw_writer.specs.Relocating.{relocating, record_at, record_by}
 use Rattle.dw_writer.specs.declared.relocate.Relocation.{Relocation}
 use Rattle.dw_writer.specs.declared.relocate.RelocationTarget.{RelocationTarget}
@@ -33,6 +33,21 @@ relocated a b rs xs p = record {
   records = ap (λ k. k ++ rs) p.records;
 }
 
+-- what the inner writer has added, behind a record
+pub relocated_ok : {T : Type 0} (r : Result T Error) (a b : Meaning) (rs qs more : List Relocation) (xs : List ℕ) → OnOk r (Adds a b xs) → qs ≡ rs ++ more →
+    OnOk r (AddsWith (relocating a rs) (relocating b qs) xs more)
+relocated_ok (Ok x) a b rs qs more xs p e = record {
+  same = record { order = p.same.order; kind = refl; faults = p.same.faults };
+  size = p.size;
+  told = p.told;
+  records = ap (λ k. k ++ qs) p.records ∙ ap (λ k. a.records ++ k) e ∙ sym (append_assoc a.records rs more);
+}
+relocated_ok (Err x) a b rs qs more xs p e = tt
+
+-- the inner writer stays the same beside the records
+pub relocated_same : (a b : Meaning) (rs qs : List Relocation) → IsSameWriter a b → IsSameWriter (relocating a rs) (relocating b qs)
+relocated_same a b rs qs p = record { order = p.order; kind = refl; faults = p.faults }
+
 -- what the inner writer has added after either result, behind a record
 pub relocated_either : {T : Type 0} (r : Result T Error) (a b : Meaning) (rs qs more : List Relocation) (xs : List ℕ) → OnOk r (Adds a b xs) → OnErr r (AddsSome a b xs) → qs ≡ rs ++ more →
     AddsSomeWith (relocating a rs) (relocating b qs) xs more
@@ -44,6 +59,18 @@ relocated_either r a b rs qs more xs p q e =
       told = some.told;
       records = inl (ap (λ k. k ++ qs) some.records ∙ ap (λ k. a.records ++ k) e ∙ sym (append_assoc a.records rs more));
     }
+
+-- what it replaces, behind a record
+pub relocated_patch_ok : {T : Type 0} (r : Result T Error) (a b : Meaning) (rs qs more : List Relocation) (p : ℕ) (xs : List ℕ) → OnOk r (Replaces a b p xs) → qs ≡ rs ++ more →
+    OnOk r (ReplacesWith (relocating a rs) (relocating b qs) p xs more)
+relocated_patch_ok (Ok x) a b rs qs more p xs h e = record {
+  same = record { order = h.same.order; kind = refl; faults = h.same.faults };
+  within = h.within;
+  size = h.size;
+  told = h.told;
+  records = ap (λ k. k ++ qs) h.records ∙ ap (λ k. a.records ++ k) e ∙ sym (append_assoc a.records rs more);
+}
+relocated_patch_ok (Err x) a b rs qs more p xs h e = tt
 
 -- what it has replaced, behind a record
 pub relocated_patch : {T : Type 0} (r : Result T Error) (a b : Meaning) (rs qs more : List Relocation) (p : ℕ) (xs : List ℕ) → OnErr r (ReplacesSome a b p xs) → qs ≡ rs ++ more →

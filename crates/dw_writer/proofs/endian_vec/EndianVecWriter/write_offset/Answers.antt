@@ -1,5 +1,6 @@
 use Rattle.std.proofs.Common.{◌∙◌, ap, refl}
-use Rattle.dw_base.specs.Numbers.{num}
+use Rattle.dw_base.specs.Numbers.{num, fits}
+use Rattle.dw_writer.proofs.Refusals.{NumberRefused-bytes}
 use Rattle.dw_writer.proofs.Plain.{Adds-offset_ok}
 use Rattle.dw_writer.proofs.Parts.{Adds-with, AddsSomeWith-none, AddsSomeWith-either, num-spelled}
 use Rattle.dw_writer.proofs.endian_vec.EndianVecWriter.write_offset.Goals as goal
@@ -24,3 +25,8 @@ returns-clause-partly g c =
 
 pub returns-in_err-number-clause-partly : goal.returns-in_err-number-clause-partly
 returns-in_err-number-clause-partly g c = AddsSomeWith-none _ _ _
+
+pub returns-clause-err : goal.returns-clause-err
+returns-clause-err g c =
+    let is = c.in_ok-number.ensures.fits in
+    NumberRefused-bytes c.write.result c.args.size (fits c.args.size c.args.val) c.write.ensures.same is.0 is.1 c.write.ensures.err

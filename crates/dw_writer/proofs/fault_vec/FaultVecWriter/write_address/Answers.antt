@@ -1,5 +1,6 @@
 use Rattle.std.proofs.Common.{◌∙◌, ap}
-use Rattle.dw_base.specs.Numbers.{num}
+use Rattle.dw_base.specs.Numbers.{num, fits}
+use Rattle.dw_writer.proofs.Refusals.{NumberRefused-bytes}
 use Rattle.dw_writer.proofs.Plain.{Adds-constant_ok}
 use Rattle.dw_writer.proofs.Parts.{Adds-with, AddsSomeWith-none, AddsSomeWith-either, num-spelled}
 use Rattle.dw_writer.proofs.fault_vec.FaultVecWriter.write_address.Goals as goal
@@ -33,3 +34,8 @@ returns-in_err-number-in-Constant-clause-partly g c = AddsSomeWith-none _ _ _
 
 pub returns-in-Symbol-clause-partly : goal.returns-in-Symbol-clause-partly
 returns-in-Symbol-clause-partly g c = AddsSomeWith-none _ _ _
+
+pub returns-in_ok-number-in-Constant-clause-err : goal.returns-in_ok-number-in-Constant-clause-err
+returns-in_ok-number-in-Constant-clause-err g c =
+    let is = c.in_ok-number-in-Constant.ensures.fits in
+    rw c.in-Constant.is (NumberRefused-bytes c.write.result c.args.size (fits c.args.size c.in-Constant.val) c.write.ensures.same is.0 is.1 c.write.ensures.err)

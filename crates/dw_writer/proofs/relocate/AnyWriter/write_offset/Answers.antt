@@ -1,6 +1,9 @@
-use Rattle.std.proofs.Common.{◌≡◌, ◌∙◌, rules, to_z, of_z, w64}
+use Rattle.std.proofs.Common.{◌≡◌, false, ◌∙◌, rules, to_z, of_z, w64}
 use Rattle.dw_writer.proofs.Parts.{AddsSomeWith-none}
 use Rattle.dw_writer.proofs.Relocating.{offset_added}
+use Rattle.std.proofs.lemmas.Result.{err_from_is_err_and}
+use Rattle.dw_writer.specs.Causes.{BytesRefused, offset_fits}
+use Rattle.dw_writer.proofs.Refusals.{NumberRefused-only, NumberRefused-bytes}
 use Rattle.dw_writer.proofs.relocate.AnyWriter.write_offset.Goals as goal
 
 pub returns-in_err-addend-clause-partly : goal.returns-in_err-addend-clause-partly
@@ -11,3 +14,15 @@ returns-clause-ok g c =
     let addend = c.in_ok-addend.ensures in
     let value : to_z w64 (of_z w64 c.in_ok-addend.addend) ≡ c.in_ok-addend.addend = search rules in
     offset_added c.add_relocated.result _ _ c.args.size c.args.val c.args.section _ c.add_relocated.ensures.ok (value ∙ addend.ok) addend.fits.0
+
+pub returns-in_err-addend-clause-err : goal.returns-in_err-addend-clause-err
+returns-in_err-addend-clause-err g c =
+    let p = err_from_is_err_and c.from_residual.result c.from_residual.ensures.1 in
+    let m = g.T.Writer.Writer.meaning (g.T.RelocateWriter.inner c.args.self.now) in
+    rw (p.1, p.2) (NumberRefused-only c.args.size (offset_fits false c.args.size c.args.val) (BytesRefused m m) c.in_err-addend.field-0.0 c.in_err-addend.ensures.err)
+
+pub returns-clause-err : goal.returns-clause-err
+returns-clause-err g c =
+    let fits = c.in_ok-addend.ensures.fits in
+    let add = c.add_relocated in
+    NumberRefused-bytes add.result c.args.size (offset_fits false c.args.size c.args.val) add.ensures.same fits.0 fits.1 add.ensures.err
