@@ -4,7 +4,6 @@ ghost use Rattle.std.specs.Prelude.{◌≡◌, Some, Err, IfOk, IfErr};
 ghost use Rattle.dw_writer.specs.Sections.{section_of};
 ghost use Rattle.dw_writer.specs.Visits.{Visits, written_ids};
 
-use crate::section::Section;
 use crate::sections::Sections;
 use crate::writer::Writer;
 use dw_base::SectionId;
@@ -65,47 +64,27 @@ impl<W: Writer> Sections<W> {
             ..
         } = self;
         let done = Ok(());
-        let done = call_after(
-            &mut f,
-            done,
-            SectionId::DebugAbbrev,
-            debug_abbrev.section_mut(),
-        );
-        let done = call_after(&mut f, done, SectionId::DebugStr, debug_str.section_mut());
-        let done = call_after(
-            &mut f,
-            done,
-            SectionId::DebugLineStr,
-            debug_line_str.section_mut(),
-        );
-        let done = call_after(&mut f, done, SectionId::DebugLine, debug_line.section_mut());
-        let done = call_after(
-            &mut f,
-            done,
-            SectionId::DebugRanges,
-            debug_ranges.section_mut(),
-        );
+        let done = call_after(&mut f, done, SectionId::DebugAbbrev, &mut debug_abbrev.0);
+        let done = call_after(&mut f, done, SectionId::DebugStr, &mut debug_str.0);
+        let done = call_after(&mut f, done, SectionId::DebugLineStr, &mut debug_line_str.0);
+        let done = call_after(&mut f, done, SectionId::DebugLine, &mut debug_line.0);
+        let done = call_after(&mut f, done, SectionId::DebugRanges, &mut debug_ranges.0);
         let done = call_after(
             &mut f,
             done,
             SectionId::DebugRngLists,
-            debug_rnglists.section_mut(),
+            &mut debug_rnglists.0,
         );
-        let done = call_after(&mut f, done, SectionId::DebugLoc, debug_loc.section_mut());
+        let done = call_after(&mut f, done, SectionId::DebugLoc, &mut debug_loc.0);
         let done = call_after(
             &mut f,
             done,
             SectionId::DebugLocLists,
-            debug_loclists.section_mut(),
+            &mut debug_loclists.0,
         );
-        let done = call_after(&mut f, done, SectionId::DebugInfo, debug_info.section_mut());
-        let done = call_after(
-            &mut f,
-            done,
-            SectionId::DebugFrame,
-            debug_frame.section_mut(),
-        );
-        call_after(&mut f, done, SectionId::EhFrame, eh_frame.section_mut())
+        let done = call_after(&mut f, done, SectionId::DebugInfo, &mut debug_info.0);
+        let done = call_after(&mut f, done, SectionId::DebugFrame, &mut debug_frame.0);
+        call_after(&mut f, done, SectionId::EhFrame, &mut eh_frame.0)
     }
 }
 
