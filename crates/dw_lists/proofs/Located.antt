@@ -1,7 +1,7 @@
 -- Items with the expressions of locations: their sizes, what is written of them, and why they are refused.
 use Rattle.std.specs.Prelude.{◌≡◌, ℕ, zero, suc, ◌+◌, ◌<◌, ◌^◌, Bool, true, false, List, [], ◌∷◌, length, Option, Some, None, refl, IsTrue}
 use Rattle.std.proofs.Common.{sym, ◌∙◌, ap, subst}
-use Rattle.std.proofs.lemmas.Bool.{leb-false, or_left}
+use Rattle.std.proofs.lemmas.Bool.{leb-false, or_left, or_right}
 use Rattle.std.proofs.Math.Path.{fun_ext}
 use Rattle.dw_base.specs.Numbers.{◌>>=◌, num, is_width, fits}
 use Rattle.dw_base.specs.Leb128.{uleb}
@@ -24,7 +24,7 @@ use Rattle.dw_lists.specs.Items.{Span, is_five}
 use Rattle.dw_lists.specs.Parts.{Part, part_at, ranges_parts}
 use Rattle.dw_lists.specs.Pieces.{IsWritten}
 use Rattle.dw_lists.specs.Texts.{count_draft, located, part_draft, span_draft, span_in, span_text, span_size}
-use Rattle.dw_lists.specs.Causes.{Refused, Is, IsNone, located_fails, old_span_fails, new_span_fails, old_fails, new_part_fails, form_fails, numbers_fail}
+use Rattle.dw_lists.specs.Causes.{Refused, Is, IsNone, located_fails, old_span_fails, new_span_fails, old_fails, new_part_fails}
 use Rattle.dw_lists.proofs.Causes.{neither_cause, first_none}
 use Rattle.dw_lists.proofs.Spans.{written-number}
 use Rattle.dw_lists.proofs.TableCauses.{unsized_quiet}
@@ -55,14 +55,25 @@ module _ (v : Encoding) (known : Option (ℕ → Option ℕ)) (plain : Bool) whe
   size_located old new five x errors.WriteFault h = absurd (unsized_quiet v known old (Some x) h)
   size_located old new five x e h = or_left _ _ (or_left _ _ h)
 
-  pub old_part_none : (base : Bool) (r : Range) (x : Option (List Node)) → IsNone (form_fails base v.address_size r) → IsNone (numbers_fail plain v.address_size r) → IsNone (located_fails v known plain false x) →
-      IsNone (old_fails v known plain base (record { range = Some r; expression = x }))
-  old_part_none base r x f n h =
-      neither_cause (old_span_fails base plain v.address_size (Some r)) (located_fails v known plain false x)
-      (neither_cause (form_fails base v.address_size r) (numbers_fail plain v.address_size r) f n) h
+  pub old_part_none : (base : Bool) (r : Option Range) (x : Option (List Node)) → IsNone (old_span_fails base plain v.address_size r) → IsNone (located_fails v known plain false x) → IsNone (old_fails v known plain base (record { range = r; expression = x }))
+  old_part_none base r x n h = neither_cause (old_span_fails base plain v.address_size r) (located_fails v known plain false x) n h
 
   pub new_part_none : (r : Option Range) (x : Option (List Node)) → IsNone (new_span_fails plain v.address_size r) → IsNone (located_fails v known plain true x) → IsNone (new_part_fails v known plain (record { range = r; expression = x }))
   new_part_none r x n h = neither_cause (new_span_fails plain v.address_size r) (located_fails v known plain true x) n h
+
+-- the causes of an item are those of its range and of its expression
+module _ (v : Encoding) (known : Option (ℕ → Option ℕ)) (plain : Bool) (x : Option (List Node)) where
+  pub in_old_span : (base : Bool) (r : Option Range) (e : Error) → Is (old_span_fails base plain v.address_size r) e → Is (old_fails v known plain base (record { range = r; expression = x })) e
+  in_old_span base r e h = or_left _ (located_fails v known plain false x e) h
+
+  pub in_old_expression : (base : Bool) (r : Option Range) (e : Error) → Is (located_fails v known plain false x) e → Is (old_fails v known plain base (record { range = r; expression = x })) e
+  in_old_expression base r e h = or_right (old_span_fails base plain v.address_size r e) _ h
+
+  pub in_new_span : (r : Option Range) (e : Error) → Is (new_span_fails plain v.address_size r) e → Is (new_part_fails v known plain (record { range = r; expression = x })) e
+  in_new_span r e h = or_left _ (located_fails v known plain true x e) h
+
+  pub in_new_expression : (r : Option Range) (e : Error) → Is (located_fails v known plain true x) e → Is (new_part_fails v known plain (record { range = r; expression = x })) e
+  in_new_expression r e h = or_right (new_span_fails plain v.address_size r e) _ h
 
 pub part_drafts : {a b c : Meaning} {x y : List DebugInfoFixup} (five is : Bool) (v : Encoding) (place : ℕ → Option ℕ) (k : Kinds) (r : Option Range) (e : Option (List Node)) → is ≡ five →
     IsWritten a b (span_draft five k v.address_size r) → Drafts b c x y (located is v place e) → Drafts a c x y (part_draft five v place k (record { range = r; expression = e }))

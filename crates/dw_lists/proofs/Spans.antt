@@ -16,10 +16,11 @@ use Rattle.dw_writer.proofs.Laws.{length-num_text, followed-none}
 use Rattle.dw_writer.proofs.Plain.{num-shown, num-byte}
 use Rattle.dw_writer.proofs.Steps.{Adds-appends, Appends-then, Appends-as, Appends-by}
 use Rattle.dw_lists.specs.declared.kinds.Kinds.{Kinds}
+use Rattle.dw_lists.specs.declared.range.Range.{Range}
 use Rattle.dw_lists.specs.declared.range.Range.TheVariants as built
 use Rattle.dw_lists.specs.Kinds.{kinds_of, AreBytes}
 use Rattle.dw_lists.specs.Items.{Base, Pair, StartEnd, StartLength, marker}
-use Rattle.dw_lists.specs.Pieces.{IsWritten}
+use Rattle.dw_lists.specs.Pieces.{IsWritten, ends_text, kind_of, operands_size, operands_text}
 use Rattle.dw_lists.specs.Texts.{natural, address_in, plus, span_text, span_draft}
 
 -- Calls
@@ -36,9 +37,6 @@ written-number {a} {b} w n h p =
 
 pub written-marker : {a b : Meaning} (w n m : ℕ) → n ≡ m → IsTrue (is_width w) × IsTrue (fits w n) → Adds a b (num a.is_big w n) → Appends a b w (λ big l. num_text big w m)
 written-marker {a} {b} w n m e h p = subst (λ k. Appends a b w (λ big l. num_text big w k)) e (written-number w n h p)
-
-pub written-further : {a b : Meaning} (w : ℕ) (x y : Address) → x ≡ y → Appends a b w (address_text w x) → Appends a b w (address_text w y)
-written-further {a} {b} w x y e p = subst (λ k. Appends a b w (address_text w k)) e p
 
 -- Addresses
 
@@ -84,7 +82,7 @@ two_addresses w big l x y = ap (λ t. followed t (address_text w y big l)) (addr
 -- Ranges
 
 module _ (k : Kinds) (w : ℕ) {a b : Meaning} where
-  pub new_base : {c : Meaning} (x : Address) → k.base_address < 256 → Adds a b (num a.is_big 1 k.base_address) → Appends b c w (address_text w x) → IsWritten a c (span_draft true k w (Some (built.BaseAddress x)))
+  new_base : {c : Meaning} (x : Address) → k.base_address < 256 → Adds a b (num a.is_big 1 k.base_address) → Appends b c w (address_text w x) → IsWritten a c (span_draft true k w (Some (built.BaseAddress x)))
   new_base {c} x small p q =
       Appends-as (Appends-then (written-byte k.base_address small p) q) refl
       (λ big l. ap (followed (Some (k.base_address ∷ []))) (address_is big w l x) ∙ by big (address_in l x))
@@ -93,13 +91,12 @@ module _ (k : Kinds) (w : ℕ) {a b : Meaning} where
       by big None = followed-none (Some (k.base_address ∷ []))
       by big (Some n) = refl
 
-  pub new_pair : {c d : Meaning} (m n : ℕ) → k.offset_pair < 256 → Adds a b (num a.is_big 1 k.offset_pair) → Adds b c (uleb m) → Adds c d (uleb n) → IsWritten a d (span_draft true k w (Some (built.OffsetPair m n)))
-  new_pair m n small p q r =
-      Appends-as (Appends-then (written-byte k.offset_pair small p) (Appends-then (Adds-appends q) (Adds-appends r))) refl (λ big l. three (k.offset_pair ∷ []) (uleb m) (uleb n))
+  new_pair : {c : Meaning} (m n : ℕ) → k.offset_pair < 256 → Adds a b (num a.is_big 1 k.offset_pair) → Appends b c (length (uleb m) + length (uleb n)) (λ big l. followed (Some (uleb m)) (Some (uleb n))) → IsWritten a c (span_draft true k w (Some (built.OffsetPair m n)))
+  new_pair m n small p q = Appends-as (Appends-then (written-byte k.offset_pair small p) q) refl (λ big l. three (k.offset_pair ∷ []) (uleb m) (uleb n))
 
-  pub new_ends : {c d : Meaning} (x y : Address) → k.start_end < 256 → Adds a b (num a.is_big 1 k.start_end) → Appends b c w (address_text w x) → Appends c d w (address_text w y) → IsWritten a d (span_draft true k w (Some (built.StartEnd x y)))
-  new_ends x y small p q r =
-      Appends-as (Appends-then (written-byte k.start_end small p) (Appends-then q r)) refl
+  new_ends : {d : Meaning} (x y : Address) → k.start_end < 256 → Adds a b (num a.is_big 1 k.start_end) → Appends b d (w + w) (ends_text w x y) → IsWritten a d (span_draft true k w (Some (built.StartEnd x y)))
+  new_ends x y small p q =
+      Appends-as (Appends-then (written-byte k.start_end small p) q) refl
       (λ big l. ap (followed (Some (k.start_end ∷ []))) (ap (λ t. followed t (address_text w y big l)) (address_is big w l x) ∙ ap (followed (address_in l x >>= num_text big w)) (address_is big w l y)) ∙ by big (address_in l x) (address_in l y))
     where
       by : (big : Bool) (o p : Option ℕ) → followed (Some (k.start_end ∷ [])) (followed (o >>= num_text big w) (p >>= num_text big w)) ≡ ((o >>= λ m. p >>= λ n. Some (StartEnd m n)) >>= span_text true k big w)
@@ -107,14 +104,21 @@ module _ (k : Kinds) (w : ℕ) {a b : Meaning} where
       by big (Some m) None = ap (followed (Some (k.start_end ∷ []))) (followed-none (num_text big w m)) ∙ followed-none (Some (k.start_end ∷ []))
       by big (Some m) (Some n) = refl
 
-  pub new_length : {c d : Meaning} (x : Address) (n : ℕ) → k.start_length < 256 → Adds a b (num a.is_big 1 k.start_length) → Appends b c w (address_text w x) → Adds c d (uleb n) → IsWritten a d (span_draft true k w (Some (built.StartLength x n)))
-  new_length x n small p q r =
-      Appends-as (Appends-then (written-byte k.start_length small p) (Appends-then q (Adds-appends r))) refl
+  new_length : {c : Meaning} (x : Address) (n : ℕ) → k.start_length < 256 → Adds a b (num a.is_big 1 k.start_length) → Appends b c (w + length (uleb n)) (λ big l. followed (address_text w x big l) (Some (uleb n))) → IsWritten a c (span_draft true k w (Some (built.StartLength x n)))
+  new_length x n small p q =
+      Appends-as (Appends-then (written-byte k.start_length small p) q) refl
       (λ big l. ap (λ t. followed (Some (k.start_length ∷ [])) (followed t (Some (uleb n)))) (address_is big w l x) ∙ by big (address_in l x))
     where
       by : (big : Bool) (o : Option ℕ) → followed (Some (k.start_length ∷ [])) (followed (o >>= num_text big w) (Some (uleb n))) ≡ ((o >>= λ m. Some (StartLength m n)) >>= span_text true k big w)
       by big None = ap (followed (Some (k.start_length ∷ []))) (none-followed (Some (uleb n))) ∙ followed-none (Some (k.start_length ∷ []))
       by big (Some m) = refl
+
+  -- the kind of an item, and its operands
+  pub new_item : {c : Meaning} (r : Range) → AreBytes k → Adds a b (num a.is_big 1 (kind_of k r)) → Appends b c (operands_size w r) (operands_text w r) → IsWritten a c (span_draft true k w (Some r))
+  new_item (built.BaseAddress x) bytes p q = new_base x bytes.1.1.0 p q
+  new_item (built.OffsetPair m n) bytes p q = new_pair m n bytes.1.0 p q
+  new_item (built.StartEnd x y) bytes p q = new_ends x y bytes.1.1.1.0 p q
+  new_item (built.StartLength x n) bytes p q = new_length x n bytes.1.1.1.1 p q
 
   pub old_base : {c : Meaning} (x : Address) → Appends a b w (λ big l. num_text big w (marker w)) → Appends b c w (address_text w x) → IsWritten a c (span_draft false k w (Some (built.BaseAddress x)))
   old_base x p q = Appends-as (Appends-then p q) refl (λ big l. ap (followed (num_text big w (marker w))) (address_is big w l x) ∙ by big (address_in l x))
@@ -126,16 +130,16 @@ module _ (k : Kinds) (w : ℕ) {a b : Meaning} where
   pub old_pair : {c : Meaning} (m n : ℕ) → Appends a b w (λ big l. num_text big w m) → Appends b c w (λ big l. num_text big w n) → IsWritten a c (span_draft false k w (Some (built.OffsetPair m n)))
   old_pair m n p q = Appends-then p q
 
-  pub old_ends : {c : Meaning} (x y : Address) → Appends a b w (address_text w x) → Appends b c w (address_text w y) → IsWritten a c (span_draft false k w (Some (built.StartEnd x y)))
-  old_ends x y p q = Appends-as (Appends-then p q) refl (λ big l. two_addresses w big l x y ∙ by big (address_in l x) (address_in l y))
+  pub old_ends : (x y : Address) → Appends a b (w + w) (ends_text w x y) → IsWritten a b (span_draft false k w (Some (built.StartEnd x y)))
+  old_ends x y p = Appends-as p refl (λ big l. two_addresses w big l x y ∙ by big (address_in l x) (address_in l y))
     where
       by : (big : Bool) (o p : Option ℕ) → followed (o >>= num_text big w) (p >>= num_text big w) ≡ ((o >>= λ m. p >>= λ n. Some (Pair m n)) >>= span_text false k big w)
       by big None p = none-followed (p >>= num_text big w)
       by big (Some m) None = followed-none (num_text big w m)
       by big (Some m) (Some n) = refl
 
-  pub old_length : {c : Meaning} (x : Address) (n : ℕ) → Appends a b w (address_text w x) → Appends b c w (address_text w (plus x n)) → IsWritten a c (span_draft false k w (Some (built.StartLength x n)))
-  old_length x n p q = Appends-as (Appends-then p q) refl (λ big l. two_addresses w big l x (plus x n) ∙ by big (address_in l x) (address_in l (plus x n)) (plus_in l x n))
+  pub old_length : (x y : Address) (n : ℕ) → y ≡ plus x n → Appends a b (w + w) (ends_text w x y) → IsWritten a b (span_draft false k w (Some (built.StartLength x n)))
+  old_length x y n is p = Appends-as (subst (λ z. Appends a b (w + w) (ends_text w x z)) is p) refl (λ big l. two_addresses w big l x (plus x n) ∙ by big (address_in l x) (address_in l (plus x n)) (plus_in l x n))
     where
       by : (big : Bool) (o p : Option ℕ) → ((m : ℕ) → o ≡ Some m → p ≡ Some (m + n)) → followed (o >>= num_text big w) (p >>= num_text big w) ≡ ((o >>= λ m. Some (Pair m (m + n))) >>= span_text false k big w)
       by big None p f = none-followed (p >>= num_text big w)

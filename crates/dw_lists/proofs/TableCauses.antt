@@ -5,6 +5,7 @@ use Rattle.std.specs.List.{list_any}
 use Rattle.std.proofs.lemmas.Bool.{lt-leb, or_left, or_right}
 use Rattle.std.proofs.lemmas.List.Folds.{list_any_at}
 use Rattle.dw_base.specs.declared.common.Encoding.{Encoding}
+use Rattle.dw_base.specs.declared.common.Format.{Format}
 use Rattle.dw_base.specs.declared.error.Error.{Error}
 use Rattle.dw_base.specs.declared.error.Error.TheVariants as errors
 use Rattle.dw_writer.specs.Contents.{Meaning}
@@ -16,9 +17,9 @@ use Rattle.dw_expr.proofs.PartLaws.{size_refused as expression_unsized}
 use Rattle.dw_writer.specs.Causes.{HasRisen}
 use Rattle.dw_lists.specs.Parts.{Part}
 use Rattle.dw_lists.specs.Tables.{body_draft, entries_of}
-use Rattle.dw_lists.specs.Causes.{Refused, Is, IsNone, count_fails, size_fails, length_fails, words_fail, header_fails, unsized, parts_unsized, parts_unsized_in, lists_unsized, lists_unsized_in, located_fails, new_span_fails, new_part_fails, new_list_fails, list_fails, lists_fail, table_fails_by}
+use Rattle.dw_lists.specs.Causes.{Refused, Is, IsNone, count_fails, size_fails, length_fails, words_fail, header_fails, unsized, parts_unsized, parts_unsized_in, lists_unsized, lists_unsized_in, located_fails, new_span_fails, new_part_fails, new_list_fails, list_fails, lists_fail, head_fails, entries_fail, table_fails_by}
 use Rattle.dw_lists.proofs.Causes.{neither_cause}
-use Rattle.dw_lists.proofs.Refusals.{refused_after, larger}
+use Rattle.dw_lists.proofs.Refusals.{refused_after, weaker, larger}
 
 module _ (v : Encoding) (known : Option (ℕ → Option ℕ)) where
   -- a list with a fault among others
@@ -102,48 +103,64 @@ pub memory_or : (f : Error → Bool) (e : Error) → Is f e → MemoryOr f e
 memory_or f errors.NoMemory h = tt
 memory_or f e h = h
 
+-- what stands before lists has no fault where its size and its words have none
+pub head_none : (format : Format) (n size : ℕ) (ns : List ℕ) → n ≡ size → IsNone (size_fails n) → IsNone (length_fails format n) → IsNone (words_fail format ns) → IsNone (head_fails format size ns)
+head_none format n size ns is s l ws =
+    subst (λ k. IsNone (head_fails format k ns)) is
+    (neither_cause (size_fails n) (λ e. length_fails format n e || words_fail format ns e) s (neither_cause (length_fails format n) (words_fail format ns) l ws))
+
 -- the causes of a table of version 5
-module _ (loc : Bool) (v : Encoding) (known : Option (ℕ → Option ℕ)) (base plain : Bool) (xs : List (List Part)) where
+module _ (loc : Bool) (v : Encoding) (known : Option (ℕ → Option ℕ)) (xs : List (List Part)) where
   abbrev pub body_size : ℕ
   body_size = (body_draft loc v (place_by known) xs).size
 
   abbrev pub words : List ℕ
   words = entries_of loc v (place_by known) xs
 
-  pub in_header : (e : Error) → Is (header_fails loc v known xs) e → Is (table_fails_by loc v known true base plain xs) e
-  in_header e h = or_left (header_fails loc v known xs e) (lists_fail v known plain true base xs e) h
+  pub in_count : (e : Error) → Is (count_fails (length xs)) e → Is (entries_fail loc v known xs) e
+  in_count e h = or_left (header_fails loc v known xs e) (lists_unsized v known xs e) (or_left (count_fails (length xs) e) _ h)
 
-  pub in_count : (e : Error) → Is (count_fails (length xs)) e → Is (table_fails_by loc v known true base plain xs) e
-  in_count e h = in_header e (or_left (count_fails (length xs) e) _ h)
+  in_head : (e : Error) → Is (head_fails v.format body_size words) e → Is (entries_fail loc v known xs) e
+  in_head e h = or_left (header_fails loc v known xs e) (lists_unsized v known xs e) (or_right (count_fails (length xs) e) _ h)
 
-  pub in_size : (e : Error) → Is (size_fails body_size) e → Is (table_fails_by loc v known true base plain xs) e
-  in_size e h = in_header e (or_right (count_fails (length xs) e) _ (or_left (size_fails body_size e) _ h))
-
-  pub in_length : (e : Error) → Is (length_fails v.format body_size) e → Is (table_fails_by loc v known true base plain xs) e
-  in_length e h = in_header e (or_right (count_fails (length xs) e) _ (or_right (size_fails body_size e) _ (or_left (length_fails v.format body_size e) _ h)))
-
-  pub in_words : (e : Error) → Is (words_fail v.format words) e → Is (table_fails_by loc v known true base plain xs) e
-  in_words e h = in_header e (or_right (count_fails (length xs) e) _ (or_right (size_fails body_size e) _ (or_right (length_fails v.format body_size e) _ h)))
-
-  pub in_lists : (e : Error) → Is (lists_fail v known plain true base xs) e → Is (table_fails_by loc v known true base plain xs) e
-  in_lists e h = or_right (header_fails loc v known xs e) (lists_fail v known plain true base xs e) h
-
-  in_sizes : (n : ℕ) → n ≤ body_size → (e : Error) → Is (lists_unsized_in v known n xs) e → Is (table_fails_by loc v known true base plain xs) e
-  in_sizes n within e h = by (size_fails n e) (lists_unsized v known xs e) (λ k. in_size e (larger n body_size within e k)) (λ k. in_lists e (unsized_lists v known plain base xs e k)) h
+  in_sizes : (n : ℕ) → n ≤ body_size → (e : Error) → Is (lists_unsized_in v known n xs) e → Is (entries_fail loc v known xs) e
+  in_sizes n within e h =
+      by (size_fails n e) (lists_unsized v known xs e)
+      (λ k. in_head e (or_left (size_fails body_size e) _ (larger n body_size within e k)))
+      (λ k. or_right (header_fails loc v known xs e) (lists_unsized v known xs e) k) h
     where
-      by : (a b : Bool) → (IsTrue a → Is (table_fails_by loc v known true base plain xs) e) → (IsTrue b → Is (table_fails_by loc v known true base plain xs) e) → IsTrue (a || b) → Is (table_fails_by loc v known true base plain xs) e
+      by : (a b : Bool) → (IsTrue a → Is (entries_fail loc v known xs) e) → (IsTrue b → Is (entries_fail loc v known xs) e) → IsTrue (a || b) → Is (entries_fail loc v known xs) e
       by true b p q h = p refl
       by false b p q h = q h
 
   -- sums that pass 64 bits are those of the whole body
-  pub size_refused : (m : Meaning) (n : ℕ) → n ≤ body_size → (e : Error) → MemoryOr (lists_unsized_in v known n xs) e → Refused m m (Is (table_fails_by loc v known true base plain xs)) e
+  pub size_refused : (m : Meaning) (n : ℕ) → n ≤ body_size → (e : Error) → MemoryOr (lists_unsized_in v known n xs) e → Refused m m (Is (entries_fail loc v known xs)) e
   size_refused m n within errors.NoMemory h = tt
   size_refused m n within errors.WriteFault h = absurd (lists_quiet v known m xs h)
   size_refused m n within e h = in_sizes n within e h
 
-  pub new_none : IsNone (count_fails (length xs)) → IsNone (size_fails body_size) → IsNone (length_fails v.format body_size) →
-      IsNone (words_fail v.format words) → IsNone (lists_fail v known plain true base xs) → IsNone (table_fails_by loc v known true base plain xs)
-  new_none c s l ws none =
-      neither_cause (header_fails loc v known xs) (lists_fail v known plain true base xs)
-      (neither_cause (count_fails (length xs)) _ c (neither_cause (size_fails body_size) _ s (neither_cause (length_fails v.format body_size) (words_fail v.format words) l ws)))
-      none
+  pub head_refused : (a b : Meaning) (size : ℕ) (ns : List ℕ) → size ≡ body_size → ns ≡ words → (e : Error) → Refused a b (Is (head_fails v.format size ns)) e → Refused a b (Is (entries_fail loc v known xs)) e
+  head_refused a b size ns sized placed =
+      weaker a b (Is (head_fails v.format size ns)) (Is (entries_fail loc v known xs))
+      (λ e h. in_head e (subst (λ k. Is (head_fails v.format body_size k) e) placed (subst (λ n. Is (head_fails v.format n ns) e) sized h)))
+
+  pub header_none : (size : ℕ) (ns : List ℕ) → length xs < 2 ^ 32 → size ≡ body_size → ns ≡ words → IsNone (head_fails v.format size ns) → IsNone (header_fails loc v known xs)
+  header_none size ns few sized placed h =
+      neither_cause (count_fails (length xs)) (head_fails v.format body_size words) (count_none (length xs) few)
+      (subst (λ k. IsNone (head_fails v.format body_size k)) placed (subst (λ n. IsNone (head_fails v.format n ns)) sized h))
+
+  module _ (base plain : Bool) where
+    pub entries_cause : (e : Error) → Is (entries_fail loc v known xs) e → Is (table_fails_by loc v known true base plain xs) e
+    entries_cause e h =
+        by (header_fails loc v known xs e) (lists_unsized v known xs e) (or_left (header_fails loc v known xs e) (lists_fail v known plain true base xs e))
+        (λ k. or_right (header_fails loc v known xs e) (lists_fail v known plain true base xs e) (unsized_lists v known plain base xs e k)) h
+      where
+        by : (a b : Bool) → (IsTrue a → Is (table_fails_by loc v known true base plain xs) e) → (IsTrue b → Is (table_fails_by loc v known true base plain xs) e) → IsTrue (a || b) → Is (table_fails_by loc v known true base plain xs) e
+        by true b p q h = p refl
+        by false b p q h = q h
+
+    pub lists_cause : (e : Error) → Is (lists_fail v known plain true base xs) e → Is (table_fails_by loc v known true base plain xs) e
+    lists_cause e h = or_right (header_fails loc v known xs e) (lists_fail v known plain true base xs e) h
+
+    pub new_none : IsNone (header_fails loc v known xs) → IsNone (lists_fail v known plain true base xs) → IsNone (table_fails_by loc v known true base plain xs)
+    new_none h none = neither_cause (header_fails loc v known xs) (lists_fail v known plain true base xs) h none

@@ -3,7 +3,7 @@ use Rattle.std.specs.Prelude.{◌≡◌, ℕ, ◌+◌, ◌*◌, ◌<◌, ◌≤�
 use Rattle.std.proofs.Common.{sym, ◌∙◌, ap, subst, arith, append-nil, append_assoc, length-append, take_all}
 use Rattle.std.proofs.lemmas.List.{at_drop_more}
 use Rattle.std.proofs.lemmas.Bool.{lt-ltb}
-use Rattle.dw_base.specs.Numbers.{when, num, word_of, escape_of, length_fits}
+use Rattle.dw_base.specs.Numbers.{when, num, word_of, escape_of, length_fits, length_size}
 use Rattle.dw_base.specs.declared.common.Encoding.{Encoding}
 use Rattle.dw_base.specs.declared.common.Format.{Format}
 use Rattle.dw_base.proofs.NumberLaws.{length-num}
@@ -17,13 +17,13 @@ use Rattle.dw_writer.proofs.Laws.{length-num_text}
 use Rattle.dw_writer.proofs.Plain.{Adds-number, Replaces-number}
 use Rattle.dw_writer.proofs.Steps.{Appends-as, Appends-then, Patches-by, Adds-filled}
 use Rattle.dw_writer.proofs.WriteLaws.{Drafts-then, Drafts-whole, Drafts-nothing}
-use Rattle.dw_writer.proofs.DraftLaws.{all-more, all-drafts, whole-draft}
+use Rattle.dw_writer.proofs.DraftLaws.{then-assoc, all-more, all-drafts, whole-draft}
 use Rattle.dw_lists.specs.declared.kinds.Kinds.{Kinds}
 use Rattle.dw_lists.specs.Kinds.{kinds_of}
 use Rattle.dw_lists.specs.Parts.{Part}
-use Rattle.dw_lists.specs.Pieces.{fields_size, word_draft, words_draft, fields_draft, length_draft, IsWritten}
+use Rattle.dw_lists.specs.Pieces.{fields_size, word_draft, words_draft, fields_draft, length_draft, head_draft, IsWritten}
 use Rattle.dw_lists.specs.Texts.{parts_draft, close_draft, list_draft, lists_draft, places_from}
-use Rattle.dw_lists.specs.Tables.{entries_of, body_draft, new_table, base_from, Offsets, new_offsets}
+use Rattle.dw_lists.specs.Tables.{entries_of, body_draft, new_table, table_head, base_from, Offsets, new_offsets}
 use Rattle.dw_lists.proofs.Spans.{written-byte, written-number}
 
 pub then_size : (d f : Draft) → (then_draft d f).size ≡ d.size + f.size
@@ -137,6 +137,14 @@ written-length {a} {b} {d} format n at p place fit q =
 pub opened_size : {a b : Meaning} (format : Format) (at : ℕ) → Adds a b (escape_of format ++ zeros (word_of format)) → at ≡ a.size + length (escape_of format) → at + word_of format ≤ b.size
 opened_size format at p place = omega (arith, place, p.size, length-append (escape_of format) (zeros (word_of format)), length-zeros (word_of format))
 
+-- what stands before the lists keeps nothing to be fixed up
+pub head_drafts : {a b c d : Meaning} (v : Encoding) (size : ℕ) (ns : List ℕ) → IsWritten a b (length_draft v.format size) → IsWritten b c (fields_draft v.address_size (length ns)) → IsWritten c d (words_draft v.format ns) →
+    (kept : List DebugInfoFixup) → Drafts a d kept kept (head_draft v size ns)
+head_drafts v size ns p q r kept = Drafts-then (Drafts-whole kept p) (Drafts-then (Drafts-whole kept q) (drafts_words v.format kept ns r))
+
+pub head_sized : {a b : Meaning} (v : Encoding) (ns : List ℕ) (kept : List DebugInfoFixup) {m n : ℕ} → m ≡ n → Drafts a b kept kept (head_draft v m ns) → Drafts a b kept kept (head_draft v n ns)
+head_sized {a} {b} v ns kept is h = subst (λ k. Drafts a b kept kept (head_draft v k ns)) is h
+
 -- The table
 
 module _ (loc : Bool) (v : Encoding) (place : ℕ → Option ℕ) (xs : List (List Part)) where
@@ -152,15 +160,34 @@ module _ (loc : Bool) (v : Encoding) (place : ℕ → Option ℕ) (xs : List (Li
         words_size v.format (entries_of loc v place xs) ∙ ap (λ n. n * word_of v.format) (length-places true v place (kinds_of loc) (length xs * word_of v.format) xs),
       )
 
-  pub written-table : {a b c d e : Meaning} {x y : List DebugInfoFixup} (count start size : ℕ) (ns : List ℕ) →
-      IsWritten a b (length_draft v.format size) → IsWritten b c (fields_draft v.address_size count) → IsWritten c d (words_draft v.format ns) → Drafts d e x y (lists_draft true v place (kinds_of loc) xs) →
-      count ≡ length xs → ns ≡ places_from true v place (kinds_of loc) start xs → start ≡ length xs * word_of v.format → size ≡ (body_draft loc v place xs).size →
-      Drafts a e x y (new_table loc v place xs)
-  written-table {a} {b} {c} {d} {e} {x} {y} count start size ns p q r s counted placed begin sized =
-      let entries : ns ≡ entries_of loc v place xs = placed ∙ ap (λ n. places_from true v place (kinds_of loc) n xs) begin in
-      Drafts-then (Drafts-whole x (subst (λ n. IsWritten a b (length_draft v.format n)) sized p))
-      (Drafts-then (Drafts-whole x (subst (λ n. IsWritten b c (fields_draft v.address_size n)) counted q))
-      (Drafts-then (drafts_words v.format x (entries_of loc v place xs) (subst (λ k. IsWritten c d (words_draft v.format k)) entries r)) s))
+  entries_count : length (entries_of loc v place xs) ≡ length xs
+  entries_count = length-places true v place (kinds_of loc) (length xs * word_of v.format) xs
+
+  pub head_is : (size : ℕ) (ns : List ℕ) → size ≡ (body_draft loc v place xs).size → ns ≡ entries_of loc v place xs → head_draft v size ns ≡ table_head loc v place xs
+  head_is size ns sized placed = ap (λ n. head_draft v n ns) sized ∙ ap (head_draft v (body_draft loc v place xs).size) placed
+
+  pub head_size : (table_head loc v place xs).size ≡ length_size v.format + (fields_size + length xs * word_of v.format)
+  head_size =
+      let size = (body_draft loc v place xs).size in
+      let words = words_draft v.format (entries_of loc v place xs) in
+      let fields = fields_draft v.address_size (length (entries_of loc v place xs)) in
+      omega (
+        arith,
+        then_size (length_draft v.format size) (then_draft fields words),
+        then_size fields words,
+        words_size v.format (entries_of loc v place xs) ∙ ap (λ n. n * word_of v.format) entries_count,
+      )
+
+  -- the lists behind what stands before them
+  pub head_table : then_draft (table_head loc v place xs) (lists_draft true v place (kinds_of loc) xs) ≡ new_table loc v place xs
+  head_table =
+      let before = length_draft v.format (body_draft loc v place xs).size in
+      let fields = fields_draft v.address_size in
+      let words = words_draft v.format (entries_of loc v place xs) in
+      let lists = lists_draft true v place (kinds_of loc) xs in
+      let count = length (entries_of loc v place xs) in
+      then-assoc before (then_draft (fields count) words) lists
+      ∙ ap (then_draft before) (then-assoc (fields count) words lists ∙ ap (λ n. then_draft (fields n) (then_draft words lists)) entries_count)
 
 -- what a table of version 5 answers
 pub new_offsets_are : (loc : Bool) (v : Encoding) (place : ℕ → Option ℕ) (at base k : ℕ) (xs : List (List Part)) (places : List ℕ) → base ≡ base_from v.format at → k ≡ base + length xs * word_of v.format → places ≡ places_from true v place (kinds_of loc) k xs →

@@ -185,6 +185,10 @@ length_fails format n e = false
 abbrev pub words_fail : Format → List ℕ → Error → Bool
 words_fail format ns e = list_any (λ n. number_fails (word_of format) n e) ns
 
+-- what stands before the lists, where so many bytes follow the length
+abbrev pub head_fails : Format → ℕ → List ℕ → Error → Bool
+head_fails format size ns e = size_fails size e || (length_fails format size e || words_fail format ns e)
+
 abbrev pub is_supported : ℕ → Bool
 is_supported v = nat_le 2 v && nat_le v 5
 
@@ -199,6 +203,10 @@ module _ (loc : Bool) (e : Encoding) (known : Option (ℕ → Option ℕ)) where
   header_fails xs err =
       count_fails (length xs) err || (size_fails (body_draft loc e (place_by known) xs).size err
       || (length_fails e.format (body_draft loc e (place_by known) xs).size err || words_fail e.format (entries_of loc e (place_by known) xs) err))
+
+  -- the lists have sizes before anything is written
+  abbrev pub entries_fail : List (List Part) → Error → Bool
+  entries_fail xs err = header_fails xs err || lists_unsized e known xs err
 
   abbrev pub table_fails_by : Bool → Bool → Bool → List (List Part) → Error → Bool
   table_fails_by true base plain xs err = header_fails xs err || lists_fail e known plain true base xs err

@@ -16,7 +16,7 @@ use Rattle.dw_lists.specs.Kinds.{kinds_of}
 use Rattle.dw_lists.specs.declared.location.Location.{Location}
 use Rattle.dw_lists.specs.Parts.{Part, ranges_parts, locations_parts}
 use Rattle.dw_lists.specs.Items.{is_five, items_at, entry_at}
-use Rattle.dw_lists.specs.Pieces.{length_draft, fields_size, fields_draft, words_draft}
+use Rattle.dw_lists.specs.Pieces.{length_draft, fields_size, fields_draft, words_draft, head_draft}
 use Rattle.dw_lists.specs.Texts.{parts_in, lists_draft, places_from}
 
 -- where the first offset entry of a table at a place stands
@@ -41,6 +41,10 @@ module _ (loc : Bool) (e : Encoding) (place : ℕ → Option ℕ) where
   -- a table of version 5
   abbrev pub new_table : List (List Part) → Draft
   new_table xs = then_draft (length_draft e.format (body_draft xs).size) (body_draft xs)
+
+  -- what it has before its lists
+  abbrev pub table_head : List (List Part) → Draft
+  table_head xs = head_draft e (body_draft xs).size (entries_of xs)
 
   -- a table up to version 4
   abbrev pub old_table : List (List Part) → Draft

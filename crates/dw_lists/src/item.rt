@@ -1,9 +1,10 @@
 //! The addresses of items.
 
-ghost use Rattle.std.specs.Prelude.{◌≡◌, ◌||◌, Some, true, false, OnOk, IfErr};
-ghost use Rattle.dw_writer.specs.Meaning.{IsSameWriter};
+ghost use Rattle.std.specs.Prelude.{◌≡◌, ◌+◌, ◌||◌, Some, true, false, OnOk, IfErr};
+ghost use Rattle.dw_writer.specs.Meaning.{Appends, IsSameWriter};
 ghost use Rattle.dw_lists.specs.Kinds.{range_kinds, AreBytes};
-ghost use Rattle.dw_lists.specs.Pieces.{IsWritten};
+ghost use Rattle.dw_lists.specs.Pieces.{IsWritten, ends_text, kind_of};
+ghost use Rattle.dw_lists.specs.Pieces.{operands_size, operands_text};
 ghost use Rattle.dw_lists.specs.Texts.{IsRanged, range_size, span_draft};
 ghost use Rattle.dw_lists.specs.Causes.{Refused, Is, IsNone, is_base, form_fails, numbers_fail};
 ghost use Rattle.dw_lists.specs.Causes.{new_fails};
@@ -11,7 +12,7 @@ ghost use Rattle.dw_lists.specs.Causes.{new_fails};
 use crate::address::{further, is_marker, is_same, marker};
 use crate::kinds::Kinds;
 use crate::range::Range;
-use dw_base::{Error, Result, uleb128_size};
+use dw_base::{Address, Error, Result, uleb128_size};
 use dw_writer::Writer;
 
 /// Tells that a base is in force behind an item.
@@ -22,6 +23,57 @@ pub(crate) fn has_base_after(range: Option<Range>, has_base: bool) -> bool
         Some(Range::BaseAddress { .. }) => true,
         _ => has_base,
     }
+}
+
+/// Writes a base up to version 4, behind the marker.
+fn write_base<W: Writer>(address: Address, address_size: u8, w: &mut W) -> Result<()>
+    ensures ok { OnOk result
+        (IsWritten (W.meaning w.old) (W.meaning w.new)
+        (span_draft false range_kinds address_size (Some (Range.BaseAddress address)))) }
+    ensures sound { OnOk result
+        (IsNone (numbers_fail (W.meaning w.old).is_plain address_size
+        (Range.BaseAddress address))) }
+    ensures err { IfErr result
+        (Refused (W.meaning w.old) (W.meaning w.new)
+        (Is (numbers_fail (W.meaning w.old).is_plain address_size (Range.BaseAddress address)))) }
+    ensures same { IsSameWriter (W.meaning w.old) (W.meaning w.new) }
+{
+    let all_ones = marker(address_size)?;
+    w.write_udata(all_ones, address_size)?;
+    w.write_address(address, address_size)
+}
+
+/// Writes a pair of offsets up to version 4.
+fn write_offsets<W: Writer>(begin: u64, end: u64, address_size: u8, w: &mut W) -> Result<()>
+    ensures ok { OnOk result
+        (IsWritten (W.meaning w.old) (W.meaning w.new)
+        (span_draft false range_kinds address_size (Some (Range.OffsetPair begin end)))) }
+    ensures sound { OnOk result
+        (IsNone (numbers_fail (W.meaning w.old).is_plain address_size
+        (Range.OffsetPair begin end))) }
+    ensures err { IfErr result
+        (Refused (W.meaning w.old) (W.meaning w.new)
+        (Is (numbers_fail (W.meaning w.old).is_plain address_size (Range.OffsetPair begin end)))) }
+    ensures same { IsSameWriter (W.meaning w.old) (W.meaning w.new) }
+{
+    w.write_udata(begin, address_size)?;
+    w.write_udata(end, address_size)
+}
+
+/// Writes two addresses.
+fn write_ends<W: Writer>(begin: Address, end: Address, address_size: u8, w: &mut W) -> Result<()>
+    ensures ok { OnOk result
+        (Appends (W.meaning w.old) (W.meaning w.new) (address_size + address_size)
+        (ends_text address_size begin end)) }
+    ensures sound { OnOk result
+        (IsNone (numbers_fail (W.meaning w.old).is_plain address_size (Range.StartEnd begin end))) }
+    ensures err { IfErr result
+        (Refused (W.meaning w.old) (W.meaning w.new)
+        (Is (numbers_fail (W.meaning w.old).is_plain address_size (Range.StartEnd begin end)))) }
+    ensures same { IsSameWriter (W.meaning w.old) (W.meaning w.new) }
+{
+    w.write_address(begin, address_size)?;
+    w.write_address(end, address_size)
 }
 
 impl Range {
@@ -76,22 +128,12 @@ impl Range {
         ensures same { IsSameWriter (W.meaning w.old) (W.meaning w.new) }
     {
         match *self {
-            Range::BaseAddress { address } => {
-                w.write_udata(marker(address_size)?, address_size)?;
-                w.write_address(address, address_size)
-            }
-            Range::OffsetPair { begin, end } => {
-                w.write_udata(begin, address_size)?;
-                w.write_udata(end, address_size)
-            }
-            Range::StartEnd { begin, end } => {
-                w.write_address(begin, address_size)?;
-                w.write_address(end, address_size)
-            }
+            Range::BaseAddress { address } => write_base(address, address_size, w),
+            Range::OffsetPair { begin, end } => write_offsets(begin, end, address_size, w),
+            Range::StartEnd { begin, end } => write_ends(begin, end, address_size, w),
             Range::StartLength { begin, length } => {
                 let end = further(begin, length)?;
-                w.write_address(begin, address_size)?;
-                w.write_address(end, address_size)
+                write_ends(begin, end, address_size, w)
             }
         }
     }
@@ -130,23 +172,43 @@ impl Range {
             (Is (new_fails (W.meaning w.old).is_plain address_size self.now))) }
         ensures same { IsSameWriter (W.meaning w.old) (W.meaning w.new) }
     {
+        w.write_u8(self.kind(kinds))?;
+        self.write_operands(address_size, w)
+    }
+
+    /// The kind of an item of version 5.
+    fn kind(&self, kinds: Kinds) -> u8
+        ensures { result ≡ kind_of kinds self.now }
+    {
+        match self {
+            Range::BaseAddress { .. } => kinds.base_address,
+            Range::OffsetPair { .. } => kinds.offset_pair,
+            Range::StartEnd { .. } => kinds.start_end,
+            Range::StartLength { .. } => kinds.start_length,
+        }
+    }
+
+    /// Writes what an item of version 5 has behind its kind.
+    fn write_operands<W: Writer>(&self, address_size: u8, w: &mut W) -> Result<()>
+        ensures ok { OnOk result
+            (Appends (W.meaning w.old) (W.meaning w.new)
+            (operands_size address_size self.now) (operands_text address_size self.now)) }
+        ensures ranged { OnOk result (IsRanged (Some self.now)) }
+        ensures sound { OnOk result
+            (IsNone (new_fails (W.meaning w.old).is_plain address_size self.now)) }
+        ensures err { IfErr result
+            (Refused (W.meaning w.old) (W.meaning w.new)
+            (Is (new_fails (W.meaning w.old).is_plain address_size self.now))) }
+        ensures same { IsSameWriter (W.meaning w.old) (W.meaning w.new) }
+    {
         match *self {
-            Range::BaseAddress { address } => {
-                w.write_u8(kinds.base_address)?;
-                w.write_address(address, address_size)
-            }
+            Range::BaseAddress { address } => w.write_address(address, address_size),
             Range::OffsetPair { begin, end } => {
-                w.write_u8(kinds.offset_pair)?;
                 w.write_uleb128(begin)?;
                 w.write_uleb128(end)
             }
-            Range::StartEnd { begin, end } => {
-                w.write_u8(kinds.start_end)?;
-                w.write_address(begin, address_size)?;
-                w.write_address(end, address_size)
-            }
+            Range::StartEnd { begin, end } => write_ends(begin, end, address_size, w),
             Range::StartLength { begin, length } => {
-                w.write_u8(kinds.start_length)?;
                 w.write_address(begin, address_size)?;
                 w.write_uleb128(length)
             }

@@ -7,10 +7,11 @@ ghost use Rattle.dw_writer.specs.Drafts.{Drafts};
 ghost use Rattle.dw_writer.specs.Meaning.{Adds, IsSameWriter};
 ghost use Rattle.dw_expr.specs.Places.{known_by, place_by};
 ghost use Rattle.dw_lists.specs.Items.{is_five};
-ghost use Rattle.dw_lists.specs.Kinds.{kinds_of};
-ghost use Rattle.dw_lists.specs.Texts.{AreReadable, list_draft};
+ghost use Rattle.dw_lists.specs.Kinds.{kinds_of, range_kinds};
+ghost use Rattle.dw_lists.specs.Pieces.{IsWritten};
+ghost use Rattle.dw_lists.specs.Texts.{AreReadable, close_draft, list_draft};
 ghost use Rattle.dw_lists.specs.Causes.{Refused, Is, IsNone, old_list_fails, new_list_fails};
-ghost use Rattle.dw_lists.specs.Causes.{list_fails, parts_unsized, parts_unsized_in};
+ghost use Rattle.dw_lists.specs.Causes.{list_fails, parts_unsized, parts_unsized_in, width_fails};
 
 use crate::address::sum;
 use crate::item::has_base_after;
@@ -87,6 +88,19 @@ fn write_new_list<W: Writer, L: ItemList, P: EntryPlaces>(
     write_end(kinds, w)
 }
 
+/// Writes the two zeros that close a list up to version 4.
+fn write_close<W: Writer>(address_size: u8, w: &mut W) -> Result<()>
+    ensures ok { OnOk result (IsWritten (W.meaning w.old) (W.meaning w.new)
+        (close_draft false range_kinds address_size)) }
+    ensures sound { OnOk result (IsNone (width_fails address_size)) }
+    ensures err { IfErr result
+        (Refused (W.meaning w.old) (W.meaning w.new) (Is (width_fails address_size))) }
+    ensures same { IsSameWriter (W.meaning w.old) (W.meaning w.new) }
+{
+    w.write_udata(0, address_size)?;
+    w.write_udata(0, address_size)
+}
+
 /// Writes a list up to version 4 (DWARF 4, 2.6.2 and 2.17.3).
 fn write_old_list<W: Writer, L: ItemList, P: EntryPlaces>(
     list: &L,
@@ -119,8 +133,7 @@ fn write_old_list<W: Writer, L: ItemList, P: EntryPlaces>(
         write_old_part(range, expression, encoding, base, places, w, fixups)?;
         base = has_base_after(range, base);
     }
-    w.write_udata(0, encoding.address_size)?;
-    w.write_udata(0, encoding.address_size)
+    write_close(encoding.address_size, w)
 }
 
 /// Writes a list of a version.

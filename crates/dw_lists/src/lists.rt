@@ -1,15 +1,20 @@
 //! The lists of a table, and what a table of version 5 has before them.
 
-ghost use Rattle.std.specs.Prelude.{All, map, ◌≡◌, ◌+◌, true, false, OnOk, IfOk, IfErr};
+ghost use Rattle.std.specs.Prelude.{All, List, map, length, ◌≡◌, ◌+◌, ◌<◌, ◌^◌, true, false};
+ghost use Rattle.std.specs.Prelude.{OnOk, IfOk, IfErr};
+ghost use Rattle.dw_writer.specs.declared.fixup.DebugInfoFixup.{DebugInfoFixup};
 ghost use Rattle.dw_writer.specs.Drafts.{Drafts};
 ghost use Rattle.dw_writer.specs.Meaning.{IsSameWriter};
 ghost use Rattle.dw_expr.specs.Places.{known_by, place_by, MemoryOr};
 ghost use Rattle.dw_lists.specs.Items.{is_five};
 ghost use Rattle.dw_lists.specs.Kinds.{kinds_of};
+ghost use Rattle.dw_lists.specs.Pieces.{fields_size, head_draft};
 ghost use Rattle.dw_lists.specs.Texts.{AreReadable, lists_draft, places_from};
-ghost use Rattle.dw_lists.specs.Tables.{table_draft, new_table, new_offsets, offsets_from};
-ghost use Rattle.dw_lists.specs.Causes.{Refused, Is, IsNone, lists_fail, lists_unsized};
-ghost use Rattle.dw_lists.specs.Causes.{lists_unsized_in, table_fails, table_fails_by};
+ghost use Rattle.dw_lists.specs.Tables.{table_draft, table_head, new_table, base_from, new_offsets};
+ghost use Rattle.dw_lists.specs.Tables.{offsets_from};
+ghost use Rattle.dw_lists.specs.Causes.{Refused, Is, IsNone, lists_fail, lists_unsized_in};
+ghost use Rattle.dw_lists.specs.Causes.{head_fails, header_fails, entries_fail};
+ghost use Rattle.dw_lists.specs.Causes.{table_fails, table_fails_by};
 
 use crate::address::sum;
 use crate::item_list::ItemList;
@@ -91,6 +96,60 @@ fn write_lists<W: Writer, L: ItemList, P: EntryPlaces>(
     Ok(all)
 }
 
+/// Writes the header of a table of version 5 and its offset entries, the first of which stands at
+/// the answer; the lists end `end` bytes behind it.
+fn write_head<W: Writer>(entries: &[u64], end: u64, encoding: Encoding, w: &mut W) -> Result<usize>
+    requires { length entries.now < 2 ^ 32 }
+    ensures ok { OnOk result
+        ((kept : List DebugInfoFixup) → Drafts (W.meaning w.old) (W.meaning w.new) kept kept
+        (head_draft encoding (fields_size + end) entries.now)) }
+    ensures base { IfOk result (λ at. at ≡ base_from encoding.format (W.meaning w.old).size) }
+    ensures sound { OnOk result
+        (IsNone (head_fails encoding.format (fields_size + end) entries.now)) }
+    ensures err { IfErr result
+        (Refused (W.meaning w.old) (W.meaning w.new)
+        (Is (head_fails encoding.format (fields_size + end) entries.now))) }
+    ensures same { IsSameWriter (W.meaning w.old) (W.meaning w.new) }
+{
+    let size = sum(8, end)?;
+    write_length(size, encoding.format, w)?;
+    write_fields(encoding.address_size, entries.len() as u32, w)?;
+    let base = w.len();
+    write_words(entries, encoding.format, w)?;
+    Ok(base)
+}
+
+/// Writes what a table of version 5 has before its lists, and answers where its first offset entry
+/// stands.
+fn write_entries<W: Writer, L: ItemList, P: EntryPlaces>(
+    alloc: Global,
+    lists: &[L],
+    encoding: Encoding,
+    places: Option<&P>,
+    w: &mut W,
+) -> Result<usize>
+    ensures ok { let place = place_by (known_by P.places places.entry) in
+        OnOk result
+        ((kept : List DebugInfoFixup) → Drafts (W.meaning w.old) (W.meaning w.new) kept kept
+        (table_head L.is_location encoding place (map L.parts lists.now))) }
+    ensures base { IfOk result (λ at. at ≡ base_from encoding.format (W.meaning w.old).size) }
+    ensures sound { let known = known_by P.places places.entry in
+        OnOk result
+        (IsNone (header_fails L.is_location encoding known (map L.parts lists.now))) }
+    ensures err { let known = known_by P.places places.entry in
+        IfErr result (Refused (W.meaning w.old) (W.meaning w.new)
+        (Is (entries_fail L.is_location encoding known (map L.parts lists.now)))) }
+    ensures same { IsSameWriter (W.meaning w.old) (W.meaning w.new) }
+{
+    let count = lists.len();
+    if count > 0xffff_ffff {
+        return Err(Error::ValueTooLarge);
+    }
+    let start = count as u64 * encoding.format.word_size() as u64;
+    let (entries, end) = entries(alloc, start, lists, encoding, places)?;
+    write_head(entries.as_slice(), end, encoding, w)
+}
+
 /// Writes a table of version 5: the header, an entry for each list, and the lists.
 fn write_indexed<W: Writer, L: ItemList, P: EntryPlaces>(
     alloc: Global,
@@ -119,17 +178,7 @@ fn write_indexed<W: Writer, L: ItemList, P: EntryPlaces>(
         (W.meaning w.old).is_plain (map L.parts lists.now)))) }
     ensures same { IsSameWriter (W.meaning w.old) (W.meaning w.new) }
 {
-    let count = lists.len();
-    if count > 0xffff_ffff {
-        return Err(Error::ValueTooLarge);
-    }
-    let start = count as u64 * encoding.format.word_size() as u64;
-    let (entries, end) = entries(alloc, start, lists, encoding, places)?;
-    let size = sum(8, end)?;
-    write_length(size, encoding.format, w)?;
-    write_fields(encoding.address_size, count as u32, w)?;
-    let base = w.len();
-    write_words(entries.as_slice(), encoding.format, w)?;
+    let base = write_entries(alloc, lists, encoding, places, w)?;
     let places = write_lists(alloc, lists, encoding, has_base, places, w, fixups)?;
     let base = Some(base);
     Ok(ListPlaces { base, places })

@@ -12,7 +12,7 @@ ghost use Rattle.dw_lists.specs.Pieces.{IsWritten};
 ghost use Rattle.dw_lists.specs.Texts.{IsRanged, IsSpelled, IsReadable};
 ghost use Rattle.dw_lists.specs.Texts.{count_draft, located, part_draft, span_draft, span_size};
 ghost use Rattle.dw_lists.specs.Causes.{Refused, Is, IsNone, count_of_fails, located_fails};
-ghost use Rattle.dw_lists.specs.Causes.{old_fails, new_part_fails, new_span_fails, size_fails};
+ghost use Rattle.dw_lists.specs.Causes.{old_fails, old_span_fails, new_part_fails, new_span_fails};
 ghost use Rattle.dw_lists.specs.Causes.{unsized, unsized_in};
 
 use crate::address::sum;
@@ -118,7 +118,31 @@ fn write_located<W: Writer, P: EntryPlaces>(
     expression.write(w, Some(fixups), encoding, places)
 }
 
-/// Writes an item up to version 4, where there is no default location.
+/// Writes the addresses of an item up to version 4, where there is no default location.
+fn write_old_span<W: Writer>(
+    range: Option<Range>,
+    has_base: bool,
+    address_size: u8,
+    w: &mut W,
+) -> Result<()>
+    ensures ok { OnOk result
+        (IsWritten (W.meaning w.old) (W.meaning w.new)
+        (span_draft false range_kinds address_size range)) }
+    ensures sound { OnOk result
+        (IsNone (old_span_fails has_base (W.meaning w.old).is_plain address_size range)) }
+    ensures err { IfErr result
+        (Refused (W.meaning w.old) (W.meaning w.new)
+        (Is (old_span_fails has_base (W.meaning w.old).is_plain address_size range))) }
+    ensures same { IsSameWriter (W.meaning w.old) (W.meaning w.new) }
+{
+    let Some(range) = range else {
+        return Err(Error::InvalidRange);
+    };
+    range.check_form(address_size, has_base)?;
+    range.write_old(address_size, w)
+}
+
+/// Writes an item up to version 4.
 pub(crate) fn write_old_part<W: Writer, P: EntryPlaces>(
     range: Option<Range>,
     expression: Option<&Expression>,
@@ -146,11 +170,7 @@ pub(crate) fn write_old_part<W: Writer, P: EntryPlaces>(
         (Is (old_fails encoding known (W.meaning w.old).is_plain has_base part))) }
     ensures same { IsSameWriter (W.meaning w.old) (W.meaning w.new) }
 {
-    let Some(range) = range else {
-        return Err(Error::InvalidRange);
-    };
-    range.check_form(encoding.address_size, has_base)?;
-    range.write_old(encoding.address_size, w)?;
+    write_old_span(range, has_base, encoding.address_size, w)?;
     write_located(expression, encoding, places, w, fixups)
 }
 

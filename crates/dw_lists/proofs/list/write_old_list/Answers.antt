@@ -3,15 +3,14 @@ use Rattle.std.proofs.lemmas.List.Elements.{All-nil}
 use Rattle.std.proofs.lemmas.Result.{err_from_is_err_and}
 use Rattle.dw_writer.proofs.Outcomes.{OnOk-map, IfErr-map}
 use Rattle.dw_writer.proofs.WriteLaws.{Drafts-nothing, Drafts-whole, Drafts-then, Drafts-more, Drafts-is}
-use Rattle.dw_writer.proofs.Steps.{IsSameWriter-trans, Appends-then}
+use Rattle.dw_writer.proofs.Steps.{IsSameWriter-trans}
 use Rattle.dw_expr.specs.Places.{known_by, place_by}
 use Rattle.dw_lists.specs.Kinds.{kinds_of, range_kinds}
 use Rattle.dw_lists.specs.Parts.{Part}
 use Rattle.dw_lists.specs.Texts.{part_draft, IsReadable, AreReadable}
 use Rattle.dw_lists.specs.Causes.{IsNone, old_fails, old_list_fails}
-use Rattle.dw_lists.proofs.Causes.{old_more, read_there, All-more, OnOk-both}
+use Rattle.dw_lists.proofs.Causes.{old_more, read_there, All-more}
 use Rattle.dw_lists.proofs.Located.{without_kinds}
-use Rattle.dw_lists.proofs.Spans.{written-number}
 use Rattle.dw_lists.proofs.Refusals.{old_part_refused, old_close_refused, old_none}
 use Rattle.dw_lists.proofs.Tables.{list_is}
 use Rattle.dw_lists.proofs.list.write_old_list.Goals as goal
@@ -82,9 +81,8 @@ returns-clause-ok g c =
     let d : Part = record { range = None; expression = None } in
     let x = get_or parts i d in
     let past : length parts ≤ i = omega (arith, c.loop-index-test.false, c.loop-index.invariant.end) in
-    let w = v.address_size in
-    OnOk-both c.write_udata-2.result c.write_udata-2.ensures.fits c.write_udata-2.ensures.ok
-    (λ fits p. Drafts-is (Drafts-then c.loop-index.invariant.written (Drafts-whole c.loop-index.fixups (Appends-then (written-number w 0 c.in_ok-write_udata.ensures.fits c.in_ok-write_udata.ensures.ok) (written-number w 0 fits p)))) (list_is false v place k parts i past))
+    OnOk-map c.write_close.result c.write_close.ensures.ok
+    (λ p. Drafts-is (Drafts-then c.loop-index.invariant.written (Drafts-whole c.loop-index.fixups p)) (list_is false v place k parts i past))
 
 pub returns-clause-readable : goal.returns-clause-readable
 returns-clause-readable g c =
@@ -98,7 +96,7 @@ returns-clause-readable g c =
     let d : Part = record { range = None; expression = None } in
     let x = get_or parts i d in
     let past : length parts ≤ i = omega (arith, c.loop-index-test.false, c.loop-index.invariant.end) in
-    OnOk-map c.write_udata-2.result c.write_udata-2.ensures.ok (λ p. subst (AreReadable false v place) (take_all i parts past) c.loop-index.invariant.readable)
+    OnOk-map c.write_close.result c.write_close.ensures.ok (λ p. subst (AreReadable false v place) (take_all i parts past) c.loop-index.invariant.readable)
 
 pub returns-clause-sound : goal.returns-clause-sound
 returns-clause-sound g c =
@@ -113,27 +111,8 @@ returns-clause-sound g c =
     let x = get_or parts i d in
     let past : length parts ≤ i = omega (arith, c.loop-index-test.false, c.loop-index.invariant.end) in
     let m = g.W.Writer.meaning c.loop-index.w in
-    OnOk-map c.write_udata-2.result c.write_udata-2.ensures.fits
-    (λ fits. old_none (g.W.Writer.meaning c.args.w.now) m m v known c.args.has_base c.loop-index.base parts i c.loop-index.invariant.written.text.same c.loop-index.invariant.none past fits.0)
-
-pub returns-in_err-write_udata-clause-err : goal.returns-in_err-write_udata-clause-err
-returns-in_err-write_udata-clause-err g c =
-    let v = c.args.encoding in
-    let parts = g.L.ItemList.parts c.args.list.now in
-    let known = known_by g.P.EntryPlaces.places c.args.places in
-    let place = place_by known in
-    let k = kinds_of g.L.ItemList.is_location in
-    let plain = (g.W.Writer.meaning c.args.w.now).is_plain in
-    let i = c.loop-index.index in
-    let d : Part = record { range = None; expression = None } in
-    let x = get_or parts i d in
-    let past : length parts ≤ i = omega (arith, c.loop-index-test.false, c.loop-index.invariant.end) in
-    let p = err_from_is_err_and c.from_residual-in_err-write_udata.result c.from_residual-in_err-write_udata.ensures.1 in
-    rw (p.1, p.2) (old_close_refused (g.W.Writer.meaning c.args.w.now) (g.W.Writer.meaning c.loop-index.w) (g.W.Writer.meaning c.write_udata.new.self) v known c.args.has_base c.loop-index.base parts i
-    c.loop-index.invariant.written.text.same c.loop-index.invariant.none past c.in_err-write_udata.field-0.0 c.in_err-write_udata.ensures.err)
-
-pub returns-in_err-write_udata-clause-same : goal.returns-in_err-write_udata-clause-same
-returns-in_err-write_udata-clause-same g c = IsSameWriter-trans c.loop-index.invariant.written.text.same c.in_err-write_udata.ensures.same
+    OnOk-map c.write_close.result c.write_close.ensures.sound
+    (old_none (g.W.Writer.meaning c.args.w.now) m m v known c.args.has_base c.loop-index.base parts i c.loop-index.invariant.written.text.same c.loop-index.invariant.none past)
 
 pub returns-clause-err : goal.returns-clause-err
 returns-clause-err g c =
@@ -147,9 +126,8 @@ returns-clause-err g c =
     let d : Part = record { range = None; expression = None } in
     let x = get_or parts i d in
     let past : length parts ≤ i = omega (arith, c.loop-index-test.false, c.loop-index.invariant.end) in
-    let after = IsSameWriter-trans c.loop-index.invariant.written.text.same c.in_ok-write_udata.ensures.ok.same in
-    IfErr-map c.write_udata-2.result c.write_udata-2.ensures.err
-    (old_close_refused (g.W.Writer.meaning c.args.w.now) (g.W.Writer.meaning c.write_udata.new.self) (g.W.Writer.meaning c.write_udata-2.new.self) v known c.args.has_base c.loop-index.base parts i after c.loop-index.invariant.none past)
+    IfErr-map c.write_close.result c.write_close.ensures.err
+    (old_close_refused (g.W.Writer.meaning c.args.w.now) (g.W.Writer.meaning c.loop-index.w) (g.W.Writer.meaning c.write_close.new.w) v known c.args.has_base c.loop-index.base parts i c.loop-index.invariant.written.text.same c.loop-index.invariant.none past)
 
 pub returns-clause-same : goal.returns-clause-same
-returns-clause-same g c = IsSameWriter-trans c.loop-index.invariant.written.text.same (IsSameWriter-trans c.in_ok-write_udata.ensures.same c.write_udata-2.ensures.same)
+returns-clause-same g c = IsSameWriter-trans c.loop-index.invariant.written.text.same c.write_close.ensures.same

@@ -1,24 +1,58 @@
-use Rattle.std.proofs.Common.{subst, false, Some}
+use Rattle.std.proofs.Common.{subst, false}
+use Rattle.std.proofs.lemmas.Result.{err_from_is_err_and}
 use Rattle.std.specs.Option.{option_copied}
-use Rattle.dw_writer.proofs.Outcomes.{OnOk-map}
+use Rattle.dw_writer.proofs.Outcomes.{OnOk-map, IfErr-map}
 use Rattle.dw_expr.specs.Places.{known_by, place_by}
 use Rattle.dw_lists.specs.Kinds.{range_kinds}
 use Rattle.dw_lists.specs.Items.{is_five}
-use Rattle.dw_lists.specs.Causes.{IsNone, located_fails}
-use Rattle.dw_lists.proofs.Located.{part_drafts, old_part_none}
+use Rattle.dw_lists.specs.Parts.{Part}
+use Rattle.dw_lists.specs.Texts.{IsSpelled}
+use Rattle.dw_lists.specs.Causes.{Is, IsNone, old_span_fails, located_fails, old_fails}
+use Rattle.dw_lists.proofs.Refusals.{weaker, refused_after}
+use Rattle.dw_lists.proofs.Located.{part_drafts, old_part_none, in_old_span, in_old_expression}
 use Rattle.dw_lists.proofs.part.write_old_part.Goals as goal
+
+pub returns-in_err-write_old_span-clause-err : goal.returns-in_err-write_old_span-clause-err
+returns-in_err-write_old_span-clause-err g c =
+    let known = known_by g.P.EntryPlaces.places c.args.places in
+    let m = g.W.Writer.meaning c.args.w.now in
+    let base = c.args.has_base in
+    let x = option_copied c.args.expression in
+    let part : Part = record { range = c.args.range; expression = x } in
+    let p = err_from_is_err_and c.from_residual.result c.from_residual.ensures.1 in
+    rw (p.1, p.2) (weaker m (g.W.Writer.meaning c.write_old_span.new.w) (Is (old_span_fails base m.is_plain c.args.encoding.address_size c.args.range)) (Is (old_fails c.args.encoding known m.is_plain base part))
+    (in_old_span c.args.encoding known m.is_plain x base c.args.range) c.in_err-write_old_span.field-0.0 c.in_err-write_old_span.ensures.err)
 
 pub returns-clause-ok : goal.returns-clause-ok
 returns-clause-ok g c =
     let place = place_by (known_by g.P.EntryPlaces.places c.args.places) in
-    rw c.in-Some.is (OnOk-map c.write_located.result c.write_located.ensures.ok
-    (λ p. part_drafts false (is_five c.args.encoding) c.args.encoding place range_kinds (Some c.in-Some.range) (option_copied c.args.expression) c.requires c.in_ok-write_old.ensures.ok p))
+    OnOk-map c.write_located.result c.write_located.ensures.ok
+    (λ p. part_drafts false (is_five c.args.encoding) c.args.encoding place range_kinds c.args.range (option_copied c.args.expression) c.requires c.in_ok-write_old_span.ensures.ok p)
+
+pub returns-clause-readable : goal.returns-clause-readable
+returns-clause-readable g c =
+    let place = place_by (known_by g.P.EntryPlaces.places c.args.places) in
+    OnOk-map c.write_located.result c.write_located.ensures.spelled
+    (λ h. (tt, subst (λ five. IsSpelled five c.args.encoding place (option_copied c.args.expression)) c.requires h))
 
 pub returns-clause-sound : goal.returns-clause-sound
 returns-clause-sound g c =
     let known = known_by g.P.EntryPlaces.places c.args.places in
     let m = g.W.Writer.meaning c.args.w.now in
     let x = option_copied c.args.expression in
-    rw c.in-Some.is (OnOk-map c.write_located.result c.write_located.ensures.sound
-    (λ h. old_part_none c.args.encoding known m.is_plain c.args.has_base c.in-Some.range x c.in_ok-check_form.ensures.sound c.in_ok-write_old.ensures.sound
-    (subst (λ five. IsNone (located_fails c.args.encoding known m.is_plain five x)) c.requires (subst (λ plain. IsNone (located_fails c.args.encoding known plain (is_five c.args.encoding) x)) c.in_ok-write_old.ensures.same.kind h))))
+    OnOk-map c.write_located.result c.write_located.ensures.sound
+    (λ h. old_part_none c.args.encoding known m.is_plain c.args.has_base c.args.range x c.in_ok-write_old_span.ensures.sound
+    (subst (λ five. IsNone (located_fails c.args.encoding known m.is_plain five x)) c.requires (subst (λ plain. IsNone (located_fails c.args.encoding known plain (is_five c.args.encoding) x)) c.in_ok-write_old_span.ensures.same.kind h)))
+
+pub returns-clause-err : goal.returns-clause-err
+returns-clause-err g c =
+    let known = known_by g.P.EntryPlaces.places c.args.places in
+    let m = g.W.Writer.meaning c.args.w.now in
+    let n = g.W.Writer.meaning c.write_old_span.new.w in
+    let five = is_five c.args.encoding in
+    let x = option_copied c.args.expression in
+    let part : Part = record { range = c.args.range; expression = x } in
+    IfErr-map c.write_located.result c.write_located.ensures.err
+    (refused_after m n (g.W.Writer.meaning c.write_located.new.w) (Is (located_fails c.args.encoding known n.is_plain five x)) (Is (old_fails c.args.encoding known m.is_plain c.args.has_base part)) c.in_ok-write_old_span.ensures.same
+    (λ e h. in_old_expression c.args.encoding known m.is_plain x c.args.has_base c.args.range e
+    (subst (λ five. Is (located_fails c.args.encoding known m.is_plain five x) e) c.requires (subst (λ plain. Is (located_fails c.args.encoding known plain five x) e) c.in_ok-write_old_span.ensures.same.kind h))))

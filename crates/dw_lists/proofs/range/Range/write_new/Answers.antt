@@ -1,37 +1,34 @@
-use Rattle.std.proofs.Common.{ap, sym, true, Some}
-use Rattle.dw_writer.proofs.Outcomes.{OnOk-map}
-use Rattle.dw_lists.specs.Texts.{span_draft}
-use Rattle.dw_lists.proofs.Spans.{written-is, new_base, new_pair, new_ends, new_length}
+use Rattle.std.proofs.Common.{subst}
+use Rattle.std.proofs.lemmas.Result.{err_from_is_err_and}
+use Rattle.dw_writer.proofs.Outcomes.{OnOk-map, IfErr-map}
+use Rattle.dw_lists.specs.Causes.{Is, IsNone, new_fails}
+use Rattle.dw_lists.proofs.Spans.{new_item}
+use Rattle.dw_lists.proofs.Refusals.{bytes_refused, refused_after}
 use Rattle.dw_lists.proofs.range.Range.write_new.Goals as goal
 
-pub returns-in_ok-write_u8-in-BaseAddress-clause-ok : goal.returns-in_ok-write_u8-in-BaseAddress-clause-ok
-returns-in_ok-write_u8-in-BaseAddress-clause-ok g c =
-    let w = c.args.address_size in
-    let k = c.args.kinds in
-    OnOk-map c.write_address.result c.write_address.ensures.ok
-    (λ p. written-is _ _ (new_base k w c.in-BaseAddress.address c.requires.1.1.0 c.in_ok-write_u8-in-BaseAddress.ensures.ok p)
-    (ap (λ r. span_draft true k w (Some r)) (sym c.in-BaseAddress.is)))
+pub returns-in_err-write_u8-clause-err : goal.returns-in_err-write_u8-clause-err
+returns-in_err-write_u8-clause-err g c =
+    let m = g.W.Writer.meaning c.args.w.now in
+    let p = err_from_is_err_and c.from_residual.result c.from_residual.ensures.1 in
+    rw (p.1, p.2) (bytes_refused m (g.W.Writer.meaning c.write_u8.new.self) (Is (new_fails m.is_plain c.args.address_size c.args.self.now)) c.in_err-write_u8.field-0.0 c.in_err-write_u8.ensures.err)
 
-pub returns-in_ok-write_uleb128-in-OffsetPair-clause-ok : goal.returns-in_ok-write_uleb128-in-OffsetPair-clause-ok
-returns-in_ok-write_uleb128-in-OffsetPair-clause-ok g c =
-    let w = c.args.address_size in
-    let k = c.args.kinds in
-    OnOk-map c.write_uleb128-in-OffsetPair.result c.write_uleb128-in-OffsetPair.ensures.ok
-    (λ p. written-is _ _ (new_pair k w c.in-OffsetPair.begin c.in-OffsetPair.end c.requires.1.0 c.in_ok-write_u8-in-OffsetPair.ensures.ok c.in_ok-write_uleb128-in-OffsetPair.ensures.ok p)
-    (ap (λ r. span_draft true k w (Some r)) (sym c.in-OffsetPair.is)))
+pub returns-clause-ok : goal.returns-clause-ok
+returns-clause-ok g c =
+    let kind = rw c.kind.ensures at c.in_ok-write_u8.ensures.ok in
+    OnOk-map c.write_operands.result c.write_operands.ensures.ok (new_item c.args.kinds c.args.address_size c.args.self.now c.requires kind)
 
-pub returns-in_ok-write_address-in-StartEnd-clause-ok : goal.returns-in_ok-write_address-in-StartEnd-clause-ok
-returns-in_ok-write_address-in-StartEnd-clause-ok g c =
-    let w = c.args.address_size in
-    let k = c.args.kinds in
-    OnOk-map c.write_address-in-StartEnd-2.result c.write_address-in-StartEnd-2.ensures.ok
-    (λ p. written-is _ _ (new_ends k w c.in-StartEnd.begin c.in-StartEnd.end c.requires.1.1.1.0 c.in_ok-write_u8-in-StartEnd.ensures.ok c.in_ok-write_address-in-StartEnd.ensures.ok p)
-    (ap (λ r. span_draft true k w (Some r)) (sym c.in-StartEnd.is)))
+pub returns-clause-sound : goal.returns-clause-sound
+returns-clause-sound g c =
+    OnOk-map c.write_operands.result c.write_operands.ensures.sound
+    (λ h. subst (λ plain. IsNone (new_fails plain c.args.address_size c.args.self.now)) c.in_ok-write_u8.ensures.same.kind h)
 
-pub returns-in_ok-write_address-in-StartLength-clause-ok : goal.returns-in_ok-write_address-in-StartLength-clause-ok
-returns-in_ok-write_address-in-StartLength-clause-ok g c =
+pub returns-clause-err : goal.returns-clause-err
+returns-clause-err g c =
+    let m = g.W.Writer.meaning c.args.w.now in
+    let n = g.W.Writer.meaning c.write_u8.new.self in
     let w = c.args.address_size in
-    let k = c.args.kinds in
-    OnOk-map c.write_uleb128-in-StartLength.result c.write_uleb128-in-StartLength.ensures.ok
-    (λ p. written-is _ _ (new_length k w c.in-StartLength.begin c.in-StartLength.length c.requires.1.1.1.1 c.in_ok-write_u8-in-StartLength.ensures.ok c.in_ok-write_address-in-StartLength.ensures.ok p)
-    (ap (λ r. span_draft true k w (Some r)) (sym c.in-StartLength.is)))
+    let r = c.args.self.now in
+    let same = c.in_ok-write_u8.ensures.same in
+    IfErr-map c.write_operands.result c.write_operands.ensures.err
+    (refused_after m n (g.W.Writer.meaning c.write_operands.new.w) (Is (new_fails n.is_plain w r)) (Is (new_fails m.is_plain w r)) same
+    (λ e h. subst (λ plain. Is (new_fails plain w r) e) same.kind h))

@@ -1,36 +1,56 @@
-use Rattle.std.proofs.Common.{ap, sym, false, Some}
-use Rattle.dw_writer.proofs.Outcomes.{OnOk-map}
-use Rattle.dw_lists.specs.Items.{marker}
+use Rattle.std.proofs.lemmas.Result.{err_from_is_err_and}
+use Rattle.dw_writer.proofs.Outcomes.{OnOk-map, IfErr-map}
 use Rattle.dw_lists.specs.Kinds.{range_kinds}
-use Rattle.dw_lists.specs.Texts.{plus, span_draft}
-use Rattle.dw_lists.proofs.Causes.{OnOk-both}
-use Rattle.dw_lists.proofs.Spans.{written-is, written-number, written-marker, written-further, old_base, old_pair, old_ends, old_length}
+use Rattle.dw_lists.proofs.Spans.{old_ends, old_length}
+use Rattle.dw_lists.proofs.Refusals.{further_none, further_refused, ends_further}
 use Rattle.dw_lists.proofs.range.Range.write_old.Goals as goal
 
-pub returns-in_ok-write_udata-in-BaseAddress-clause-ok : goal.returns-in_ok-write_udata-in-BaseAddress-clause-ok
-returns-in_ok-write_udata-in-BaseAddress-clause-ok g c =
-    let w = c.args.address_size in
-    OnOk-map c.write_address.result c.write_address.ensures.ok
-    (λ p. written-is _ _ (old_base range_kinds w c.in-BaseAddress.address (written-marker w c.in_ok-marker-in-BaseAddress.field-0 (marker w) c.in_ok-marker-in-BaseAddress.ensures.ok c.in_ok-write_udata-in-BaseAddress.ensures.fits c.in_ok-write_udata-in-BaseAddress.ensures.ok) p)
-    (ap (λ r. span_draft false range_kinds w (Some r)) (sym c.in-BaseAddress.is)))
+pub returns-in-BaseAddress-clause-ok : goal.returns-in-BaseAddress-clause-ok
+returns-in-BaseAddress-clause-ok g c = rw c.in-BaseAddress.is c.write_base.ensures.ok
 
-pub returns-in_ok-write_udata-in-OffsetPair-clause-ok : goal.returns-in_ok-write_udata-in-OffsetPair-clause-ok
-returns-in_ok-write_udata-in-OffsetPair-clause-ok g c =
-    let w = c.args.address_size in
-    OnOk-both c.write_udata-in-OffsetPair-2.result c.write_udata-in-OffsetPair-2.ensures.fits c.write_udata-in-OffsetPair-2.ensures.ok
-    (λ fits p. written-is _ _ (old_pair range_kinds w c.in-OffsetPair.begin c.in-OffsetPair.end (written-number w c.in-OffsetPair.begin c.in_ok-write_udata-in-OffsetPair.ensures.fits c.in_ok-write_udata-in-OffsetPair.ensures.ok) (written-number w c.in-OffsetPair.end fits p))
-    (ap (λ r. span_draft false range_kinds w (Some r)) (sym c.in-OffsetPair.is)))
+pub returns-in-BaseAddress-clause-sound : goal.returns-in-BaseAddress-clause-sound
+returns-in-BaseAddress-clause-sound g c = rw c.in-BaseAddress.is c.write_base.ensures.sound
 
-pub returns-in_ok-write_address-in-StartEnd-clause-ok : goal.returns-in_ok-write_address-in-StartEnd-clause-ok
-returns-in_ok-write_address-in-StartEnd-clause-ok g c =
-    let w = c.args.address_size in
-    OnOk-map c.write_address-in-StartEnd-2.result c.write_address-in-StartEnd-2.ensures.ok
-    (λ p. written-is _ _ (old_ends range_kinds w c.in-StartEnd.begin c.in-StartEnd.end c.in_ok-write_address-in-StartEnd.ensures.ok p)
-    (ap (λ r. span_draft false range_kinds w (Some r)) (sym c.in-StartEnd.is)))
+pub returns-in-BaseAddress-clause-err : goal.returns-in-BaseAddress-clause-err
+returns-in-BaseAddress-clause-err g c = rw c.in-BaseAddress.is c.write_base.ensures.err
 
-pub returns-in_ok-write_address-in-StartLength-clause-ok : goal.returns-in_ok-write_address-in-StartLength-clause-ok
-returns-in_ok-write_address-in-StartLength-clause-ok g c =
-    let w = c.args.address_size in
-    OnOk-map c.write_address-in-StartLength-2.result c.write_address-in-StartLength-2.ensures.ok
-    (λ p. written-is _ _ (old_length range_kinds w c.in-StartLength.begin c.in-StartLength.length c.in_ok-write_address-in-StartLength.ensures.ok (written-further w _ (plus c.in-StartLength.begin c.in-StartLength.length) c.in_ok-end-in-StartLength.ensures.ok p))
-    (ap (λ r. span_draft false range_kinds w (Some r)) (sym c.in-StartLength.is)))
+pub returns-in-OffsetPair-clause-ok : goal.returns-in-OffsetPair-clause-ok
+returns-in-OffsetPair-clause-ok g c = rw c.in-OffsetPair.is c.write_offsets.ensures.ok
+
+pub returns-in-OffsetPair-clause-sound : goal.returns-in-OffsetPair-clause-sound
+returns-in-OffsetPair-clause-sound g c = rw c.in-OffsetPair.is c.write_offsets.ensures.sound
+
+pub returns-in-OffsetPair-clause-err : goal.returns-in-OffsetPair-clause-err
+returns-in-OffsetPair-clause-err g c = rw c.in-OffsetPair.is c.write_offsets.ensures.err
+
+pub returns-in-StartEnd-clause-ok : goal.returns-in-StartEnd-clause-ok
+returns-in-StartEnd-clause-ok g c =
+    rw c.in-StartEnd.is (OnOk-map c.write_ends.result c.write_ends.ensures.ok (old_ends range_kinds c.args.address_size c.in-StartEnd.begin c.in-StartEnd.end))
+
+pub returns-in-StartEnd-clause-sound : goal.returns-in-StartEnd-clause-sound
+returns-in-StartEnd-clause-sound g c = rw c.in-StartEnd.is c.write_ends.ensures.sound
+
+pub returns-in-StartEnd-clause-err : goal.returns-in-StartEnd-clause-err
+returns-in-StartEnd-clause-err g c = rw c.in-StartEnd.is c.write_ends.ensures.err
+
+pub returns-in_err-end-in-StartLength-clause-err : goal.returns-in_err-end-in-StartLength-clause-err
+returns-in_err-end-in-StartLength-clause-err g c =
+    let m = g.W.Writer.meaning c.args.w.now in
+    let p = err_from_is_err_and c.from_residual.result c.from_residual.ensures.1 in
+    rw (p.1, p.2, c.in-StartLength.is) (further_refused c.args.address_size c.in-StartLength.begin c.in-StartLength.begin c.in-StartLength.length m m m.is_plain c.in_err-end-in-StartLength.field-0.0 c.in_err-end-in-StartLength.ensures.err)
+
+pub returns-in_ok-end-in-StartLength-clause-ok : goal.returns-in_ok-end-in-StartLength-clause-ok
+returns-in_ok-end-in-StartLength-clause-ok g c =
+    rw c.in-StartLength.is (OnOk-map c.write_ends-in-StartLength.result c.write_ends-in-StartLength.ensures.ok
+    (old_length range_kinds c.args.address_size c.in-StartLength.begin c.in_ok-end-in-StartLength.end c.in-StartLength.length c.in_ok-end-in-StartLength.ensures.ok))
+
+pub returns-in_ok-end-in-StartLength-clause-sound : goal.returns-in_ok-end-in-StartLength-clause-sound
+returns-in_ok-end-in-StartLength-clause-sound g c =
+    rw c.in-StartLength.is (OnOk-map c.write_ends-in-StartLength.result c.write_ends-in-StartLength.ensures.sound
+    (further_none c.args.address_size c.in-StartLength.begin c.in_ok-end-in-StartLength.end c.in-StartLength.length c.in_ok-end-in-StartLength.ensures.ok (g.W.Writer.meaning c.args.w.now).is_plain c.in_ok-end-in-StartLength.ensures.sound))
+
+pub returns-in_ok-end-in-StartLength-clause-err : goal.returns-in_ok-end-in-StartLength-clause-err
+returns-in_ok-end-in-StartLength-clause-err g c =
+    let m = g.W.Writer.meaning c.args.w.now in
+    rw c.in-StartLength.is (IfErr-map c.write_ends-in-StartLength.result c.write_ends-in-StartLength.ensures.err
+    (ends_further c.args.address_size c.in-StartLength.begin c.in_ok-end-in-StartLength.end c.in-StartLength.length c.in_ok-end-in-StartLength.ensures.ok m (g.W.Writer.meaning c.write_ends-in-StartLength.new.w) m.is_plain))

@@ -1,0 +1,30 @@
+use Rattle.std.proofs.lemmas.Result.{err_from_is_err_and}
+use Rattle.dw_writer.proofs.Outcomes.{OnOk-map, IfErr-map}
+use Rattle.dw_lists.specs.Kinds.{range_kinds}
+use Rattle.dw_lists.proofs.Causes.{OnOk-both}
+use Rattle.dw_lists.proofs.Spans.{written-number, old_pair}
+use Rattle.dw_lists.proofs.Refusals.{offset_first, offset_refused, offsets_none}
+use Rattle.dw_lists.proofs.item.write_offsets.Goals as goal
+
+pub returns-in_err-write_udata-clause-err : goal.returns-in_err-write_udata-clause-err
+returns-in_err-write_udata-clause-err g c =
+    let m = g.W.Writer.meaning c.args.w.now in
+    let p = err_from_is_err_and c.from_residual.result c.from_residual.ensures.1 in
+    rw (p.1, p.2) (offset_first m (g.W.Writer.meaning c.write_udata.new.self) m.is_plain c.args.address_size c.args.begin c.args.end c.in_err-write_udata.field-0.0 c.in_err-write_udata.ensures.err)
+
+pub returns-clause-ok : goal.returns-clause-ok
+returns-clause-ok g c =
+    let w = c.args.address_size in
+    OnOk-both c.write_udata-2.result c.write_udata-2.ensures.fits c.write_udata-2.ensures.ok
+    (λ fits p. old_pair range_kinds w c.args.begin c.args.end (written-number w c.args.begin c.in_ok-write_udata.ensures.fits c.in_ok-write_udata.ensures.ok) (written-number w c.args.end fits p))
+
+pub returns-clause-sound : goal.returns-clause-sound
+returns-clause-sound g c =
+    OnOk-map c.write_udata-2.result c.write_udata-2.ensures.fits
+    (offsets_none (g.W.Writer.meaning c.args.w.now).is_plain c.args.address_size c.args.begin c.args.end c.in_ok-write_udata.ensures.fits)
+
+pub returns-clause-err : goal.returns-clause-err
+returns-clause-err g c =
+    let m = g.W.Writer.meaning c.args.w.now in
+    IfErr-map c.write_udata-2.result c.write_udata-2.ensures.err
+    (offset_refused m (g.W.Writer.meaning c.write_udata.new.self) c.in_ok-write_udata.ensures.same c.args.address_size (g.W.Writer.meaning c.write_udata-2.new.self) m.is_plain c.args.begin c.args.end)
