@@ -1,28 +1,86 @@
 -- A cursor over the rows of a unit, one row further.
-use Rattle.std.proofs.Common.{◌≡◌, ◌∙◌, sym, ap, subst, ℕ, suc, ◌+◌, ◌-◌, ◌^◌, ◌<◌, ◌≤◌, List, [], ◌∷◌, ◌++◌, length, take, All, Bool, true, false, if◌then◌else◌, Result, Ok, Err, refl, arith, append_assoc, append-nil}
+use Rattle.std.proofs.Common.{◌≡◌, ◌∙◌, sym, ap, subst, ℕ, zero, suc, ◌+◌, ◌-◌, ◌^◌, ◌<◌, ◌≤◌, min, List, [], ◌∷◌, ◌++◌, length, map, take, All, Bool, true, false, if◌then◌else◌, Option, Result, Ok, Err, refl, arith, append_assoc, append-nil, length-append}
 use Rattle.std.proofs.lemmas.Bool.{false≢true}
-use Rattle.std.proofs.lemmas.List.{append_cancel_left}
+use Rattle.std.proofs.lemmas.List.{append_cancel_left, length-map, map-append, take-map}
+use Rattle.std.specs.Option.{unwrap_or}
+use Rattle.std.specs.Prelude.{slice_get}
 use Rattle.std.specs.Result.{is_ok}
 use Rattle.dw_base.specs.Entries.{ReadEntry, Mark, Open, Null, Row}
+use Rattle.dw_base.specs.declared.ids.UnitEntryId.{UnitEntryId}
 use Rattle.dw_entry_ids.proofs.Steps.{count_one}
 use Rattle.dw_entry_ids.specs.Ids.{entry_count}
+use Rattle.dw_read.proofs.Lefts.{shorter}
 use Rattle.dw_read.specs.Orders.{attribute_order, IsInOrder}
 use Rattle.dw_read.specs.Reading.{Reading, IsReading, left}
 use Rattle.dw_read.specs.Reasons.{◌=>>◌}
-use Rattle.dw_read.specs.Rows.{BeginsAt, PassesEntry, entry_of, row_read}
+use Rattle.dw_read.specs.Rows.{BeginsAt, PassesEntry, deeper, entry_of, row_read}
 use Rattle.dw_read.specs.declared.entries.EntriesRaw.{EntriesRaw}
 use Rattle.dw_read.specs.declared.entry.DebuggingInformationEntry.{DebuggingInformationEntry}
 use Rattle.dw_read.specs.declared.error.ReadError.{ReadError}
 use Rattle.dw_read.specs.declared.fields.Fields.{Fields}
-use Rattle.dw_read_units.proofs.RowWalk.{WalkedRows, row_here, walked_none, walked_more, walked_end, walked_refused}
+use Rattle.dw_read_units.proofs.RowWalk.{WalkedRows, row_here, walked_none, walked_more, walked_end, walked_refused, row_shorter}
 use Rattle.dw_read_units.specs.Passes.{PassesRow, rows_reading}
 use Rattle.dw_read_units.specs.declared.dwarf.Unit.{Unit as UnitFields}
 use Rattle.dw_dwarf.proofs.Passing.{entry_passes}
 use Rattle.dw_dwarf.proofs.Planning.{under_last, opened_above, opened_entry, opened_null}
-use Rattle.dw_dwarf.proofs.Walking.{closed, deeper_more, further, numbers_of}
-use Rattle.dw_dwarf.specs.Plans.{counted, last_or_root, opened}
+use Rattle.dw_dwarf.specs.Plans.{counted, last_at, last_or_root, opened, or_root}
 use Rattle.dw_dwarf.specs.UnitCursor.{StandsBetween, HandsOutRow, HandsOutNone}
 use Rattle.dw_dwarf.specs.declared.convert.unit_rows.UnitRows.{UnitRows}
+
+-- the last of the open lists is closed
+take_front : (xs : List ℕ) (y n : ℕ) → n ≡ length xs → take n (xs ++ y ∷ []) ≡ xs
+take_front [] y zero h = refl
+take_front [] y (suc n) h = absurd (omega (arith, h))
+take_front (x ∷ xs) y zero h = absurd (omega (arith, h))
+take_front (x ∷ xs) y (suc n) h = ap (λ (zs : List ℕ). x ∷ zs) (take_front xs y n (omega (arith, h)))
+
+abbrev pub numbers_of : List UnitEntryId → List ℕ
+numbers_of ids = map (λ (i : UnitEntryId). i.0) ids
+
+none_taken : (n : ℕ) → take {A = ℕ} n [] ≡ []
+none_taken zero = refl
+none_taken (suc n) = refl
+
+-- an entry with children is the last of those whose lists are open
+pub numbers_more : (b : Bool) (xs ys : List UnitEntryId) (i : UnitEntryId) (n : ℕ) → i.0 ≡ n → ys ≡ (if b then xs ++ i ∷ [] else xs) → numbers_of ys ≡ (if b then numbers_of xs ++ n ∷ [] else numbers_of xs)
+numbers_more true xs ys i n e h = ap numbers_of h ∙ map-append (λ (j : UnitEntryId). j.0) xs (i ∷ []) ∙ ap (λ (k : ℕ). numbers_of xs ++ k ∷ []) e
+numbers_more false xs ys i n e h = ap numbers_of h
+
+closed : (front : List Row) (lists n : ℕ) (xs ys : List UnitEntryId) → numbers_of xs ≡ opened front lists → n ≡ length xs → ys ≡ take (n - 1) xs → numbers_of ys ≡ opened front (lists - 1)
+closed front lists n xs ys h l e =
+    ap numbers_of e ∙ sym (take-map (λ (i : UnitEntryId). i.0) (n - 1) xs) ∙ ap (take (n - 1)) h ∙ go lists (l ∙ sym (length-map xs (λ (i : UnitEntryId). i.0)) ∙ ap length h)
+  where
+    go : (k : ℕ) → n ≡ length (opened front k) → take (n - 1) (opened front k) ≡ opened front (k - 1)
+    go zero m = none_taken (n - 1)
+    go (suc k) m =
+        let x = or_root (last_at k 0 front) in
+        let some : n ≡ length (opened front k) + 1 = m ∙ length-append (opened front k) (x ∷ []) in
+        let less : k ≡ suc k - 1 = omega arith in
+        take_front (opened front k) x (n - 1) (omega (arith, some)) ∙ ap (opened front) less
+
+-- the last of the open lists is the entry's parent's
+last_at_end : (xs : List UnitEntryId) (d : UnitEntryId) → d.0 ≡ 0 → (unwrap_or (slice_get xs (length xs - 1)) d).0 ≡ last_or_root (numbers_of xs)
+last_at_end [] d z = z
+last_at_end (x ∷ []) d z = refl
+last_at_end (x ∷ y ∷ xs) d z =
+    let e : length (x ∷ y ∷ xs) - 1 ≡ suc (length (y ∷ xs) - 1) = omega arith in
+    ap (λ (k : ℕ). (unwrap_or (slice_get (x ∷ y ∷ xs) k) d).0) e ∙ last_at_end (y ∷ xs) d z
+
+pub last_is : (o : Option UnitEntryId) (xs : List UnitEntryId) (d : UnitEntryId) → o ≡ slice_get xs (length xs - 1) → d.0 ≡ 0 → (unwrap_or o d).0 ≡ last_or_root (numbers_of xs)
+last_is o xs d e z = ap (λ (p : Option UnitEntryId). (unwrap_or p d).0) e ∙ last_at_end xs d z
+
+-- as deep as lists are counted
+deeper_more : (b : Bool) (n : ℕ) → n + 1 < 2 ^ 64 → deeper b n ≡ (if b then suc n else n)
+deeper_more true n l = let e : min (n + 1) (2 ^ 64 - 1) ≡ suc n = omega arith in e
+deeper_more false n l = refl
+
+-- a row takes a byte at least
+further : {R E : Type 0} (reading : R → Reading) (now next : EntriesRaw R E) (mark : Mark ReadEntry) → IsReading (reading now.input) → IsReading (reading next.input) → PassesRow reading now next mark → (reading now.input).place < (reading next.input).place
+further reading now next mark i j s =
+    let passed : length (left (reading next.input)) + s.took.count ≡ length (left (reading now.input)) = shorter s.took.count (reading now.input) (reading next.input) i j s.took.passes in
+    let less : length (left (reading next.input)) < length (left (reading now.input)) = row_shorter reading now next mark s in
+    let place : (reading next.input).place ≡ (reading now.input).place + s.took.count = ap (λ (r : Reading). r.place) s.took.passes.is in
+    omega arith
 
 -- what is read behind rows is what is left of all
 more_of : (r : Result (List Row) ReadError) (front all : List Row) → Ok all ≡ (r =>> λ more. Ok (front ++ more)) → (more : List Row) × (r ≡ Ok more) × (all ≡ front ++ more)
@@ -58,7 +116,7 @@ module _ {R E : Type 0} (reading : R → Reading) (u : UnitFields R E) where
 
   -- from the first row on
   pub stands_first : (c : UnitRows R E) (all : List Row) → BeginsAt reading u.header u.abbreviations c.rows → c.count ≡ 0 → c.parents.items ≡ [] → c.is_ended ≡ false → rows_reading reading u.header u.abbreviations ≡ Ok all → u.header.offset.0 ≤ (reading u.header.body).place → Stands c [] all
-  stands_first c all b zero none going are behind =
+  stands_first c all b start none going are behind =
       let w = walked_none reading u.header u.abbreviations c.rows behind b in
       let m = more_of _ [] all (sym are ∙ w.is) in
       record {
@@ -72,8 +130,8 @@ module _ {R E : Type 0} (reading : R → Reading) (u : UnitFields R E) where
         order = w.order;
         began = w.began;
         deep = w.deep;
-        counted = zero;
-        few = omega (arith, zero);
+        counted = start;
+        few = omega (arith, start);
         parents = ap numbers_of none ∙ ap (opened []) (sym b.lists);
         going = going;
       }

@@ -1,12 +1,12 @@
 //! The entries of a unit.
 
-ghost use Rattle.std.specs.Prelude.{◌≡◌, ◌⊎◌, ◌++◌, ◌∷◌, [], map, if◌then◌else◌, IfErr, OnOk};
+ghost use Rattle.std.specs.Prelude.{◌≡◌, ◌⊎◌, IfErr, OnOk};
 ghost use Rattle.dw_sources.specs.declared.convert_error.ConvertError.TheVariants.{NoMemory};
-ghost use Rattle.dw_dwarf.specs.Plans.{last_or_root};
 ghost use Rattle.dw_dwarf.specs.ConvertSteps.{tables_in, CanConvert, ConvertsEntries, RefusesEntry};
 
 use crate::convert::entry::convert_entry;
-use dw_base::{Address, FileId, UnitEntryId};
+use crate::convert::unit_rows::UnitRows;
+use dw_base::{Address, FileId};
 use dw_convert::ConvertDebugInfoRef;
 use dw_read::{DebuggingInformationEntry, Reader};
 use dw_read_units::UnitRef;
@@ -53,17 +53,9 @@ pub fn convert_entries<R: Reader, C: ConvertDebugInfoRef, F: Fn(u64) -> Option<A
 {
     // The root is there, so an id is handed out for it, and there is a row.
     prove!(unit.count() <= unit.reserved());
-    let mut rows = read.entries_raw(alloc, None)?;
+    let mut rows = UnitRows::new(alloc, read.unit);
     let mut entry = DebuggingInformationEntry::new(alloc);
-    let mut parents = Vec::new(alloc);
-    let mut count = 0;
-    'rows: while !rows.is_empty() {
-        if !rows.read_entry(&mut entry)? {
-            parents.pop();
-            continue;
-        }
-        let id = UnitEntryId::new(count);
-        let parent = last_or_root(&parents);
+    'rows: while let Some((id, parent)) = rows.next(&mut entry)? {
         convert_entry(
             alloc,
             read,
@@ -77,31 +69,6 @@ pub fn convert_entries<R: Reader, C: ConvertDebugInfoRef, F: Fn(u64) -> Option<A
             convert_address,
             refs,
         )?;
-        open_list(&mut parents, entry.has_children, id)?;
-        count += 1;
-    }
-    Ok(())
-}
-
-/// The last of the entries whose lists of children are open, or the root, which is above all.
-pub(crate) fn last_or_root(parents: &[UnitEntryId]) -> UnitEntryId
-    ensures { result.0 ≡ last_or_root (map (λ i. i.0) parents.now) }
-{
-    parents.last().copied().unwrap_or(UnitEntryId::new(0))
-}
-
-/// Opens an entry's list of children behind the others, if it has one.
-pub(crate) fn open_list(
-    parents: &mut Vec<UnitEntryId>,
-    has_children: bool,
-    id: UnitEntryId,
-) -> ConvertResult<()>
-    ensures ok { OnOk result (parents.new.items
-        ≡ (if has_children then parents.old.items ++ id ∷ [] else parents.old.items)) }
-    ensures err { IfErr result (λ e. e ≡ NoMemory) }
-{
-    if has_children {
-        parents.push(id)?;
     }
     Ok(())
 }

@@ -1,13 +1,14 @@
 //! The rows of a unit that is converted.
 
-ghost use Rattle.std.specs.Prelude.{◌≡◌, ◌≤◌, List, [], true, Ok, None};
+ghost use Rattle.std.specs.Prelude.{◌≡◌, ◌≤◌, ◌++◌, ◌∷◌, List, [], map, true, Ok, None, if◌then◌else◌, IfErr, OnOk};
 ghost use Rattle.dw_base.specs.Entries.{Row};
 ghost use Rattle.dw_read_units.specs.Passes.{rows_reading};
 ghost use Rattle.dw_read_units.specs.declared.dwarf.Unit.{Unit as UnitFields};
+ghost use Rattle.dw_sources.specs.declared.convert_error.ConvertError.TheVariants.{NoMemory};
+ghost use Rattle.dw_dwarf.specs.Plans.{last_or_root};
 ghost use Rattle.dw_dwarf.specs.UnitCursor.{StandsBetween};
 ghost use Rattle.dw_dwarf.specs.UnitWalk.{WalksOn};
 
-use crate::convert::entries::{last_or_root, open_list};
 use dw_base::UnitEntryId;
 use dw_read::{DebuggingInformationEntry, EntriesRaw, Reader};
 use dw_read_units::Unit;
@@ -76,4 +77,27 @@ impl<'a, R: Reader> UnitRows<'a, R> {
     {
         self.is_ended = true;
     }
+}
+
+/// The last of the entries whose lists of children are open, or the root, which is above all.
+fn last_or_root(parents: &[UnitEntryId]) -> UnitEntryId
+    ensures { result.0 ≡ last_or_root (map (λ i. i.0) parents.now) }
+{
+    parents.last().copied().unwrap_or(UnitEntryId::new(0))
+}
+
+/// Opens an entry's list of children behind the others, if it has one.
+fn open_list(
+    parents: &mut Vec<UnitEntryId>,
+    has_children: bool,
+    id: UnitEntryId,
+) -> ConvertResult<()>
+    ensures ok { OnOk result (parents.new.items
+        ≡ (if has_children then parents.old.items ++ id ∷ [] else parents.old.items)) }
+    ensures err { IfErr result (λ e. e ≡ NoMemory) }
+{
+    if has_children {
+        parents.push(id)?;
+    }
+    Ok(())
 }

@@ -18,7 +18,7 @@ pub returns-clause-reads : goal.returns-clause-reads
 returns-clause-reads g c = λ front rest s. record {
   as_read = c.next.new.entry;
   parent = c.in-Some.parent.0;
-  row = subst (λ (o : Option (UnitEntryId × UnitEntryId)). WalksOn g.R.Reader.reading (held c.args.self.now) front rest c.next.new.self c.next.new.entry (Ok o)) c.in-Some.is (c.in_ok-id.ensures.walks (held c.args.self.now) front rest s);
+  row = (subst (λ (o : Option (UnitEntryId × UnitEntryId)). WalksOn g.R.Reader.reading (held c.args.self.now) front rest c.next.new.self c.next.new.entry (Ok o)) c.in-Some.is (c.in_ok-id.ensures.walks (held c.args.self.now) front rest s)).0;
   less = c.filter_attributes.ensures.less;
   under = c.filter_attributes.ensures.parent ∙ elim c.if-index-eq0.branch [ then-index-eq0 w ↦ w.entry-is ∙ above_root c.in-Some.id.0 c.in-Some.parent.0 (sym c.index.ensures ∙ w.if-index-eq0.true) | else-index-eq0 w ↦ w.entry-is ∙ above_other c.in-Some.id.0 c.in-Some.parent (λ z. w.if-index-eq0.false (c.index.ensures ∙ z)) ];
   read_unit = c.filter_attributes.ensures.read_unit;

@@ -1,13 +1,13 @@
-use Rattle.std.proofs.Common.{◌≡◌, ◌∙◌, ap, subst, ◌+◌, ◌^◌, ◌<◌, List, length, Bool, true, Ok, ⊎_elim, refl, arith}
+use Rattle.std.proofs.Common.{◌≡◌, ◌≢◌, ◌∙◌, sym, ap, subst, ◌+◌, ◌^◌, ◌<◌, List, All, length, Bool, true, Ok, ⊎_elim, refl, arith}
+use Rattle.dw_base.specs.Abbreviations.{Declaration}
 use Rattle.dw_base.specs.declared.ids.UnitEntryId.{UnitEntryId}
 use Rattle.dw_read.specs.Reading.{left}
 use Rattle.dw_read.specs.Rows.{ReadsRow, PassesEntry}
 use Rattle.dw_read_units.proofs.RowWalk.{row_shorter}
 use Rattle.dw_sources.specs.ConvertErrors.{from_read}
-use Rattle.dw_dwarf.proofs.Cursor.{passed_none, passed_more, hands_row, hands_none, never_refused, can_number}
-use Rattle.dw_dwarf.proofs.Passing.{null_passes}
+use Rattle.dw_dwarf.proofs.Cursor.{numbers_of, numbers_more, passed_none, passed_more, hands_row, hands_none, never_refused, can_number}
+use Rattle.dw_dwarf.proofs.Passing.{null_passes, tag_passes}
 use Rattle.dw_dwarf.proofs.Setting.{is_err}
-use Rattle.dw_dwarf.proofs.Walking.{numbers_of, numbers_more}
 use Rattle.dw_dwarf.specs.Plans.{last_or_root}
 use Rattle.dw_dwarf.specs.declared.convert.unit_rows.UnitRows.{UnitRows}
 use Rattle.dw_dwarf.proofs.convert.unit_rows.UnitRows.next.Goals as goal
@@ -51,8 +51,10 @@ returns-in-rows-clause-walks g c =
     let i = g.met.R.Reader.is_reading now.rows.input in
     let j = g.met.R.Reader.is_reading next.input in
     let room : now.count + 1 < 2 ^ 64 = can_number reading u now new front rest i j w c.rows.entry c.read_entry.new.entry e in
-    let count : c.saturating_add-self.result ≡ now.count + 1 = omega (arith, room, c.saturating_add-self.ensures) in
-    hands_row reading u now new front rest i j w c.rows.entry c.read_entry.new.entry c.new-id.result.0 c.last_or_root-parent.result.0 e count refl parents c.new-id.ensures above
+    let count : c.saturating_add-self.result ≡ now.count + 1 = omega (arith, room, c.saturating_add-self.ensures) in (
+      hands_row reading u now new front rest i j w c.rows.entry c.read_entry.new.entry c.new-id.result.0 c.last_or_root-parent.result.0 e count refl parents c.new-id.ensures above,
+      λ t. tag_passes reading now.rows next c.rows.entry c.read_entry.new.entry e (subst (λ (table : List Declaration). All (λ (d : Declaration). d.shape.tag ≢ 0) table) (sym w.stands.declarations) t),
+    )
 
 pub returns-clause-walks : goal.returns-clause-walks
 returns-clause-walks g c = λ u front rest s. hands_none g.R.Reader.reading u c.rows.self front rest (c.rows.invariant.0 u front rest s) (c.is_empty.ensures.0 c.rows-test.false)
