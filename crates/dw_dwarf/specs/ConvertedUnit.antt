@@ -1,5 +1,5 @@
 -- What a unit becomes: its line program, and its entries, which name the program's files.
-use Rattle.std.specs.Prelude.{◌⊎◌, ℕ, List, Option}
+use Rattle.std.specs.Prelude.{◌≡◌, ◌⊎◌, ℕ, List, Option}
 use Rattle.dw_base.specs.declared.address.Address.{Address}
 use Rattle.dw_base.specs.declared.address.DebugInfoRef.{DebugInfoRef}
 use Rattle.dw_base.specs.declared.ids.FileId.{FileId}
@@ -23,6 +23,11 @@ module _ {R E : Type 0} (reading : R → Reading) (answers : ℕ → Option Addr
     pub between : Tables
     pub program_is : ConvertsProgram reading answers u old program files between
     pub tree : ConvertsEntries reading answers entries infos u files (with_program program before) (tables_in between.strings between.line_strings before) after (tables_in new.strings new.line_strings after)
+
+  -- so it does, and these are the ids of its files by the numbers that were read
+  pub record ConvertsWithFiles (before : UnitValue) (old : Tables) (after : UnitValue) (new : Tables) (ids : List FileId) : Type 0 where
+    pub unit : ConvertsUnit before old after new
+    pub files : ids ≡ unit.files
 
   -- its line program is converted, and an entry isn't
   pub record RefusesEntries (before : UnitValue) (old : Tables) (e : ConvertError) : Type 0 where

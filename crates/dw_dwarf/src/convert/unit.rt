@@ -3,12 +3,12 @@
 ghost use Rattle.std.specs.Prelude.{◌⊎◌, ◌≡◌, IfErr, OnOk};
 ghost use Rattle.dw_sources.specs.declared.convert_error.ConvertError.TheVariants.{NoMemory};
 ghost use Rattle.dw_convert_lines.specs.Views.{tables};
-ghost use Rattle.dw_dwarf.specs.ConvertedUnit.{ConvertsUnit, RefusesUnit};
+ghost use Rattle.dw_dwarf.specs.ConvertedUnit.{ConvertsWithFiles, RefusesUnit};
 ghost use Rattle.dw_dwarf.specs.ConvertSteps.{CanConvert};
 
 use crate::convert::entries::convert_entries;
 use crate::convert::program::convert_program;
-use dw_base::Address;
+use dw_base::{Address, FileId};
 use dw_convert::ConvertDebugInfoRef;
 use dw_read::Reader;
 use dw_read_units::UnitRef;
@@ -17,11 +17,13 @@ use dw_strings::{LineStringTable, StringTable};
 use dw_unit::Unit;
 use std::alloc::Global;
 
-/// Converts a unit: its line program first, since its entries name the program's files.
+/// Converts a unit: its line program first, since its entries name the program's files, whose ids
+/// by the numbers that were read come into `files`.
 pub(crate) fn convert_unit<R: Reader, C: ConvertDebugInfoRef, F: Fn(u64) -> Option<Address>>(
     alloc: Global,
     read: UnitRef<'_, R>,
     unit: &mut Unit,
+    files: &mut Vec<FileId>,
     strings: &mut StringTable,
     line_strings: &mut LineStringTable,
     convert_address: &F,
@@ -29,16 +31,17 @@ pub(crate) fn convert_unit<R: Reader, C: ConvertDebugInfoRef, F: Fn(u64) -> Opti
 ) -> ConvertResult<()>
     requires callable { F.IsAlwaysCallable convert_address.now }
     requires ready { CanConvert R.reading read unit.old }
-    ensures ok { OnOk result (ConvertsUnit R.reading (F.post convert_address.now)
+    ensures ok { OnOk result (ConvertsWithFiles R.reading (F.post convert_address.now)
         (C.entries refs.now) (C.infos refs.now) read.entry
         unit.old (tables strings.old line_strings.old)
-        unit.new (tables strings.new line_strings.new)) }
+        unit.new (tables strings.new line_strings.new) files.new.items) }
     ensures err { IfErr result (λ e. (e ≡ NoMemory) ⊎ RefusesUnit R.reading
         (F.post convert_address.now) (C.entries refs.now) (C.infos refs.now) read.entry
         unit.old (tables strings.old line_strings.old) e) }
 {
-    let (program, files) = convert_program(alloc, read, line_strings, strings, convert_address)?;
+    let (program, ids) = convert_program(alloc, read, line_strings, strings, convert_address)?;
     unit.line_program = program;
+    *files = ids;
     convert_entries(
         alloc,
         read,

@@ -95,10 +95,12 @@ fn convert_numbered<R: Reader, F: Fn(u64) -> Option<Address>>(
         unit: &numbered.unit,
     };
     let mut unit = new_unit(alloc, read.encoding(), numbered.entries)?;
+    let mut files = Vec::new(alloc);
     convert_unit(
         alloc,
         read,
         &mut unit,
+        &mut files,
         strings,
         line_strings,
         convert_address,

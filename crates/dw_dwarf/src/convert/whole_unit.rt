@@ -7,8 +7,7 @@ ghost use Rattle.dw_dwarf.specs.Converters.{IsFresh, KeepsLoans, entries_in, inf
 ghost use Rattle.dw_dwarf.specs.WholeUnits.{ConvertsWhole, RefusesWhole};
 
 use crate::convert::convert_unit::ConvertUnit;
-use crate::convert::entries::convert_entries;
-use crate::convert::program::convert_program;
+use crate::convert::unit::convert_unit;
 use crate::convert::unit_entry::ConvertUnitEntry;
 use dw_base::Address;
 use dw_read::Reader;
@@ -51,21 +50,12 @@ impl<'a, R: Reader> ConvertUnit<'a, R> {
         } }
     {
         drop(root_entry);
-        let read = self.given.read;
         let refs = self.given.refs;
-        let (program, files) = convert_program(
+        convert_unit(
             self.alloc,
-            read,
-            self.line_strings,
-            self.strings,
-            convert_address,
-        )?;
-        self.set_line_program(program, files);
-        convert_entries(
-            self.alloc,
-            read,
-            self.files.as_slice(),
+            self.given.read,
             self.unit,
+            &mut self.files,
             self.strings,
             self.line_strings,
             convert_address,

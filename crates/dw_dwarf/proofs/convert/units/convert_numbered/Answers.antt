@@ -36,4 +36,4 @@ returns-clause-ok g c =
     let new : c.in_ok-unit.unit ≡ unit_for c.args.numbered.now = c.in_ok-unit.ensures.ok ∙ ap (λ e. unit_with e c.args.numbered.now.entries) c.encoding.ensures in
     rw c.and.ensures
     (and_ok c.convert_unit.new.unit _ c.convert_unit.result c.convert_unit.ensures.ok
-    (λ becomes. record { read = _; of = record { file = refl; unit = refl }; becomes = rw new at becomes }))
+    (λ becomes. record { read = _; of = record { file = refl; unit = refl }; becomes = rw new at becomes.unit }))

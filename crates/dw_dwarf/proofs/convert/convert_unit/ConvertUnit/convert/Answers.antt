@@ -1,14 +1,19 @@
-use Rattle.std.proofs.Common.{rules}
+use Rattle.std.proofs.Common.{◌∙◌}
 use Rattle.dw_dwarf.proofs.convert.convert_unit.ConvertUnit.convert.Goals as goal
 
+pub convert_unit-requires-clause-ready : goal.convert_unit-requires-clause-ready
+convert_unit-requires-clause-ready g c =
+    let can = c.args.self.now.given.readable in
+    let new = c.requires.fresh.unit in
+    record {
+      rows = _;
+      are = can.0;
+      behind = can.3;
+      tagged = can.4;
+      reserved = new.reserved ∙ can.1;
+      entries = new.entries;
+      kept = new.kept;
+    }
+
 pub returns-clause-ok : goal.returns-clause-ok
-returns-clause-ok g c = record {
-  unit = record {
-    program = _;
-    files = c.in_ok-program.files.items;
-    between = _;
-    program_is = c.in_ok-program.ensures.ok;
-    tree = search rules;
-  };
-  files = search rules;
-}
+returns-clause-ok g c = record { unit = c.in_ok-convert_unit.ensures.ok.unit; files = c.in_ok-convert_unit.ensures.ok.files }
