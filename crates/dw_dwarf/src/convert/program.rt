@@ -36,7 +36,7 @@ pub(crate) fn convert_program<R: Reader, F: Fn(u64) -> Option<Address>>(
     };
     let size = read.encoding().address_size;
     let program = IncompleteLineProgram::new(read.dwarf, offset, size)?;
-    let converted = convert_line_program(
+    convert_line_program(
         alloc,
         read.dwarf,
         &program,
@@ -45,6 +45,5 @@ pub(crate) fn convert_program<R: Reader, F: Fn(u64) -> Option<Address>>(
         line_strings,
         strings,
         convert_address,
-    )?;
-    Ok(converted)
+    )
 }

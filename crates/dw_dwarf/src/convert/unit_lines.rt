@@ -1,6 +1,6 @@
 //! The line program of a unit that is converted.
 
-ghost use Rattle.std.specs.Prelude.{◌≡◌, ◌⊎◌, Some, None, IfOk, IfErr, IfSome, MatchOption};
+ghost use Rattle.std.specs.Prelude.{◌≡◌, ◌⊎◌, IfOk, IfErr, IfSome, MatchOption};
 ghost use Rattle.dw_sources.specs.declared.convert_error.ConvertError.TheVariants.{NoMemory};
 ghost use Rattle.dw_convert_lines.specs.HeaderImages.{IsWritable};
 ghost use Rattle.dw_convert_lines.specs.Views.{tables, converting};
@@ -8,7 +8,7 @@ ghost use Rattle.dw_dwarf.specs.Converters.{KeepsLoans};
 ghost use Rattle.dw_dwarf.specs.UnitPrograms.{BeginsLines, HasNoLines, RefusesLines, unit_of_lines};
 
 use crate::convert::convert_unit::ConvertUnit;
-use dw_base::{DebugLineOffset, Encoding, LineEncoding};
+use dw_base::{Encoding, LineEncoding};
 use dw_convert_lines::{ConvertLineProgram, read_line_program};
 use dw_read::Reader;
 use dw_read_lines::IncompleteLineProgram;
@@ -51,40 +51,39 @@ impl<'a, R: Reader> ConvertUnit<'a, R> {
             { strings = self.new.strings; line_strings = self.new.line_strings } }
     {
         let read_unit = self.read_skeleton_unit.unwrap_or(self.read_unit);
-        let Some(offset) = read_unit.unit.line_program else {
-            return Ok(None);
-        };
-        let begun = begin_lines(
+        begin_lines(
             self.alloc,
             read_unit,
-            offset,
             encoding,
             line_encoding,
             self.line_strings,
             self.strings,
-        )?;
-        Ok(Some(begun))
+        )
     }
 }
 
-/// Begins to convert the line program of a unit at a place.
+/// Begins to convert the line program of a unit, if it has one.
 fn begin_lines<'a, R: Reader>(
     alloc: Global,
     read_unit: UnitRef<'a, R>,
-    offset: DebugLineOffset,
     encoding: Option<Encoding>,
     line_encoding: Option<LineEncoding>,
     line_strings: &mut LineStringTable,
     strings: &mut StringTable,
-) -> ConvertResult<ConvertLineProgram<'a, R>>
-    requires parameters { IfSome line_encoding IsWritable }
-    requires has { read_unit.unit.now.line_program ≡ Some offset }
-    ensures ok { IfOk result (λ c. BeginsLines R.reading read_unit.entry encoding line_encoding
+) -> ConvertResult<Option<ConvertLineProgram<'a, R>>>
+    requires { IfSome line_encoding IsWritable }
+    ensures ok { IfOk result (λ o. MatchOption o
+        (HasNoLines read_unit.entry (tables strings.old line_strings.old)
+        (tables strings.new line_strings.new))
+        (λ c. BeginsLines R.reading read_unit.entry encoding line_encoding
         (tables strings.old line_strings.old)
-        (converting c.program c.files.items strings.new line_strings.new)) }
+        (converting c.program c.files.items strings.new line_strings.new))) }
     ensures err { IfErr result (λ e. (e ≡ NoMemory) ⊎ RefusesLines R.reading read_unit.entry
         encoding line_encoding (tables strings.old line_strings.old) e) }
 {
+    let Some(offset) = read_unit.unit.line_program else {
+        return Ok(None);
+    };
     let size = read_unit.encoding().address_size;
     let program = IncompleteLineProgram::new(read_unit.dwarf, offset, size)?;
     let begun = read_line_program(
@@ -96,5 +95,5 @@ fn begin_lines<'a, R: Reader>(
         line_strings,
         strings,
     )?;
-    Ok(begun)
+    Ok(Some(begun))
 }

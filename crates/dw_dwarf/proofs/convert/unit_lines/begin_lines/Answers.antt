@@ -11,11 +11,11 @@ returns-clause-ok g c =
     let lines = reading c.args.read_unit.dwarf.now.debug_line in
     let size = ap (λ e. e.address_size) c.encoding-size.ensures in
     record {
-      offset = c.args.offset;
-      has = c.requires.has;
+      offset = c.in-Some.offset;
+      has = c.in-Some.is;
       begins = record {
         program = c.in_ok-program.program;
-        stands = subst (λ n. lines_at_place lines.is_big n c.args.offset.0 (left lines) ≡ Ok (lines_of reading c.in_ok-program.program.header)) size c.in_ok-program.ensures.ok;
+        stands = subst (λ n. lines_at_place lines.is_big n c.in-Some.offset.0 (left lines) ≡ Ok (lines_of reading c.in_ok-program.program.header)) size c.in_ok-program.ensures.ok;
         order = c.in_ok-program.ensures.order;
         becomes = c.in_ok-begun.ensures.ok;
       };
@@ -28,11 +28,11 @@ returns-in_err-begun-clause-err g c =
     let size = ap (λ e. e.address_size) c.encoding-size.ensures in
     let p = err_from_is_err_and c.from_residual-in_err-begun.result c.from_residual-in_err-begun.ensures.1 in
     rw (p.1, p.2) (⊎_elim inl (λ r. inr (record {
-      offset = c.args.offset;
-      has = c.requires.has;
+      offset = c.in-Some.offset;
+      has = c.in-Some.is;
       why = inr (record {
         program = c.in_ok-program.program;
-        stands = subst (λ n. lines_at_place lines.is_big n c.args.offset.0 (left lines) ≡ Ok (lines_of reading c.in_ok-program.program.header)) size c.in_ok-program.ensures.ok;
+        stands = subst (λ n. lines_at_place lines.is_big n c.in-Some.offset.0 (left lines) ≡ Ok (lines_of reading c.in_ok-program.program.header)) size c.in_ok-program.ensures.ok;
         order = c.in_ok-program.ensures.order;
         becomes = r;
       });
