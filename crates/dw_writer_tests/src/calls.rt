@@ -136,30 +136,33 @@ impl<E: Endianity> Held for RelocVec<E> {
     }
 }
 
-/// Tells that calls leave these bytes and these records in a vector.
-pub fn leaves<W: Writer + Held + Drop>(
-    mut w: W,
-    calls: &[Call],
-    bytes: &[u8],
-    records: &[Relocation],
-) -> bool {
-    run(&mut w, calls).is_ok()
-        && w.len() == bytes.len()
-        && w.bytes() == bytes
-        && w.records() == records
+/// Tells that a vector holds these bytes and these records.
+pub fn holds<W: Held>(w: &W, bytes: &[u8], records: &[Relocation]) -> bool {
+    w.bytes() == bytes && w.records() == records
 }
 
-/// The number of the first call that answers something else than it should, or that of all where
-/// they leave other bytes than these, or a record.
-pub fn first_unanswered<W: Writer + Held + Drop>(
-    mut w: W,
-    answers: &[Answer],
-    bytes: &[u8],
-) -> Option<usize> {
-    let wrong = first_wrong(&mut w, answers);
-    if w.bytes() == bytes && w.records().is_empty() {
-        wrong
-    } else {
-        Some(answers.len())
-    }
+/// Calls, and the bytes and records that they leave.
+#[derive(Drop)]
+pub struct Left {
+    pub calls: &'static [Call],
+    pub bytes: &'static [u8],
+    pub records: &'static [Relocation],
+}
+
+/// Tells that calls are taken, and leave these bytes and these records.
+pub fn leaves<W: Writer + Held>(w: &mut W, left: &Left) -> bool {
+    run(w, left.calls).is_ok() && w.len() == left.bytes.len() && holds(w, left.bytes, left.records)
+}
+
+/// Calls with their answers, and the bytes and records that there are then.
+#[derive(Drop)]
+pub struct Answered {
+    pub calls: &'static [Answer],
+    pub bytes: &'static [u8],
+    pub records: &'static [Relocation],
+}
+
+/// Tells that calls are answered so, and leave these bytes and these records.
+pub fn answers<W: Writer + Held>(w: &mut W, wanted: &Answered) -> bool {
+    first_wrong(w, wanted.calls).is_none() && holds(w, wanted.bytes, wanted.records)
 }

@@ -15,4 +15,6 @@ mod section_tests;
 #[cfg(test)]
 mod string_tests;
 #[cfg(test)]
+mod trials;
+#[cfg(test)]
 mod vector_tests;

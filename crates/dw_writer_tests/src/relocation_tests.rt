@@ -1,13 +1,14 @@
 //! Relocating vectors: their bytes, their records, what they refuse, and their copies.
 
 use crate::calls::Call::{Address, Offset, OffsetAt, Pointer, Reference, U8, U8At, U128};
-use crate::calls::{Answer, Call, SYMBOL, first_unanswered, leaves};
-use crate::vector_tests::{EACH, Fork, PCREL_SDATA4};
+use crate::calls::{Answer, Answered, Call, Left, SYMBOL};
+use crate::trials::{Fork, Kind, Trial, pass_over};
+use crate::vector_tests::{EACH, PCREL_SDATA4};
 use dw_base::Address::{Constant, Symbol};
 use dw_base::RunTimeEndian::{Big, Little};
 use dw_base::constants::DW_EH_PE_uleb128;
 use dw_base::{Error, RunTimeEndian, SectionId};
-use dw_writer::{RelocVec, Relocation, RelocationTarget};
+use dw_writer::{Relocation, RelocationTarget};
 
 /// The records of each call.
 const EACH_RECORDS: &[Relocation] = &[
@@ -183,8 +184,13 @@ fn held() -> &'static [Row] {
 #[test]
 fn records_what_a_linker_puts_in(rt: HostRuntime) {
     for (i, (order, calls, bytes, records)) in held().iter().enumerate() {
-        let w = RelocVec::new(rt.alloc(), *order);
-        assert!(rt; leaves(w, calls, bytes, records), "at {i}");
+        let trial = Trial::Leaves(Left {
+            calls,
+            bytes,
+            records,
+        });
+        let kind = Kind::Relocating(*order);
+        assert_eq!(rt; pass_over(rt.alloc(), kind, &trial), Ok(true), "at {i}");
     }
 }
 
@@ -219,19 +225,25 @@ const REFUSED: &[Answer] = &[
     ),
 ];
 
+const REFUSES: Trial = Trial::Answers(Answered {
+    calls: REFUSED,
+    bytes: &[],
+    records: &[],
+});
+
 #[test]
 fn refuses_calls_and_records_nothing(rt: HostRuntime) {
-    let w = RelocVec::new(rt.alloc(), Little);
-    assert_eq!(rt; first_unanswered(w, REFUSED, &[]), None);
+    let kind = Kind::Relocating(Little);
+    assert_eq!(rt; pass_over(rt.alloc(), kind, &REFUSES), Ok(true));
 }
 
 /// A record that both have, and one that the copy doesn't get.
 pub const FORKED: Fork = Fork {
     before: &[(Offset(1, SectionId::DebugStr, 2), Ok(()))],
-    own: (
-        &[(Offset(2, SectionId::DebugLine, 1), Ok(()))],
-        b"\0\0\0",
-        &[
+    own: Answered {
+        calls: &[(Offset(2, SectionId::DebugLine, 1), Ok(()))],
+        bytes: b"\0\0\0",
+        records: &[
             Relocation {
                 offset: 0,
                 size: 2,
@@ -247,16 +259,16 @@ pub const FORKED: Fork = Fork {
                 eh_pe: None,
             },
         ],
-    ),
-    copied: (
-        &[(U8(5), Ok(()))],
-        b"\0\0\x05",
-        &[Relocation {
+    },
+    copied: Answered {
+        calls: &[(U8(5), Ok(()))],
+        bytes: b"\0\0\x05",
+        records: &[Relocation {
             offset: 0,
             size: 2,
             target: RelocationTarget::Section(SectionId::DebugStr),
             addend: 1,
             eh_pe: None,
         }],
-    ),
+    },
 };

@@ -1,13 +1,12 @@
 //! Sections, the references that are fixed up in them, and lists of bytes.
 
-ghost use Rattle.std.specs.Prelude.{◌≡◌};
-
 use crate::calls::Call::{Offset, U8, U8At};
-use crate::calls::{Answer, FAULT, Held, first_wrong};
-use dw_base::{Error, LittleEndian, Result, RunTimeEndian, SectionId, UnitEntryId, UnitId};
+use crate::calls::{Answered, FAULT, Held, answers};
+use crate::trials::{Kind, Trial, pass_over};
+use dw_base::RunTimeEndian::Little;
+use dw_base::{Error, Result, SectionId, UnitEntryId, UnitId};
 use dw_writer::{
-    Bytes, DebugInfoFixup, EndianVec, FaultVec, FixupList, RelocVec, Relocation, RelocationTarget,
-    Section, Sections, Writer,
+    Bytes, DebugInfoFixup, FixupList, Relocation, RelocationTarget, Section, Sections, Writer,
 };
 use std::alloc::Global;
 
@@ -41,13 +40,19 @@ const NAMES: [&str; 11] = [
     ".eh_frame",
 ];
 
-/// Gives each section its number, so often as that tells: sections of different lengths.
+/// Writes the number of a section, so often as that tells.
+fn fill_one<W: Writer>(section: Option<&mut W>, id: SectionId) -> Result<()> {
+    let own = [id as u8; 16];
+    match section {
+        Some(section) => section.write(own.get(..id as usize).unwrap_or(&[])),
+        None => Ok(()),
+    }
+}
+
+/// Gives each section its number: sections of different lengths.
 fn fill<W: Writer>(sections: &mut Sections<W>) -> Result<()> {
     for id in WRITTEN {
-        let own = [id as u8; 16];
-        if let (Some(section), Some(own)) = (sections.get_mut(id), own.get(..id as usize)) {
-            section.write(own)?;
-        }
+        fill_one(sections.get_mut(id), id)?;
     }
     Ok(())
 }
@@ -133,11 +138,19 @@ fn visits_up_to<W: Writer + Held>(sections: &mut Sections<W>, index: usize) -> b
     is_filled && is_told && first_not_filled(sections, index).is_none() && has_each_fixup(sections)
 }
 
+/// Whether a section has the name of one at this place.
+fn is_named(id: SectionId, place: usize) -> bool {
+    match NAMES.get(place) {
+        Some(name) => *name == id.name(),
+        None => false,
+    }
+}
+
 /// Tells that sections are looked at in their order, and that a look at one fails where it should.
 fn looks_up_to<W: Writer>(sections: &Sections<W>, last: Option<SectionId>, wanted: usize) -> bool {
     let mut count = 0usize;
     let answer = sections.for_each(|id, section| {
-        let is_next = NAMES.get(count) == Some(&id.name()) && section.len() == 0;
+        let is_next = is_named(id, count) && section.len() == 0;
         count = count.saturating_add(1);
         if is_next && Some(id) != last {
             Ok(())
@@ -166,76 +179,26 @@ fn ids_of<W: Writer>(sections: &Sections<W>) -> [SectionId; 11] {
     ]
 }
 
-/// What two sections answer, and the bytes and records that the first has then.
-struct Calls {
-    line: &'static [Answer],
-    loc: &'static [Answer],
-    bytes: &'static [u8],
-    records: &'static [Relocation],
-}
-
-fn answers<W: Writer + Held>(sections: &mut Sections<W>, calls: &Calls) -> bool {
-    let line = first_wrong(sections.debug_line.section_mut(), calls.line);
-    let loc = first_wrong(sections.debug_loc.section_mut(), calls.loc);
-    let section = sections.debug_line.section();
-    line.is_none()
-        && loc.is_none()
-        && section.bytes() == calls.bytes
-        && section.records() == calls.records
-}
-
 /// What new sections are tried for.
-enum Trial {
+#[derive(Drop)]
+pub enum OfSections {
     /// They are those that are written, by their types.
     Written,
     Visit(usize),
     Look(Option<SectionId>, usize),
-    Answers(Calls),
+    /// What `.debug_line` and then `.debug_loc` answer.
+    Answers(Answered, Answered),
 }
 
-fn passes<W: Writer + Held>(sections: &mut Sections<W>, trial: &Trial) -> bool {
+/// Tells that new sections pass a trial.
+pub fn sections_pass<W: Writer + Held>(sections: &mut Sections<W>, trial: &OfSections) -> bool {
     match trial {
-        Trial::Written => ids_of(sections) == WRITTEN,
-        Trial::Visit(index) => visits_up_to(sections, *index),
-        Trial::Look(last, count) => looks_up_to(sections, *last, *count),
-        Trial::Answers(calls) => answers(sections, calls),
-    }
-}
-
-/// Tells that sections which each begin as a clone pass a trial.
-fn new_sections_pass<W: Writer + Clone + Held>(
-    alloc: Global,
-    section: W,
-    trial: &Trial,
-) -> Result<bool>
-    requires { (w : W) → W.is_clone section w → W.meaning w ≡ W.meaning section }
-{
-    let mut sections = Sections::new(alloc, section)?;
-    Ok(passes(&mut sections, trial))
-}
-
-/// What the sections are made of.
-#[derive(Clone, Copy)]
-enum Kind {
-    Plain,
-    Relocating,
-    /// The second call that writes fails.
-    Failing,
-}
-
-fn pass_over(alloc: Global, kind: Kind, trial: &Trial) -> Result<bool> {
-    match kind {
-        Kind::Plain => new_sections_pass(alloc, EndianVec::new(alloc, LittleEndian), trial),
-        Kind::Relocating => {
-            new_sections_pass(alloc, RelocVec::new(alloc, RunTimeEndian::Little), trial)
-        }
-        Kind::Failing => {
-            let calls = vec![in alloc; 1]?;
-            new_sections_pass(
-                alloc,
-                FaultVec::new(alloc, RunTimeEndian::Little, calls),
-                trial,
-            )
+        OfSections::Written => ids_of(sections) == WRITTEN,
+        OfSections::Visit(index) => visits_up_to(sections, *index),
+        OfSections::Look(last, count) => looks_up_to(sections, *last, *count),
+        OfSections::Answers(line, loc) => {
+            answers(sections.debug_line.section_mut(), line)
+                && answers(sections.debug_loc.section_mut(), loc)
         }
     }
 }
@@ -248,44 +211,60 @@ const RECORD: Relocation = Relocation {
     eh_pe: None,
 };
 
+/// A kind of writers, and what sections of it are tried for.
 const TRIALS: &[(Kind, Trial)] = &[
-    (Kind::Plain, Trial::Written),
-    (Kind::Plain, Trial::Look(None, 11)),
-    (Kind::Plain, Trial::Look(Some(SectionId::DebugLine), 4)),
-    (Kind::Plain, Trial::Visit(0)),
-    (Kind::Plain, Trial::Visit(1)),
-    (Kind::Plain, Trial::Visit(2)),
-    (Kind::Plain, Trial::Visit(3)),
-    (Kind::Plain, Trial::Visit(4)),
-    (Kind::Plain, Trial::Visit(5)),
-    (Kind::Plain, Trial::Visit(6)),
-    (Kind::Plain, Trial::Visit(7)),
-    (Kind::Plain, Trial::Visit(8)),
-    (Kind::Plain, Trial::Visit(9)),
-    (Kind::Plain, Trial::Visit(10)),
-    (Kind::Plain, Trial::Visit(11)),
+    (Kind::Little, Trial::Sections(OfSections::Written)),
+    (Kind::Little, Trial::Sections(OfSections::Look(None, 11))),
+    (
+        Kind::Little,
+        Trial::Sections(OfSections::Look(Some(SectionId::DebugLine), 4)),
+    ),
+    (Kind::Little, Trial::Sections(OfSections::Visit(0))),
+    (Kind::Little, Trial::Sections(OfSections::Visit(1))),
+    (Kind::Little, Trial::Sections(OfSections::Visit(2))),
+    (Kind::Little, Trial::Sections(OfSections::Visit(3))),
+    (Kind::Little, Trial::Sections(OfSections::Visit(4))),
+    (Kind::Little, Trial::Sections(OfSections::Visit(5))),
+    (Kind::Little, Trial::Sections(OfSections::Visit(6))),
+    (Kind::Little, Trial::Sections(OfSections::Visit(7))),
+    (Kind::Little, Trial::Sections(OfSections::Visit(8))),
+    (Kind::Little, Trial::Sections(OfSections::Visit(9))),
+    (Kind::Little, Trial::Sections(OfSections::Visit(10))),
+    (Kind::Little, Trial::Sections(OfSections::Visit(11))),
     // The other section has no byte to be patched.
     (
-        Kind::Relocating,
-        Trial::Answers(Calls {
-            line: &[
-                (Offset(5, SectionId::DebugAbbrev, 4), Ok(())),
-                (U8(8), Ok(())),
-            ],
-            loc: &[(U8At(0, 1), Err(Error::LengthOutOfBounds))],
-            bytes: b"\0\0\0\0\x08",
-            records: &[RECORD],
-        }),
+        Kind::Relocating(Little),
+        Trial::Sections(OfSections::Answers(
+            Answered {
+                calls: &[
+                    (Offset(5, SectionId::DebugAbbrev, 4), Ok(())),
+                    (U8(8), Ok(())),
+                ],
+                bytes: b"\0\0\0\0\x08",
+                records: &[RECORD],
+            },
+            Answered {
+                calls: &[(U8At(0, 1), Err(Error::LengthOutOfBounds))],
+                bytes: b"",
+                records: &[],
+            },
+        )),
     ),
-    // Each section counts its own calls.
+    // Each section counts its own calls, of which the second one that writes fails.
     (
-        Kind::Failing,
-        Trial::Answers(Calls {
-            line: &[(U8(1), Ok(())), (U8(2), FAULT)],
-            loc: &[(U8(3), Ok(()))],
-            bytes: b"\x01",
-            records: &[],
-        }),
+        Kind::Failing(Little, &[1]),
+        Trial::Sections(OfSections::Answers(
+            Answered {
+                calls: &[(U8(1), Ok(())), (U8(2), FAULT)],
+                bytes: b"\x01",
+                records: &[],
+            },
+            Answered {
+                calls: &[(U8(3), Ok(()))],
+                bytes: b"\x03",
+                records: &[],
+            },
+        )),
     ),
 ];
 

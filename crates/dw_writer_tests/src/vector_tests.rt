@@ -1,13 +1,12 @@
 //! Plain vectors and vectors of faults: what they hold, what they refuse, and their copies.
 
-ghost use Rattle.std.specs.Prelude.{◌≡◌, IfOk};
-
 use crate::calls::Call::{
     Address, Bytes, BytesAt, Length, LengthAt, Offset, OffsetAt, Pointer, Reference, Sdata,
     Sleb128, U8, U8At, U16, U16At, U32, U32At, U64, U64At, U128, Udata, UdataAt, Uleb128,
 };
-use crate::calls::{Answer, Call, FAULT, Held, SYMBOL, first_unanswered, first_wrong, leaves};
+use crate::calls::{Answer, Answered, Call, FAULT, Left, SYMBOL};
 use crate::relocation_tests::FORKED;
+use crate::trials::{Fork, Kind, Trial, pass_over};
 use dw_base::Address::Constant;
 use dw_base::RunTimeEndian::{Big, Little};
 use dw_base::constants::{
@@ -15,9 +14,7 @@ use dw_base::constants::{
     DW_EH_PE_sleb128, DW_EH_PE_textrel, DW_EH_PE_udata2, DW_EH_PE_udata4, DW_EH_PE_udata8,
     DW_EH_PE_uleb128,
 };
-use dw_base::{BigEndian, DwEhPe, Error, Format, LittleEndian, Result, RunTimeEndian, SectionId};
-use dw_writer::{EndianVec, FaultVec, RelocVec, Relocation, Writer};
-use std::alloc::{AllocError, Global};
+use dw_base::{DwEhPe, Error, Format, RunTimeEndian, SectionId};
 
 /// Bytes, a number of each width, numbers by their widths, and LEB128; a length, an address and
 /// offsets; and then each call that patches.
@@ -152,29 +149,27 @@ fn held() -> &'static [(RunTimeEndian, &'static [Call], &'static [u8])] {
     HELD
 }
 
-/// Tells that calls leave these bytes in a vector whose order is chosen when the program is built.
-fn leaves_in_order(alloc: Global, order: RunTimeEndian, calls: &[Call], bytes: &[u8]) -> bool {
-    match order {
-        Big => leaves(EndianVec::new(alloc, BigEndian), calls, bytes, &[]),
-        Little => leaves(EndianVec::new(alloc, LittleEndian), calls, bytes, &[]),
-    }
-}
-
-/// Tells that calls leave these bytes in each vector that records nothing.
-fn leave(alloc: Global, order: RunTimeEndian, calls: &[Call], bytes: &[u8]) -> [bool; 3] {
-    let no_faults = Vec::new(alloc);
-    [
-        leaves(FaultVec::new(alloc, order, no_faults), calls, bytes, &[]),
-        leaves(EndianVec::new(alloc, order), calls, bytes, &[]),
-        leaves_in_order(alloc, order, calls, bytes),
-    ]
+/// The vectors of an order that record nothing: the last one has its order when the program is
+/// built.
+fn kinds(order: RunTimeEndian) -> [Kind; 3] {
+    let fixed = match order {
+        Big => Kind::Big,
+        Little => Kind::Little,
+    };
+    [Kind::Failing(order, &[]), Kind::Plain(order), fixed]
 }
 
 #[test]
 fn holds_what_calls_leave(rt: HostRuntime) {
     for (i, (order, calls, bytes)) in held().iter().enumerate() {
-        let held = leave(rt.alloc(), *order, calls, bytes);
-        assert_eq!(rt; held, [true; 3], "at {i}");
+        let trial = Trial::Leaves(Left {
+            calls,
+            bytes,
+            records: &[],
+        });
+        for kind in kinds(*order) {
+            assert_eq!(rt; pass_over(rt.alloc(), kind, &trial), Ok(true), "at {i}");
+        }
     }
 }
 
@@ -219,48 +214,17 @@ const REFUSED: &[Answer] = &[
     ),
 ];
 
-/// The first calls that are answered otherwise by the vectors that record nothing.
-fn unanswered(alloc: Global) -> [Option<usize>; 2] {
-    let no_faults = Vec::new(alloc);
-    [
-        first_unanswered(FaultVec::new(alloc, Big, no_faults), REFUSED, &[0; 4]),
-        first_unanswered(EndianVec::new(alloc, Big), REFUSED, &[0; 4]),
-    ]
-}
+const REFUSES: Trial = Trial::Answers(Answered {
+    calls: REFUSED,
+    bytes: &[0; 4],
+    records: &[],
+});
 
 #[test]
 fn refuses_calls_and_adds_nothing(rt: HostRuntime) {
-    assert_eq!(rt; unanswered(rt.alloc()), [None, None]);
-}
-
-/// A copy under a bound, which promises that clones are the same writers.
-fn copy_of<W: Writer + Clone>(w: &W) -> std::result::Result<W, AllocError>
-    requires { (s n : W) → W.is_clone s n → W.meaning n ≡ W.meaning s }
-    ensures { IfOk result (λ n. W.meaning n ≡ W.meaning w.now) }
-{
-    w.clone()
-}
-
-/// Calls of a writer, those of a copy that is made behind the first ones, and what each has then.
-pub struct Fork {
-    pub before: &'static [Answer],
-    pub own: (&'static [Answer], &'static [u8], &'static [Relocation]),
-    pub copied: (&'static [Answer], &'static [u8], &'static [Relocation]),
-}
-
-/// Tells that a writer and its copy answer what they should, and get their own bytes and records.
-fn forks<W: Writer + Clone + Held>(mut w: W, fork: &Fork) -> std::result::Result<bool, AllocError>
-    requires { (s n : W) → W.is_clone s n → W.meaning n ≡ W.meaning s }
-{
-    let before = first_wrong(&mut w, fork.before);
-    let mut copy = copy_of(&w)?;
-    let (calls, bytes, records) = fork.own;
-    let own = first_wrong(&mut w, calls).is_none() && w.bytes() == bytes && w.records() == records;
-    let (calls, bytes, records) = fork.copied;
-    let copied = first_wrong(&mut copy, calls).is_none()
-        && copy.bytes() == bytes
-        && copy.records() == records;
-    Ok(before.is_none() && own && copied)
+    for kind in [Kind::Failing(Big, &[]), Kind::Plain(Big)] {
+        assert_eq!(rt; pass_over(rt.alloc(), kind, &REFUSES), Ok(true));
+    }
 }
 
 const PATCHED: Fork = Fork {
@@ -268,21 +232,21 @@ const PATCHED: Fork = Fork {
         (Address(Constant(0x1234), 8), Ok(())),
         (Offset(0x56, SectionId::DebugStr, 4), Ok(())),
     ],
-    own: (
-        &[
+    own: Answered {
+        calls: &[
             (OffsetAt(8, 0x78, SectionId::DebugStr, 4), Ok(())),
             (UdataAt(0, 0x9abc, 2), Ok(())),
             (U16At(2, 0x0102), Ok(())),
             (U8At(4, 0x03), Ok(())),
         ],
-        b"\xbc\x9a\x02\x01\x03\0\0\0\x78\0\0\0",
-        &[],
-    ),
-    copied: (
-        &[(U16(0x0304), Ok(()))],
-        b"\x34\x12\0\0\0\0\0\0\x56\0\0\0\x04\x03",
-        &[],
-    ),
+        bytes: b"\xbc\x9a\x02\x01\x03\0\0\0\x78\0\0\0",
+        records: &[],
+    },
+    copied: Answered {
+        calls: &[(U16(0x0304), Ok(()))],
+        bytes: b"\x34\x12\0\0\0\0\0\0\x56\0\0\0\x04\x03",
+        records: &[],
+    },
 };
 
 /// Of the calls that write bytes, those with the numbers 0, 3, 5 and 6 fail. A call whose width is
@@ -297,28 +261,37 @@ const FAILING: Fork = Fork {
         (U8At(0, 9), FAULT),
         (Offset(7, SectionId::DebugStr, 1), Ok(())),
     ],
-    own: (
-        &[
+    own: Answered {
+        calls: &[
             (OffsetAt(0, 9, SectionId::DebugStr, 1), FAULT),
             (Address(Constant(9), 1), FAULT),
             (U8At(0, 9), Ok(())),
         ],
-        b"\x09\x02\x07",
-        &[],
-    ),
-    copied: (&[(Uleb128(0), FAULT)], b"\x01\x02\x07", &[]),
+        bytes: b"\x09\x02\x07",
+        records: &[],
+    },
+    copied: Answered {
+        calls: &[(Uleb128(0), FAULT)],
+        bytes: b"\x01\x02\x07",
+        records: &[],
+    },
 };
 
-/// Whether writers of each kind and their copies are apart.
-fn copies(alloc: Global) -> Result<[bool; 3]> {
-    let plain = forks(EndianVec::new(alloc, LittleEndian), &PATCHED)?;
-    let relocating = forks(RelocVec::new(alloc, Big), &FORKED)?;
-    let calls = vec![in alloc; 0, 3, 5, 6]?;
-    let faulty = forks(FaultVec::new(alloc, Big, calls), &FAILING)?;
-    Ok([plain, relocating, faulty])
+/// Writers of each kind, whose copies are apart.
+const COPIED: &[(Kind, Trial)] = &[
+    (Kind::Little, Trial::Forks(PATCHED)),
+    (Kind::Relocating(Big), Trial::Forks(FORKED)),
+    (Kind::Failing(Big, &[0, 3, 5, 6]), Trial::Forks(FAILING)),
+];
+
+/// The table, into which no other proof looks.
+fn copied() -> &'static [(Kind, Trial)] {
+    COPIED
 }
 
 #[test]
 fn copies_are_apart(rt: HostRuntime) {
-    assert_eq!(rt; copies(rt.alloc()), Ok([true; 3]));
+    for (i, (kind, trial)) in copied().iter().enumerate() {
+        assert_eq!(rt; pass_over(rt.alloc(), *kind, trial), Ok(true), "at {i}");
+    }
 }
