@@ -15,12 +15,12 @@ use Rattle.dw_entries.specs.Entries.{EntryValue}
 use Rattle.dw_entries.specs.Targets.{Tables}
 use Rattle.dw_lists.specs.declared.location.Location.{Location}
 use Rattle.dw_lists.specs.Items.{is_five}
-use Rattle.dw_lists.specs.Tables.{Offsets as ListOffsets, offsets_from, locations_in, IsReadAgain}
+use Rattle.dw_lists.specs.Tables.{Offsets as ListOffsets, offsets_from, locations_in, locations_of, IsReadAgain}
+use Rattle.dw_unit.specs.AddedTree.{AddsPlacedTree, TreeRefused, KeepsAllButUnit}
 use Rattle.dw_unit.specs.Causes.{Because, Is, TreeFails}
 use Rattle.dw_unit.specs.Early.{tree_is_forward}
 use Rattle.dw_unit.specs.Elsewhere.{OwnPlaces, PartPlaces, with_locations, tables_in, tree_tables}
 use Rattle.dw_unit.specs.Locations.{places_in_tree, lists_draft, lists_part, lists_fail_in, ListsFail, DraftLocations, AppendsLists, KeepsAllButLocations}
-use Rattle.dw_unit.specs.Pending.{kept_in, starts_of, PendsTree}
 use Rattle.dw_unit.specs.Places.{placement_of, known_at}
 use Rattle.dw_unit.specs.Whole.{IsTreePlacement}
 use Rattle.dw_unit.specs.Written.{KeepsAllButTree}
@@ -65,12 +65,6 @@ module _ (e : Encoding) (es : List EntryValue) (places : Places) (early : (err :
       by_version true is p q = subst (λ b. IsDraft (if b then d else no_draft)) is q
       by_version false is p q = subst (λ b. IsDraft (if not b then d else no_draft)) is p
 
--- a tree without places, or one that is faulty
-pub tree_cause : (rise : Type 0) (e : Encoding) (es : List EntryValue) (xs : List (List Location)) (has_base plain : Bool) (t : Tables) (table : ℕ) (tree_plain : Bool) (err : Error) → Because rise (TreeFails e es t table tree_plain) err →
-    Because rise (λ x. ListsFail e es xs has_base plain x ⊎ TreeFails e es t table tree_plain x) err
-tree_cause rise e es xs has_base plain t table tree_plain err h =
-    because-map {p = TreeFails e es t table tree_plain} {q = λ x. ListsFail e es xs has_base plain x ⊎ TreeFails e es t table tree_plain x} (λ r. r) (λ x k. inr k) err h
-
 module _ {W : Type 0} (meaning : W → Meaning) (old mid new : Sections W) (others : KeepsAllButLocations old mid) where
   -- a fault behind location lists is one since before them
   pub rises_after : (d : Bool → Draft) → DraftLocations meaning old mid d → SomeHasRisen meaning mid new → SomeHasRisen meaning old new
@@ -85,13 +79,29 @@ module _ {W : Type 0} (meaning : W → Meaning) (old mid new : Sections W) (othe
           record { id = DebugLocLists; before = old.debug_loclists.0; after = a; was = refl; is = is; risen = HasRisen-from (meaning old.debug_loclists.0) (meaning mid.debug_loclists.0) (meaning a) drafts.location_lists.text.same.faults (subst (λ w. HasRisen (meaning w) (meaning a)) (sym same) r) }
       by_id id b a was is r = record { id = id; before = b; after = a; was = sym (ap (λ (s : Sections W). section_of s id) others) ∙ was; is = is; risen = r }
 
-  -- a tree that is pending behind them
-  pub pends_after : (e : Encoding) (es : List EntryValue) (t : Tables) (places : Places) → PendsTree meaning mid new e es t (kept_in (starts_of meaning mid) places) → PendsTree meaning old new e es t (kept_in (starts_of meaning old) places)
-  pends_after e es t places p =
-      let q = subst (λ (s : Sections W). PendsTree meaning s new e es t (kept_in (starts_of meaning s) places)) others p in
-      record { stands = q.stands; unit = q.unit; table = q.table; there = q.there }
+  -- what a tree comes to behind them, whose operands lead to what they left
+  module _ (e : Encoding) (es : List EntryValue) (own t : Tables) (own_is : own ≡ t) where
+    pub placed_after : (places : Places) → AddsPlacedTree meaning mid new e es own places → AddsPlacedTree meaning old new e es t places
+    placed_after places h =
+        let named = subst (λ x. AddsPlacedTree meaning mid new e es x places) own_is h in
+        let q = subst (λ (s : Sections W). AddsPlacedTree meaning s new e es t places) others named in
+        record {
+          unit = record { stands = q.unit.stands; unit = q.unit.unit; table = q.unit.table; there = q.unit.there };
+          room = q.room;
+          writable = q.writable;
+          place = q.place;
+        }
 
-  module _ (kept : new ≡ record mid { debug_abbrev = new.debug_abbrev; debug_info = new.debug_info; debug_info_fixups = new.debug_info_fixups }) where
+    -- and why it is refused
+    pub refused_after : (d : Bool → Draft) → DraftLocations meaning old mid d → (xs : List (List Location)) (has_base : Bool) (err : Error) →
+        Because (SomeHasRisen meaning mid new) (TreeFails e es own (meaning mid.debug_abbrev.0).size (meaning mid.debug_info.0).is_plain) err → TreeRefused meaning old new e es t xs has_base err
+    refused_after d drafts xs has_base err h =
+        let named = subst (λ x. Because (SomeHasRisen meaning mid new) (TreeFails e es x (meaning mid.debug_abbrev.0).size (meaning mid.debug_info.0).is_plain) err) own_is h in
+        let behind = subst (λ (s : Sections W). Because (SomeHasRisen meaning mid new) (TreeFails e es t (meaning s.debug_abbrev.0).size (meaning s.debug_info.0).is_plain) err) others named in
+        let fails = TreeFails e es t (meaning old.debug_abbrev.0).size (meaning old.debug_info.0).is_plain in
+        because-map {p = fails} {q = λ x. ListsFail e es xs has_base (locations_of meaning e old).is_plain x ⊎ fails x} (rises_after d drafts) (λ x k. inr k) err behind
+
+  module _ (kept : KeepsAllButUnit mid new) where
     -- they stay as they are
     pub lists_after : (e : Encoding) (es : List EntryValue) (xs : List (List Location)) → AppendsLists meaning old mid e es xs → AppendsLists meaning old new e es xs
     lists_after e es xs p =

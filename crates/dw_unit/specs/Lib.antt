@@ -23,5 +23,6 @@ pub mod Filled
 pub mod Valid
 pub mod Causes
 pub mod Written
+pub mod AddedTree
 pub mod Alone
 pub mod TableLends

@@ -1,28 +1,23 @@
 //! A compile unit with its entries, and the table of its abbreviations.
 
-ghost use Rattle.std.specs.Prelude.{true, ◌≡◌, ◌⊎◌, ◌≢◌, ◌≤◌, ◌<◌, ◌+◌, ◌^◌, ℕ, length, map, IsTrue, IsFalse, OnOk, IfOk, IfErr};
-ghost use Rattle.dw_base.specs.Numbers.{is_width, length_fits, word_of};
-ghost use Rattle.dw_base.specs.declared.error.Error.{Error as AnError};
-ghost use Rattle.dw_writer.specs.Causes.{offset_fits};
-ghost use Rattle.dw_writer.specs.Drafts.{Drafts};
+ghost use Rattle.std.specs.Prelude.{true, ◌≡◌, ◌≢◌, ◌≤◌, ℕ, length, map, IsTrue, OnOk, IfOk, IfErr};
+ghost use Rattle.dw_base.specs.Numbers.{is_width};
 ghost use Rattle.dw_writer.specs.Meaning.{IsSameWriter};
 ghost use Rattle.dw_writer.specs.Sections.{SomeHasRisen, fault_sum};
 ghost use Rattle.dw_entries.specs.Arena.{AreLinked};
 ghost use Rattle.dw_entries.specs.Entries.{entry_at};
 ghost use Rattle.dw_entries.specs.Tree.{AreIn, marks, preorder};
+ghost use Rattle.dw_unit.specs.AddedTree.{AddsUnit, AddsPlacedTree, AddsTree, TreeRefused, KeepsAllButUnit};
 ghost use Rattle.dw_unit.specs.Causes.{Because, Refused, Is, TreeFails};
 ghost use Rattle.dw_unit.specs.Coded.{code_at};
-ghost use Rattle.dw_unit.specs.Pending.{AreMarksRanged, PendsTree, kept_in, starts_of};
-ghost use Rattle.dw_unit.specs.PlacedTree.{IsPlacedTree};
+ghost use Rattle.dw_unit.specs.PlacedTree.{ArePlaced, IsPlacedTree};
 ghost use Rattle.dw_unit.specs.Places.{placement_of, known_at, FitsWords};
 ghost use Rattle.dw_lists.specs.Tables.{IsReadAgain, offsets_from, locations_in, locations_of};
 ghost use Rattle.dw_line.specs.Parts.{NoCause};
 ghost use Rattle.dw_unit.specs.Elsewhere.{tree_tables};
-ghost use Rattle.dw_unit.specs.Locations.{places_in_tree, lists_part, lists_fail_in, ListsFail, DraftLocations, AppendsLists, KeepsAllButLocations};
-ghost use Rattle.dw_unit.specs.TargetsAt.{placement_at, targets_at};
+ghost use Rattle.dw_unit.specs.Locations.{lists_part, lists_fail_in, DraftLocations, KeepsAllButLocations};
+ghost use Rattle.dw_unit.specs.TargetsAt.{placement_at, tables_at, targets_at};
 ghost use Rattle.dw_unit.specs.UnitFaults.{is_encodable, unit_fails};
-ghost use Rattle.dw_unit.specs.UnitText.{tree_draft, unit_draft, unit_length};
-ghost use Rattle.dw_unit.specs.Valid.{IsWritableTree};
 ghost use Rattle.dw_unit.specs.Whole.{tree_shapes};
 ghost use Rattle.dw_unit.specs.Written.{KeepsAllButTree};
 
@@ -56,21 +51,13 @@ fn write_compile_unit<W: Writer>(
     requires codes { codes.now
         ≡ map (code_at encoding entries.now (tree_shapes encoding entries.now)) (marks items.now) }
     ensures ok { OnOk result
-        (Drafts (W.meaning w.old) (W.meaning w.new) fixups.old fixups.new
-        (unit_draft encoding table (tree_draft encoding entries.now (targets_at targets.now)))) }
-    ensures fits { OnOk result
-        (IsTrue (length_fits encoding.format (unit_length encoding
-        (tree_draft encoding entries.now (targets_at targets.now)).size))) }
-    ensures ranged { OnOk result (AreMarksRanged encoding entries.now (preorder entries.now)) }
-    ensures sound { OnOk result
-        ((e : AnError) → IsFalse (unit_fails encoding entries.now table (targets_at targets.now)
-        (W.meaning w.old).is_plain e)) }
+        (AddsUnit (W.meaning w.old) (W.meaning w.new) fixups.old fixups.new encoding entries.now
+        table (targets_at targets.now)) }
     ensures err { IfErr result
         (Refused (W.meaning w.old) (W.meaning w.new)
         (Is (unit_fails encoding entries.now table (targets_at targets.now)
         (W.meaning w.old).is_plain))) }
     ensures same { IsSameWriter (W.meaning w.old) (W.meaning w.new) }
-    ensures room { OnOk result ((W.meaning w.new).size < 2 ^ 64) }
 {
     let place = w.write_initial_length(encoding.format)?;
     let start = w.len();
@@ -110,9 +97,49 @@ fn write_locations<W: Writer>(
     locations.write(sections, encoding, has_base_address, Some(places))
 }
 
+/// Adds a unit of a tree to `.debug_info`, and the table of its abbreviations to `.debug_abbrev`.
+/// Its operands lead there.
+fn write_placed_tree<W: Writer>(
+    encoding: Encoding,
+    entries: &[DebuggingInformationEntry],
+    tree: &PlacedTree,
+    targets: &Targets<'_>,
+    sections: &mut Sections<W>,
+) -> Result<()>
+    requires encodable { IsTrue (is_encodable encoding) }
+    requires tree { IsPlacedTree encoding entries.now tree.now }
+    requires rooted { (entry_at entries.now 0).tag ≢ 0 }
+    requires placed { ArePlaced encoding entries.now targets.now.places.now }
+    ensures ok { OnOk result
+        (AddsPlacedTree W.meaning sections.old sections.new encoding entries.now
+        (tables_at targets.now) targets.now.places.now) }
+    ensures err { IfErr result
+        (Because (SomeHasRisen W.meaning sections.old sections.new)
+        (TreeFails encoding entries.now (tables_at targets.now)
+        (W.meaning sections.old.debug_abbrev.0).size
+        (W.meaning sections.old.debug_info.0).is_plain)) }
+    ensures others { KeepsAllButUnit sections.old sections.new }
+    ensures faults { fault_sum W.meaning sections.old ≤ fault_sum W.meaning sections.new }
+{
+    let place = sections.debug_abbrev.0.len();
+    tree.codes.table.write(&mut sections.debug_abbrev)?;
+    let items = tree.items.as_slice();
+    let codes = tree.codes.codes.as_slice();
+    write_compile_unit(
+        encoding,
+        place,
+        entries,
+        items,
+        codes,
+        targets,
+        &mut sections.debug_info.0,
+        &mut sections.debug_info_fixups,
+    )
+}
+
 /// Adds a unit of a tree to `.debug_info`, and to other sections the table of its abbreviations and
 /// its location lists, which stand before it.
-fn write_placed_tree<W: Writer>(
+fn write_located_tree<W: Writer>(
     encoding: Encoding,
     entries: &[DebuggingInformationEntry],
     tree: &PlacedTree,
@@ -126,36 +153,18 @@ fn write_placed_tree<W: Writer>(
     requires encodable { IsTrue (is_encodable encoding) }
     requires tree { IsPlacedTree encoding entries.now tree.now }
     requires rooted { (entry_at entries.now 0).tag ≢ 0 }
-    ensures unit { let at = (locations_of W.meaning encoding sections.old).size in
+    ensures ok { let at = (locations_of W.meaning encoding sections.old).size in
         let tables = tree_tables encoding entries.now parts locations.now at line_strings.now
         strings.now in
         OnOk result
-        (PendsTree W.meaning sections.old sections.new encoding entries.now tables
-        (kept_in (starts_of W.meaning sections.old) tree.now.places)) }
-    ensures lists { OnOk result
-        (AppendsLists W.meaning sections.old sections.new encoding entries.now locations.now) }
-    ensures lists_sound { OnOk result
-        (NoCause (lists_fail_in encoding (places_in_tree encoding entries.now) locations.now
-        has_base_address (locations_of W.meaning encoding sections.old).is_plain)) }
-    ensures room { OnOk result
-        ((W.meaning sections.old.debug_info.0).size + tree.now.places.end < 2 ^ 64) }
-    ensures writable { let at = (locations_of W.meaning encoding sections.old).size in
+        (AddsTree W.meaning sections.old sections.new encoding entries.now tables locations.now
+        has_base_address tree.now.places) }
+    ensures err { let at = (locations_of W.meaning encoding sections.old).size in
         let tables = tree_tables encoding entries.now parts locations.now at line_strings.now
         strings.now in
-        OnOk result
-        (IsWritableTree (W.meaning sections.old.debug_info.0).is_plain encoding entries.now
-        tables) }
-    ensures place { OnOk result
-        (IsTrue (offset_fits (W.meaning sections.old.debug_info.0).is_plain
-        (word_of encoding.format) (W.meaning sections.old.debug_abbrev.0).size)) }
-    ensures err { let lists = locations_of W.meaning encoding sections.old in
-        let tables = tree_tables encoding entries.now parts locations.now lists.size
-        line_strings.now strings.now in
         IfErr result
-        (Because (SomeHasRisen W.meaning sections.old sections.new)
-        (λ e. ListsFail encoding entries.now locations.now has_base_address lists.is_plain e
-        ⊎ TreeFails encoding entries.now tables (W.meaning sections.old.debug_abbrev.0).size
-        (W.meaning sections.old.debug_info.0).is_plain e)) }
+        (TreeRefused W.meaning sections.old sections.new encoding entries.now tables locations.now
+        has_base_address) }
     ensures others { KeepsAllButTree sections.old sections.new }
     ensures faults { fault_sum W.meaning sections.old ≤ fault_sum W.meaning sections.new }
 {
@@ -173,21 +182,7 @@ fn write_placed_tree<W: Writer>(
         line_strings,
         strings,
     };
-    let place = sections.debug_abbrev.0.len();
-    tree.codes.table.write(&mut sections.debug_abbrev)?;
-    let items = tree.items.as_slice();
-    let codes = tree.codes.codes.as_slice();
-    write_compile_unit(
-        encoding,
-        place,
-        entries,
-        items,
-        codes,
-        &targets,
-        &mut sections.debug_info.0,
-        &mut sections.debug_info_fixups,
-    )?;
-    Ok(())
+    write_placed_tree(encoding, entries, tree, &targets, sections)
 }
 
 /// Adds a unit with its entries to `.debug_info`, the table of its abbreviations to
@@ -207,42 +202,24 @@ pub(crate) fn write_tree<W: Writer>(
     requires encodable { IsTrue (is_encodable encoding) }
     requires linked { AreLinked entries.now }
     requires rooted { (entry_at entries.now 0).tag ≢ 0 }
-    ensures unit { let at = (locations_of W.meaning encoding sections.old).size in
+    ensures ok { let at = (locations_of W.meaning encoding sections.old).size in
         let tables = tree_tables encoding entries.now parts locations.now at line_strings.now
         strings.now in
         IfOk result
-        (λ p. PendsTree W.meaning sections.old sections.new encoding entries.now tables
-        (kept_in (starts_of W.meaning sections.old) p)) }
-    ensures lists { OnOk result
-        (AppendsLists W.meaning sections.old sections.new encoding entries.now locations.now) }
-    ensures lists_sound { OnOk result
-        (NoCause (lists_fail_in encoding (places_in_tree encoding entries.now) locations.now
-        has_base_address (locations_of W.meaning encoding sections.old).is_plain)) }
-    ensures room { IfOk result
-        (λ p. (W.meaning sections.old.debug_info.0).size + p.end < 2 ^ 64) }
+        (AddsTree W.meaning sections.old sections.new encoding entries.now tables locations.now
+        has_base_address) }
     ensures bounded { IfOk result (λ p. (i : ℕ) → (placement_of p).place i ≤ p.end) }
-    ensures writable { let at = (locations_of W.meaning encoding sections.old).size in
+    ensures err { let at = (locations_of W.meaning encoding sections.old).size in
         let tables = tree_tables encoding entries.now parts locations.now at line_strings.now
         strings.now in
-        OnOk result
-        (IsWritableTree (W.meaning sections.old.debug_info.0).is_plain encoding entries.now
-        tables) }
-    ensures place { OnOk result
-        (IsTrue (offset_fits (W.meaning sections.old.debug_info.0).is_plain
-        (word_of encoding.format) (W.meaning sections.old.debug_abbrev.0).size)) }
-    ensures err { let lists = locations_of W.meaning encoding sections.old in
-        let tables = tree_tables encoding entries.now parts locations.now lists.size
-        line_strings.now strings.now in
         IfErr result
-        (Because (SomeHasRisen W.meaning sections.old sections.new)
-        (λ e. ListsFail encoding entries.now locations.now has_base_address lists.is_plain e
-        ⊎ TreeFails encoding entries.now tables (W.meaning sections.old.debug_abbrev.0).size
-        (W.meaning sections.old.debug_info.0).is_plain e)) }
+        (TreeRefused W.meaning sections.old sections.new encoding entries.now tables locations.now
+        has_base_address) }
     ensures others { KeepsAllButTree sections.old sections.new }
     ensures faults { fault_sum W.meaning sections.old ≤ fault_sum W.meaning sections.new }
 {
     let tree = place_tree(alloc, encoding, entries)?;
-    write_placed_tree(
+    write_located_tree(
         encoding,
         entries,
         &tree,

@@ -21,40 +21,25 @@ write_items-requires-clause-codes g c =
 pub returns-clause-ok : goal.returns-clause-ok
 returns-clause-ok g c =
     let e = c.args.encoding in
+    let es = c.args.entries.now in
     let u = targets_at c.args.targets.now in
+    let ms = marks c.args.items.now in
+    let plain = (g.W.Writer.meaning c.args.w.now).is_plain in
     let fields = c.in_ok-write_fields.ensures.ok in
-    let body = tree_drafted e c.args.entries.now u (marks c.args.items.now) c.requires.tree c.in_ok-write_items.ensures.ok in
+    let body = tree_drafted e es u ms c.requires.tree c.in_ok-write_items.ensures.ok in
     let long = unit_length_is e c.args.table c.len.result c.len-start.result fields body c.len.ensures c.len-start.ensures in
     let patch = rw (c.in_ok-place.ensures.place, long) at c.write_initial_length_at.ensures.ok in
     let fits = rw long at c.write_initial_length_at.ensures.fits in
-    OnOk-both c.write_initial_length_at.result fits patch (λ fit last. unit_drafted e c.args.table c.in_ok-place.ensures.ok fields body fit last)
-
-pub returns-clause-fits : goal.returns-clause-fits
-returns-clause-fits g c =
-    let e = c.args.encoding in
-    let u = targets_at c.args.targets.now in
-    let fields = c.in_ok-write_fields.ensures.ok in
-    let body = tree_drafted e c.args.entries.now u (marks c.args.items.now) c.requires.tree c.in_ok-write_items.ensures.ok in
-    let long = unit_length_is e c.args.table c.len.result c.len-start.result fields body c.len.ensures c.len-start.ensures in
-    rw long at c.write_initial_length_at.ensures.fits
-
-pub returns-clause-ranged : goal.returns-clause-ranged
-returns-clause-ranged g c =
-    let ranged = subst (AreMarksRanged c.args.encoding c.args.entries.now) c.requires.tree c.in_ok-write_items.ensures.ranged in
-    OnOk-map c.write_initial_length_at.result c.write_initial_length_at.ensures.ok (λ last. ranged)
-
-pub returns-clause-sound : goal.returns-clause-sound
-returns-clause-sound g c =
-    let e = c.args.encoding in
-    let es = c.args.entries.now in
-    let u = targets_at c.args.targets.now in
-    let plain = (g.W.Writer.meaning c.args.w.now).is_plain in
-    let body = tree_drafted e es u (marks c.args.items.now) c.requires.tree c.in_ok-write_items.ensures.ok in
-    let long = unit_length_is e c.args.table c.len.result c.len-start.result c.in_ok-write_fields.ensures.ok body c.len.ensures c.len-start.ensures in
-    let fields = rw (c.in_ok-place.ensures.same.kind) at c.in_ok-write_fields.ensures.sound in
+    let fields_sound = rw (c.in_ok-place.ensures.same.kind) at c.in_ok-write_fields.ensures.sound in
     let marks_sound = rw (c.in_ok-write_fields.ensures.same.kind, c.in_ok-place.ensures.same.kind) at c.in_ok-write_items.ensures.sound in
-    let fits = rw long at c.write_initial_length_at.ensures.fits in
-    OnOk-map c.write_initial_length_at.result fits (λ fit. unit_sound e es c.args.table u plain (marks c.args.items.now) c.requires.tree fields fit marks_sound)
+    OnOk-both c.write_initial_length_at.result fits patch
+    (λ fit last. record {
+      draft = unit_drafted e c.args.table c.in_ok-place.ensures.ok fields body fit last;
+      fits = fit;
+      ranged = subst (AreMarksRanged e es) c.requires.tree c.in_ok-write_items.ensures.ranged;
+      sound = unit_sound e es c.args.table u plain ms c.requires.tree fields_sound fit marks_sound;
+      room = omega (arith, last.size, c.len.ensures);
+    })
 
 pub returns-in_err-write_fields-clause-err : goal.returns-in_err-write_fields-clause-err
 returns-in_err-write_fields-clause-err g c =
@@ -102,7 +87,3 @@ returns-clause-err g c =
     IfErr-map c.write_initial_length_at.result refused
     (λ err h. refused_after m mid new (Is (header_fails e c.args.table m.is_plain long)) (Is (unit_fails e es c.args.table u m.is_plain)) same (in_header e es c.args.table u m.is_plain) err
     (length_refused mid new e c.args.table m.is_plain long c.in_ok-place.place (omega (arith, inside, fields.size, body.text.size)) err h))
-
-pub returns-clause-room : goal.returns-clause-room
-returns-clause-room g c =
-    OnOk-map c.write_initial_length_at.result c.write_initial_length_at.ensures.ok (λ p. omega (arith, p.size, c.len.ensures))

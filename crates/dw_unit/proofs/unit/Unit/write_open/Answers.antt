@@ -102,8 +102,8 @@ returns-clause-unit g c =
     let places = c.in_ok-places.places in
     let kept = kept_in (starts_of meaning mid) places in
     let found = tree_tables e es c.in_ok-parts.parts xs (locations_of meaning e mid).size line_strings strings in
-    let pends = of_settled u t e es found is_e is_es is_found (λ e es x. PendsTree meaning mid new e es x kept) c.in_ok-places.ensures.unit in
-    let lists = of_settled_lists u t e es xs (locations_of meaning e mid).is_plain found is_e is_es is_xs is_plain is_found (λ e es xs k f. AppendsLists meaning mid new e es xs) c.in_ok-places.ensures.lists in
+    let pends = of_settled u t e es found is_e is_es is_found (λ e es x. PendsTree meaning mid new e es x kept) c.in_ok-places.ensures.ok.tree.unit in
+    let lists = of_settled_lists u t e es xs (locations_of meaning e mid).is_plain found is_e is_es is_xs is_plain is_found (λ e es xs k f. AppendsLists meaning mid new e es xs) c.in_ok-places.ensures.ok.lists in
     record {
       kept = kept;
       tree = pends_behind meaning old mid new others _ _ _ kept pends;
@@ -138,9 +138,9 @@ returns-clause-writable g c =
     let table = (meaning old.debug_abbrev.0).size in
     let found = tree_tables e es c.in_ok-parts.parts xs (locations_of meaning e mid).size line_strings strings in
     let kind = (locations_of meaning e mid).is_plain in
-    let writable = subst (λ s. IsWritableTree (meaning s.debug_info.0).is_plain e es found) others c.in_ok-places.ensures.writable in
-    let place = subst (λ s. IsTrue (offset_fits (meaning s.debug_info.0).is_plain (word_of e.format) (meaning s.debug_abbrev.0).size)) others c.in_ok-places.ensures.place in
-    let based = subst (λ b. NoCause (lists_fail_in e (places_in_tree e es) xs b kind)) c.has_base_address-based.ensures c.in_ok-places.ensures.lists_sound in
+    let writable = subst (λ s. IsWritableTree (meaning s.debug_info.0).is_plain e es found) others c.in_ok-places.ensures.ok.tree.writable in
+    let place = subst (λ s. IsTrue (offset_fits (meaning s.debug_info.0).is_plain (word_of e.format) (meaning s.debug_abbrev.0).size)) others c.in_ok-places.ensures.ok.tree.place in
+    let based = subst (λ b. NoCause (lists_fail_in e (places_in_tree e es) xs b kind)) c.has_base_address-based.ensures c.in_ok-places.ensures.ok.lists_sound in
     let lists = of_settled_lists u t e es xs kind found is_e is_es is_xs is_plain is_found (λ e es xs k f. NoCause (lists_fail_in e (places_in_tree e es) xs (has_base_address u.entries) k)) based in (
       (
         (c.in_ok-parts.ensures.sound, lists),
