@@ -20,7 +20,7 @@ use Rattle.dw_read.proofs.Laws.{read_is}
 use Rattle.dw_read.proofs.Shorter.{mark_shorter}
 use Rattle.dw_read_units.specs.Passes.{rows_reading}
 use Rattle.dw_read_units.specs.RootFields.{IsLowPc}
-use Rattle.dw_read_units.specs.Roots.{base_or, first_part, last_value, named_of, program_in}
+use Rattle.dw_read_units.specs.Roots.{base_of, base_or, first_part, last_value, named_of, program_in}
 use Rattle.dw_read_units.specs.Walks.{rows_read}
 use Rattle.dw_read_units.specs.declared.dwarf.Dwarf.{Dwarf}
 use Rattle.dw_read_units.specs.declared.unit_ref.UnitRef.{UnitRef}
@@ -137,9 +137,9 @@ BasesBy = ℕ × ℕ × ℕ × ℕ
 abbrev bases_by : Bool → Format → List (ℕ × Value) → BasesBy
 bases_by split format xs = (
   base_or (first_part split format 8 16) (last_value DW_AT_str_offsets_base.0 DW_AT_str_offsets_base.0 xs),
-  base_or 0 (last_value DW_AT_addr_base.0 DW_AT_GNU_addr_base.0 xs),
+  base_of 0 DW_AT_addr_base.0 DW_AT_GNU_addr_base.0 xs,
   base_or (first_part split format 12 20) (last_value DW_AT_loclists_base.0 DW_AT_loclists_base.0 xs),
-  base_or (first_part split format 12 20) (last_value DW_AT_rnglists_base.0 DW_AT_GNU_ranges_base.0 xs),
+  base_of (first_part split format 12 20) DW_AT_rnglists_base.0 DW_AT_GNU_ranges_base.0 xs,
 )
 
 module _ {R E : Type 0} (reading : R → Reading) (u v : UnitRef R E) (sections : AreSameSections reading u.dwarf.now v.dwarf.now) (x y : NumberedUnit R E) (is_x : u.unit.now ≡ x.unit) (is_y : v.unit.now ≡ y.unit)

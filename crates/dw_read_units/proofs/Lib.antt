@@ -6,3 +6,4 @@ pub mod WalkLaws
 pub mod RowWalk
 pub mod UnitParts
 pub mod UnitWalk
+mod Worked

@@ -18,7 +18,7 @@ use Rattle.dw_read.proofs.Laws.{read_is, address_law}
 use Rattle.dw_read.proofs.FormLaws.{mark_law}
 use Rattle.dw_read.proofs.TableLaws.{table_law}
 use Rattle.dw_read_units.specs.Lookups.{bytes_from, indexed}
-use Rattle.dw_read_units.specs.Roots.{named_of, last_value, base_or}
+use Rattle.dw_read_units.specs.Roots.{named_of, last_value, base_of}
 use Rattle.dw_read_units.specs.RootFields.{IsLowPc, MissesLowPc}
 use Rattle.dw_read_units.specs.UnitReads.{IsUnit, MissesRoot, MissesAddress, MissesRest, MissesUnit}
 use Rattle.dw_read_units.specs.Walks.{low_pc_read, root_address, rows_read, unit_read}
@@ -82,7 +82,7 @@ module _ {R E : Type 0} (reading : R → Reading) (d : Dwarf R E) (h : UnitHeade
   begun : (u : ReadUnitFields R E) → IsUnit reading d h u → Begun u.abbreviations
   begun u i =
       let xs = map (named_of h.fields.encoding) i.root.attributes in
-      let base = base_or 0 (last_value DW_AT_addr_base.0 DW_AT_GNU_addr_base.0 xs) in
+      let base = base_of 0 DW_AT_addr_base.0 DW_AT_GNU_addr_base.0 xs in
       record {
         rest = i.table.rest;
         more = i.rest;
@@ -112,7 +112,7 @@ module _ {R E : Type 0} (reading : R → Reading) (d : Dwarf R E) (h : UnitHeade
   misses_address : (table : List Declaration) (rest : List ℕ) (y : ReadError) → table_read (bytes_from h.fields.table_offset (reading d.debug_abbrev)) ≡ Ok (table, rest) → MissesAddress reading d h table y → unit_reading reading d h ≡ Err y
   misses_address table rest y t m =
       let xs = map (named_of h.fields.encoding) m.root.attributes in
-      no_address table rest m.rest (Open m.root) y t (mark_there table (Open m.root) m.rest m.row) (low_pc_misses (reading d.debug_addr) (base_or 0 (last_value DW_AT_addr_base.0 DW_AT_GNU_addr_base.0 xs)) h.fields.encoding.address_size (last_value DW_AT_low_pc.0 DW_AT_low_pc.0 xs) y m.misses)
+      no_address table rest m.rest (Open m.root) y t (mark_there table (Open m.root) m.rest m.row) (low_pc_misses (reading d.debug_addr) (base_of 0 DW_AT_addr_base.0 DW_AT_GNU_addr_base.0 xs) h.fields.encoding.address_size (last_value DW_AT_low_pc.0 DW_AT_low_pc.0 xs) y m.misses)
 
   misses_rest : (y : ReadError) (m : MissesRest reading d h y) (o : MissesRoot reading h m.declarations y ⊎ MissesAddress reading d h m.declarations y) → (y ≡ NoMemory) ⊎ (unit_reading reading d h ≡ Err y)
   misses_rest y m (inl r) = misses_root m.declarations m.table.rest y (table_there m.declarations m.table.rest m.table.is) r

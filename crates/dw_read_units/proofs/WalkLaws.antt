@@ -26,7 +26,7 @@ use Rattle.dw_read_units.proofs.EndLaws.{end_drop, table_end}
 use Rattle.dw_base.specs.declared.constants.TheConstants.{DW_AT_addr_base, DW_AT_GNU_addr_base}
 use Rattle.dw_read.specs.Values.{Value}
 use Rattle.dw_read.specs.declared.unit_header.UnitHeader.{UnitHeader}
-use Rattle.dw_read_units.specs.Roots.{last_value, base_or}
+use Rattle.dw_read_units.specs.Roots.{base_of}
 use Rattle.dw_read_units.specs.UnitReads.{HasFields}
 use Rattle.dw_read_units.specs.declared.dwarf.Dwarf.{Dwarf}
 use Rattle.dw_read_units.specs.declared.dwarf.Unit.{Unit as UnitFields}
@@ -168,5 +168,5 @@ unfolding read_info
 strict_info big info tables us e = strict_units (length info) big 0 0 info tables tables us refl e
 
 -- where the addresses of a unit's indices begin
-pub address_base : {R E : Type 0} (reading : R → Reading) (d : Dwarf R E) (h : UnitHeader R E) (xs : List (ℕ × Value)) (u : UnitFields R E) → HasFields reading d h xs u → u.addr_base ≡ base_or 0 (last_value DW_AT_addr_base.0 DW_AT_GNU_addr_base.0 xs)
+pub address_base : {R E : Type 0} (reading : R → Reading) (d : Dwarf R E) (h : UnitHeader R E) (xs : List (ℕ × Value)) (u : UnitFields R E) → HasFields reading d h xs u → u.addr_base ≡ base_of 0 DW_AT_addr_base.0 DW_AT_GNU_addr_base.0 xs
 address_base reading d h xs u f = ap (λ (b : Bases). b.addr) f.bases

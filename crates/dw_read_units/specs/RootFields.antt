@@ -8,7 +8,7 @@ use Rattle.dw_read.specs.declared.unit_header.UnitHeader.{UnitHeader}
 use Rattle.dw_read.specs.declared.value.AttributeValue.TheVariants.{Addr, DebugAddrIndex}
 use Rattle.dw_read.specs.declared.error.ReadError.{ReadError}
 use Rattle.dw_read_units.specs.Lookups.{StandsAt, IsMissing, indexed}
-use Rattle.dw_read_units.specs.Roots.{last_value, base_or, first_part}
+use Rattle.dw_read_units.specs.Roots.{last_value, base_or, base_of, first_part}
 use Rattle.dw_read_units.specs.declared.root.Bases.{Bases}
 
 abbrev pub is_split : {R E : Type 0} → UnitHeader R E → Bool
@@ -18,9 +18,9 @@ is_split h = (unwrap_or h.fields.unit_type DW_UT_compile).0 == DW_UT_split_compi
 abbrev pub bases_of : {R E : Type 0} → UnitHeader R E → List (ℕ × Value) → Bases
 bases_of h xs = record {
   str_offsets = base_or (first_part (is_split h) h.fields.encoding.format 8 16) (last_value DW_AT_str_offsets_base.0 DW_AT_str_offsets_base.0 xs);
-  addr = base_or 0 (last_value DW_AT_addr_base.0 DW_AT_GNU_addr_base.0 xs);
+  addr = base_of 0 DW_AT_addr_base.0 DW_AT_GNU_addr_base.0 xs;
   loclists = base_or (first_part (is_split h) h.fields.encoding.format 12 20) (last_value DW_AT_loclists_base.0 DW_AT_loclists_base.0 xs);
-  rnglists = base_or (first_part (is_split h) h.fields.encoding.format 12 20) (last_value DW_AT_rnglists_base.0 DW_AT_GNU_ranges_base.0 xs);
+  rnglists = base_of (first_part (is_split h) h.fields.encoding.format 12 20) DW_AT_rnglists_base.0 DW_AT_GNU_ranges_base.0 xs;
 }
 
 -- the address that a value is or leads to; where it is none, 0

@@ -37,6 +37,11 @@ abbrev pub base_or : ℕ → Option Value → ℕ
 base_or missing (Some (SecOffset p)) = p
 base_or missing v = missing
 
+-- The place under a name or an older one of the same meaning: of each the last value counts, and of these two the last that is
+-- a place. So what has another form under the one name hides no place under the other.
+abbrev pub base_of : ℕ → ℕ → ℕ → List (ℕ × Value) → ℕ
+base_of missing name older xs = base_or (base_or (base_or missing (last_value older older xs)) (last_value name name xs)) (last_value name older xs)
+
 abbrev pub program_of : Option Value → Option DebugLineOffset
 program_of (Some (DebugLineRef p)) = Some p
 program_of v = None

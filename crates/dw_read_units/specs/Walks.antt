@@ -18,7 +18,7 @@ use Rattle.dw_read.specs.declared.value.AttributeValue.TheVariants.{Addr, DebugA
 use Rattle.dw_read.specs.declared.error.ReadError.{ReadError}
 use Rattle.dw_read.specs.declared.error.ReadError.TheVariants.{UnexpectedEof, MissingUnitDie}
 use Rattle.dw_read_units.specs.Lookups.{bytes_from, indexed}
-use Rattle.dw_read_units.specs.Roots.{named_of, last_value, base_or}
+use Rattle.dw_read_units.specs.Roots.{named_of, last_value, base_of}
 
 -- a unit whose header stands at a place: its table and its rows, which begin behind its header
 unfoldable pub unit_in : Bool → List ℕ → ℕ → Header → ℕ → List ℕ → Option ReadUnit
@@ -53,7 +53,7 @@ low_pc_read section base size v = Ok 0
 -- the address of names and values
 abbrev pub named_address : Reading → ℕ → List (ℕ × Value) → Result ℕ ReadError
 named_address addresses size xs =
-    low_pc_read addresses (base_or 0 (last_value DW_AT_addr_base.0 DW_AT_GNU_addr_base.0 xs)) size (last_value DW_AT_low_pc.0 DW_AT_low_pc.0 xs)
+    low_pc_read addresses (base_of 0 DW_AT_addr_base.0 DW_AT_GNU_addr_base.0 xs) size (last_value DW_AT_low_pc.0 DW_AT_low_pc.0 xs)
 
 -- the address of an entry that is a unit's root; no null entry is one
 abbrev pub root_address : Reading → Encoding → Mark ReadEntry → Result ℕ ReadError

@@ -59,7 +59,9 @@ pub struct Unit<R: Reader> {
 }
 
 impl<R: Reader> Dwarf<R> {
-    /// The headers of the units, without their entries.
+    /// The headers of the units, without their entries, from the place of the reader of
+    /// `.debug_info` on. Offsets that lead into this or another section count from that section's
+    /// begin. So where they are to lead where the file says, each reader stands at place 0.
     pub fn units(&self) -> UnitHeadersIter<R>
         ensures input { R.reading result.input ≡ R.reading self.now.debug_info }
         ensures begun { result.has_failed ≡ false }

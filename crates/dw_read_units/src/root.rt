@@ -4,7 +4,7 @@ ghost use Rattle.std.specs.Prelude.{◌≡◌, map, IfOk, IfErr};
 ghost use Rattle.dw_base.specs.declared.constants.TheConstants.{DW_AT_low_pc};
 ghost use Rattle.dw_read.specs.Took.{option_of};
 ghost use Rattle.dw_read.specs.Values.{value_of};
-ghost use Rattle.dw_read_units.specs.Roots.{named_in, last_value, later, base_or};
+ghost use Rattle.dw_read_units.specs.Roots.{named_in, last_value, later, base_or, base_of};
 ghost use Rattle.dw_read_units.specs.Roots.{program_in, id_in, first_part};
 ghost use Rattle.dw_read_units.specs.RootFields.{bases_of, IsLowPc, MissesLowPc};
 
@@ -51,7 +51,7 @@ fn later<R: Reader>(
 }
 
 /// The place in a section that the root names, or another where it names none.
-pub(crate) fn base_or<R: Reader>(
+fn base_or<R: Reader>(
     attrs: &[Attribute<R>],
     name: DwAt,
     other: DwAt,
@@ -64,6 +64,16 @@ pub(crate) fn base_or<R: Reader>(
         Some(AttributeValue::SecOffset(place)) => place,
         _ => missing,
     }
+}
+
+/// The place in a section that the root names under one name or under an older one of the same
+/// meaning: what has another form under the one hides no place under the other.
+fn base_of<R: Reader>(attrs: &[Attribute<R>], name: DwAt, older: DwAt, missing: usize) -> usize
+    ensures { result ≡ base_of missing name.0 older.0 (map (named_in R.reading) attrs.now) }
+{
+    let older_place = base_or(attrs, older, older, missing);
+    let place = base_or(attrs, name, name, older_place);
+    base_or(attrs, name, older, place)
 }
 
 /// The line program that the root names.
@@ -110,9 +120,9 @@ pub(crate) fn root_bases<R: Reader>(header: &UnitHeader<R>, attrs: &[Attribute<R
             DW_AT_str_offsets_base,
             offsets,
         ),
-        addr: base_or(attrs, DW_AT_addr_base, DW_AT_GNU_addr_base, 0),
+        addr: base_of(attrs, DW_AT_addr_base, DW_AT_GNU_addr_base, 0),
         loclists: base_or(attrs, DW_AT_loclists_base, DW_AT_loclists_base, lists),
-        rnglists: base_or(attrs, DW_AT_rnglists_base, DW_AT_GNU_ranges_base, lists),
+        rnglists: base_of(attrs, DW_AT_rnglists_base, DW_AT_GNU_ranges_base, lists),
     }
 }
 
