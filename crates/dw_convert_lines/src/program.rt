@@ -97,6 +97,8 @@ pub fn read_line_program<'a, R: Reader>(
     ensures ok { IfOk result (λ c. ProgramOutcome R.reading (texts_of R.reading dwarf.now)
         program encoding line_encoding (tables strings.old line_strings.old)
         (Ok (converting c.program c.files.items strings.new line_strings.new))) }
+    // The sequences that are added later are those of the program that was read.
+    ensures read { IfOk result (λ c. c.read ≡ program) }
     ensures err { IfErr result (λ e. (e ≡ NoMemory) ⊎ ProgramOutcome R.reading
         (texts_of R.reading dwarf.now) program encoding line_encoding
         (tables strings.old line_strings.old) (Err e)) }

@@ -27,21 +27,20 @@ abbrev pub HasNoLines : {R E : Type 0} → UnitRef R E → Tables → Tables →
 HasNoLines u old new = (u.unit.now.line_program ≡ None) × (new ≡ old)
 
 module _ {R E : Type 0} (reading : R → Reading) (u : UnitRef R E) (encoding : Option Encoding) (line_encoding : Option LineEncoding) where
-  -- the program at a place, with what its header becomes in an encoding and with parameters
-  pub record ProgramBegins (offset : DebugLineOffset) (old : Tables) (r : Result (Converting FileId) ConvertError) : Type 0 where
-    pub program : IncompleteLineProgram R E
+  -- a program is the one at a place, and its header becomes this in an encoding and with parameters
+  pub record ProgramBegins (program : IncompleteLineProgram R E) (offset : DebugLineOffset) (old : Tables) (r : Result (Converting FileId) ConvertError) : Type 0 where
     pub stands : header_at reading u offset ≡ Ok (lines_of reading program.header)
     pub order : IsInOrder reading (reading u.dwarf.now.debug_line).is_big program.header
     pub becomes : ProgramOutcome reading (texts_of reading u.dwarf.now) program encoding line_encoding old r
 
-  -- its unit has one, and it begins so
-  pub record BeginsLines (old : Tables) (x : Converting FileId) : Type 0 where
+  -- its unit has one, which is this, and it begins so
+  pub record BeginsLines (program : IncompleteLineProgram R E) (old : Tables) (x : Converting FileId) : Type 0 where
     pub offset : DebugLineOffset
     pub has : u.unit.now.line_program ≡ Some offset
-    pub begins : ProgramBegins offset old (Ok x)
+    pub begins : ProgramBegins program offset old (Ok x)
 
   -- its unit has one, whose header can't be read or becomes nothing
   pub record RefusesLines (old : Tables) (e : ConvertError) : Type 0 where
     pub offset : DebugLineOffset
     pub has : u.unit.now.line_program ≡ Some offset
-    pub why : ((y : ReadError) × (header_at reading u offset ≡ Err y) × (e ≡ from_read y)) ⊎ ProgramBegins offset old (Err e)
+    pub why : ((y : ReadError) × (header_at reading u offset ≡ Err y) × (e ≡ from_read y)) ⊎ ((p : IncompleteLineProgram R E) × ProgramBegins p offset old (Err e))

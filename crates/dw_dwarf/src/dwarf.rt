@@ -297,6 +297,8 @@ impl Dwarf {
         ensures ok { IfOk result (λ c. ProgramOutcome R.reading (texts_of R.reading dwarf.now)
             program encoding line_encoding (tables self.old.strings self.old.line_strings)
             (Ok (converting c.program c.files.items self.new.strings self.new.line_strings))) }
+        // Its sequences will be those of the program that was read.
+        ensures read { IfOk result (λ c. c.read ≡ program) }
         ensures err { IfErr result (λ e. (e ≡ refused.NoMemory) ⊎ ProgramOutcome R.reading
             (texts_of R.reading dwarf.now) program encoding line_encoding
             (tables self.old.strings self.old.line_strings) (Err e)) }

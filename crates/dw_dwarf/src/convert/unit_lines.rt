@@ -41,7 +41,7 @@ impl<'a, R: Reader> ConvertUnit<'a, R> {
             (tables self.new.strings.now self.new.line_strings.now))
             (λ c. BeginsLines R.reading
             (unit_of_lines self.old.read_skeleton_unit self.old.read_unit) encoding line_encoding
-            (tables self.old.strings.now self.old.line_strings.now)
+            c.read (tables self.old.strings.now self.old.line_strings.now)
             (converting c.program c.files.items self.new.strings.now self.new.line_strings.now))) }
         ensures err { IfErr result (λ e. (e ≡ NoMemory) ⊎ RefusesLines R.reading
             (unit_of_lines self.old.read_skeleton_unit self.old.read_unit) encoding line_encoding
@@ -75,7 +75,7 @@ fn begin_lines<'a, R: Reader>(
     ensures ok { IfOk result (λ o. MatchOption o
         (HasNoLines read_unit.entry (tables strings.old line_strings.old)
         (tables strings.new line_strings.new))
-        (λ c. BeginsLines R.reading read_unit.entry encoding line_encoding
+        (λ c. BeginsLines R.reading read_unit.entry encoding line_encoding c.read
         (tables strings.old line_strings.old)
         (converting c.program c.files.items strings.new line_strings.new))) }
     ensures err { IfErr result (λ e. (e ≡ NoMemory) ⊎ RefusesLines R.reading read_unit.entry

@@ -13,12 +13,11 @@ returns-clause-ok g c =
     record {
       offset = c.in-Some.offset;
       has = c.in-Some.is;
-      begins = record {
-        program = c.in_ok-program.program;
+      begins = rw c.in_ok-begun.ensures.read (record {
         stands = subst (λ n. lines_at_place lines.is_big n c.in-Some.offset.0 (left lines) ≡ Ok (lines_of reading c.in_ok-program.program.header)) size c.in_ok-program.ensures.ok;
         order = c.in_ok-program.ensures.order;
         becomes = c.in_ok-begun.ensures.ok;
-      };
+      });
     }
 
 pub returns-in_err-begun-clause-err : goal.returns-in_err-begun-clause-err
@@ -30,8 +29,7 @@ returns-in_err-begun-clause-err g c =
     rw (p.1, p.2) (⊎_elim inl (λ r. inr (record {
       offset = c.in-Some.offset;
       has = c.in-Some.is;
-      why = inr (record {
-        program = c.in_ok-program.program;
+      why = inr (c.in_ok-program.program, record {
         stands = subst (λ n. lines_at_place lines.is_big n c.in-Some.offset.0 (left lines) ≡ Ok (lines_of reading c.in_ok-program.program.header)) size c.in_ok-program.ensures.ok;
         order = c.in_ok-program.ensures.order;
         becomes = r;
