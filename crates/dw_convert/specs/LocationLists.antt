@@ -10,7 +10,6 @@ use Rattle.dw_read_units.specs.declared.unit_ref.UnitRef.{UnitRef}
 use Rattle.dw_sources.specs.RawLists.{Item, location_at, location_read}
 use Rattle.dw_sources.specs.RawListIters.{encoding_in, locations_section}
 use Rattle.dw_sources.specs.declared.convert_error.ConvertError.{ConvertError}
-use Rattle.dw_sources.specs.declared.convert_error.ConvertError.TheVariants.{NoMemory}
 use Rattle.dw_convert.specs.Expressions.{ExpressionOutcome}
 use Rattle.dw_convert.specs.Lists.{Converted, Refused}
 use Rattle.dw_convert.specs.Locations.{LocationOutcome, is_base_item, kept_locations}
@@ -31,5 +30,5 @@ module _ {R E : Type 0} (reading : R → Reading) (answers : ℕ → Option Addr
 
   -- no list is at the offset, or one of its items can't be read or becomes nothing
   abbrev pub RefusesLocationList : ConvertError → Type 0
-  RefusesLocationList e = (e ≡ NoMemory) ⊎ (IsPast offset (locations_section reading u) e ⊎
-      Refused (ItemOutcome reading answers entries infos u (locations_section reading u).is_big) is_base_item (location_at (locations_section reading u).is_big (encoding_in u)) (location_read (locations_section reading u).is_big (encoding_in u)) (has_base u) (bytes_from offset (locations_section reading u)) e)
+  RefusesLocationList e = IsPast offset (locations_section reading u) e ⊎
+      Refused (ItemOutcome reading answers entries infos u (locations_section reading u).is_big) is_base_item (location_at (locations_section reading u).is_big (encoding_in u)) (location_read (locations_section reading u).is_big (encoding_in u)) (has_base u) (bytes_from offset (locations_section reading u)) e

@@ -11,7 +11,6 @@ use Rattle.dw_sources.specs.ConvertErrors.{from_read}
 use Rattle.dw_sources.specs.RawLists.{range_at, range_read}
 use Rattle.dw_sources.specs.RawListIters.{encoding_in, ranges_section}
 use Rattle.dw_sources.specs.declared.convert_error.ConvertError.{ConvertError}
-use Rattle.dw_sources.specs.declared.convert_error.ConvertError.TheVariants.{NoMemory}
 use Rattle.dw_convert.specs.Lists.{Converted, Refused}
 use Rattle.dw_convert.specs.Lookups.{address_of}
 use Rattle.dw_convert.specs.Ranges.{RangeOutcome, is_base, kept}
@@ -35,5 +34,5 @@ module _ {R E : Type 0} (reading : R → Reading) (answers : ℕ → Option Addr
 
   -- no list is at the offset, or one of its items can't be read or becomes nothing
   abbrev pub RefusesRangeList : ConvertError → Type 0
-  RefusesRangeList e = (e ≡ NoMemory) ⊎ (IsPast offset (ranges_section reading u) e ⊎
-      Refused (RangeOutcome answers (address_of reading u)) is_base (range_at (ranges_section reading u).is_big (encoding_in u)) (range_read (ranges_section reading u).is_big (encoding_in u)) (has_base u) (bytes_from offset (ranges_section reading u)) e)
+  RefusesRangeList e = IsPast offset (ranges_section reading u) e ⊎
+      Refused (RangeOutcome answers (address_of reading u)) is_base (range_at (ranges_section reading u).is_big (encoding_in u)) (range_read (ranges_section reading u).is_big (encoding_in u)) (has_base u) (bytes_from offset (ranges_section reading u)) e

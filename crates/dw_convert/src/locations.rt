@@ -1,6 +1,6 @@
 //! Location lists (DWARF 5, 2.6.2).
 
-ghost use Rattle.std.specs.Prelude.{◌≡◌, ◌++◌, [], ◌∷◌, IfOk, IfErr};
+ghost use Rattle.std.specs.Prelude.{◌≡◌, ◌⊎◌, ◌++◌, [], ◌∷◌, IfOk, IfErr};
 ghost use Rattle.dw_sources.specs.declared.convert_error.ConvertError.TheVariants.{NoMemory};
 ghost use Rattle.dw_convert.specs.Locations.{kept_locations};
 ghost use Rattle.dw_convert.specs.LocationLists.{IsLocationList, RefusesLocationList};
@@ -36,8 +36,9 @@ pub fn location_list<R: Reader, C: ConvertDebugInfoRef, F: Fn(u64) -> Option<Add
         (C.entries refs.now) (C.infos refs.now) unit.entry offset.0) }
     ensures written { IfOk result (IsWrittenLocationList R.reading (F.post convert_address.now)
         (C.entries refs.now) (C.infos refs.now) unit.entry offset.0) }
-    ensures err { IfErr result (RefusesLocationList R.reading (F.post convert_address.now)
-        (C.entries refs.now) (C.infos refs.now) unit.entry offset.0) }
+    ensures err { IfErr result (λ e. (e ≡ NoMemory) ⊎ RefusesLocationList R.reading
+        (F.post convert_address.now) (C.entries refs.now) (C.infos refs.now) unit.entry offset.0
+        e) }
 {
     let mut items = raw_locations(unit, offset)?;
     let mut has_base = unit.unit.low_pc != 0;

@@ -1,6 +1,6 @@
 //! Range lists (DWARF 5, 2.17.3).
 
-ghost use Rattle.std.specs.Prelude.{◌≡◌, ◌++◌, [], ◌∷◌, IfOk, IfErr};
+ghost use Rattle.std.specs.Prelude.{◌≡◌, ◌⊎◌, ◌++◌, [], ◌∷◌, IfOk, IfErr};
 ghost use Rattle.std.specs.List.{filter};
 ghost use Rattle.dw_sources.specs.declared.convert_error.ConvertError.TheVariants.{NoMemory};
 ghost use Rattle.dw_convert.specs.Ranges.{kept};
@@ -34,8 +34,8 @@ pub fn range_list<R: Reader, F: Fn(u64) -> Option<Address>>(
         (IsRangeList R.reading (F.post convert_address.now) unit.entry offset.0) }
     ensures written { IfOk result
         (IsWrittenRangeList R.reading (F.post convert_address.now) unit.entry offset.0) }
-    ensures err { IfErr result
-        (RefusesRangeList R.reading (F.post convert_address.now) unit.entry offset.0) }
+    ensures err { IfErr result (λ e. (e ≡ NoMemory) ⊎ RefusesRangeList R.reading
+        (F.post convert_address.now) unit.entry offset.0 e) }
 {
     let mut items = raw_ranges(unit, offset)?;
     let mut has_base = unit.unit.low_pc != 0;

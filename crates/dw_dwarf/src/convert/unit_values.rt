@@ -122,8 +122,9 @@ impl<'a, R: Reader> ConvertUnit<'a, R> {
         requires { F.IsAlwaysCallable convert_address.now }
         ensures ok { IfOk result (IsLocationList R.reading (F.post convert_address.now)
             (entries_in self.now) (infos_in self.now) read_unit.entry offset.0) }
-        ensures err { IfErr result (RefusesLocationList R.reading (F.post convert_address.now)
-            (entries_in self.now) (infos_in self.now) read_unit.entry offset.0) }
+        ensures err { IfErr result (λ e. (e ≡ NoMemory) ⊎ RefusesLocationList R.reading
+            (F.post convert_address.now) (entries_in self.now) (infos_in self.now) read_unit.entry
+            offset.0 e) }
     {
         let refs = self.given.refs;
         location_list(self.alloc, read_unit, offset, convert_address, &refs)
@@ -139,8 +140,8 @@ impl<'a, R: Reader> ConvertUnit<'a, R> {
         requires { F.IsAlwaysCallable convert_address.now }
         ensures ok { IfOk result (IsRangeList R.reading (F.post convert_address.now)
             read_unit.entry offset.0) }
-        ensures err { IfErr result (RefusesRangeList R.reading (F.post convert_address.now)
-            read_unit.entry offset.0) }
+        ensures err { IfErr result (λ e. (e ≡ NoMemory) ⊎ RefusesRangeList R.reading
+            (F.post convert_address.now) read_unit.entry offset.0 e) }
     {
         range_list(self.alloc, read_unit, offset, convert_address)
     }
