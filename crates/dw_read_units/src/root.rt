@@ -51,12 +51,7 @@ fn later<R: Reader>(
 }
 
 /// The place in a section that the root names, or another where it names none.
-fn base_or<R: Reader>(
-    attrs: &[Attribute<R>],
-    name: DwAt,
-    other: DwAt,
-    missing: usize,
-) -> usize
+fn base_or<R: Reader>(attrs: &[Attribute<R>], name: DwAt, other: DwAt, missing: usize) -> usize
     ensures { result ≡ base_or missing
         (last_value name.0 other.0 (map (named_in R.reading) attrs.now)) }
 {

@@ -29,9 +29,12 @@ returns-in_err-begun-clause-err g c =
     rw (p.1, p.2) (⊎_elim inl (λ r. inr (record {
       offset = c.in-Some.offset;
       has = c.in-Some.is;
-      why = inr (c.in_ok-program.program, record {
-        stands = subst (λ n. lines_at_place lines.is_big n c.in-Some.offset.0 (left lines) ≡ Ok (lines_of reading c.in_ok-program.program.header)) size c.in_ok-program.ensures.ok;
-        order = c.in_ok-program.ensures.order;
-        becomes = r;
-      });
+      why = inr (
+        c.in_ok-program.program,
+        record {
+          stands = subst (λ n. lines_at_place lines.is_big n c.in-Some.offset.0 (left lines) ≡ Ok (lines_of reading c.in_ok-program.program.header)) size c.in_ok-program.ensures.ok;
+          order = c.in_ok-program.ensures.order;
+          becomes = r;
+        },
+      );
     })) c.in_err-begun.ensures.err)
