@@ -21,7 +21,8 @@ pub enum Error {
     OffsetOutOfBounds,
     /// A patch begins inside a section and ends past its end.
     LengthOutOfBounds,
-    /// A string has a zero byte, or an attribute names a line program where none is in use.
+    /// A string has a zero byte, an attribute names a line program where none is in use, or a base
+    /// of lists where the unit has none or its version is below 5.
     InvalidAttributeValue,
     /// A number doesn't fit its field, or a total its limit.
     ValueTooLarge,
@@ -29,7 +30,8 @@ pub enum Error {
     UnsupportedWordSize(u8),
     /// The version of a unit, a line program or a frame entry has no spelling.
     UnsupportedVersion(u16),
-    /// A length is too large for the 32-bit format.
+    /// A unit, a line program, a table of lists or a frame entry has 0xffff_fff0 bytes or more
+    /// after its length, and the 32-bit format has no room for that (DWARF 5, 7.4).
     InitialLengthOverflow,
     /// A symbol's address was given to a writer that records no relocations.
     InvalidAddress,

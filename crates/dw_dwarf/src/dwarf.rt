@@ -79,16 +79,17 @@ impl Dwarf {
     ///
     /// Refused as `UnsupportedVersion` or `UnsupportedWordSize` where a unit's version isn't 2 to 5
     /// or its address size isn't 1, 2, 4 or 8, as `InvalidAttributeValue` where a string value has
-    /// a zero byte or a value names a line program that isn't in use, as `InvalidReference` where a
-    /// reference names an entry outside its unit's tree, a unit that is absent or was skipped, a
-    /// symbol, or a string or a list that isn't in its table, as `InvalidRange`,
-    /// `MissingBaseAddress` or `UnexpectedBaseAddress` where the write of its table refuses a list,
-    /// named or not, as `UnsetBranchTarget` where a branch of an expression has no target, as
+    /// a zero byte, a value names a line program that isn't in use, or a base of lists stands below
+    /// version 5 or in a unit without such lists, as `InvalidReference` where a reference names an
+    /// entry outside its unit's tree, a unit that is absent or was skipped, a symbol, or a string
+    /// or a list that isn't in its table, as `InvalidRange`, `MissingBaseAddress` or
+    /// `UnexpectedBaseAddress` where the write of its table refuses a list, named or not, as
+    /// `UnsetBranchTarget` where a branch of an expression has no target, as
     /// `UnsupportedExpressionForwardReference` where an expression spells in LEB128 the place of an
     /// entry that comes later in the tree, or any place in the unit of one outside it, as
     /// `InvalidAddress` where an address is a symbol's and the sections record no relocations, as
-    /// `InitialLengthOverflow` where a 32-bit unit or line program has 0xffff_fff0 bytes or more
-    /// after its length (DWARF 5, 7.4), as `NeedVersion`, `LineStringFormMismatch` or
+    /// `InitialLengthOverflow` where a 32-bit unit, line program or table of lists has 0xffff_fff0
+    /// bytes or more after its length (DWARF 5, 7.4), as `NeedVersion`, `LineStringFormMismatch` or
     /// `IncompatibleLineProgramEncoding` where `LineProgram::write` refuses a line program, as
     /// `ValueTooLarge` where an address, an offset, the place of a table, of a string, of a line
     /// program or of an entry, the number of a file, a change of line, or the size of a unit has no

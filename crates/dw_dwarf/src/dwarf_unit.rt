@@ -67,7 +67,8 @@ impl DwarfUnit {
     ///
     /// Refused as `Unit::write` refuses the unit, and as `InvalidReference` where a reference names
     /// an entry by its place in `.debug_info`, also one of this unit. A refused unit is as it was,
-    /// or settled, and the sections may have got some bytes.
+    /// or settled, or it is marked written, where only the strings were refused; the sections may
+    /// have got some bytes.
     pub fn write<W: Writer>(&mut self, sections: &mut Sections<W>) -> Result<()>
         requires unwritten { self.old.unit.is_written ≡ false }
         requires fixups { NoFixups sections.old }

@@ -289,11 +289,19 @@ impl LineProgram {
         }
     }
 
-    /// Writes the program for a unit of an encoding, and returns its place. Refused before a byte
-    /// is written as `IncompatibleLineProgramEncoding` where there is no program or its encoding
-    /// isn't the unit's, as `UnsupportedVersion` and `UnsupportedWordSize` where it has no
-    /// spelling, as `NeedVersion` for checksums and texts below version 5, and as
-    /// `LineStringFormMismatch` for names of different forms.
+    /// Writes the program for a unit of an encoding behind what `.debug_line` holds (DWARF 5, 6.2),
+    /// and returns its place, in bytes from the section's begin.
+    ///
+    /// Refused before a byte is written as `IncompatibleLineProgramEncoding` where there is no
+    /// program, its format or address size isn't the unit's, or one of the two alone is of version
+    /// 5, as `UnsupportedVersion` and `UnsupportedWordSize` where its version or address size has
+    /// no spelling, as `NeedVersion` for checksums and texts below version 5, and as
+    /// `LineStringFormMismatch` for names of different forms. Refused while it is written as
+    /// `InvalidReference` where a name isn't in its table, as `InvalidAddress` where a sequence
+    /// begins at a symbol and the writer records no relocations, as `ValueTooLarge` where an
+    /// address, the place of a name or a change of line has no room, as `InitialLengthOverflow`
+    /// where a 32-bit program has 0xffff_fff0 bytes or more after its length (7.4), and as
+    /// `WriteFault` or `NoMemory`.
     pub fn write<W: Writer>(
         &self,
         w: &mut DebugLine<W>,

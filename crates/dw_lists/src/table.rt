@@ -88,6 +88,13 @@ impl RangeListTable {
     /// addresses where none is (`MissingBaseAddress`, `UnexpectedBaseAddress`). There, equal ends
     /// and a begin of all ones would be read as the close and as a base, and are refused
     /// (`InvalidRange`).
+    ///
+    /// Every list of the table is looked at. A table with lists is refused, too, as
+    /// `UnsupportedVersion` for a version that isn't 2 to 5, as `UnsupportedWordSize` for addresses
+    /// that haven't 1, 2, 4 or 8 bytes, as `InvalidAddress` where an address is a symbol's and the
+    /// writer records no relocations, as `ValueTooLarge` where a number has no room in its field,
+    /// and in version 5 as `InitialLengthOverflow` where a 32-bit table has 0xffff_fff0 bytes or
+    /// more after its length (DWARF 5, 7.4).
     pub fn write<W: Writer>(
         &self,
         sections: &mut Sections<W>,

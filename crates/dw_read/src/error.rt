@@ -23,7 +23,7 @@ pub enum ReadError {
     BadLeb128,
     /// An initial length is one of those from 0xfffffff0 to 0xfffffffe (DWARF 5, 7.4).
     UnknownReservedLength,
-    /// A unit, a line program or a frame entry has a version that no standard describes.
+    /// A unit or a line program isn't of version 2 to 5, or a common frame entry not of 1, 3 or 4.
     UnknownVersion(u16),
     /// An address is neither 1 nor 2, 4 or 8 bytes wide.
     UnsupportedAddressSize(u8),
@@ -49,7 +49,8 @@ pub enum ReadError {
     MissingSplitUnit,
     /// A null entry stands at the offset that was asked for.
     NoEntryAtGivenOffset(u64),
-    /// An offset lies past the end of its section or unit.
+    /// An offset lies past the end of its section or outside the entries of its unit, or a base and
+    /// an offset pass 64 bits.
     OffsetOutOfBounds(u64),
     /// An operation's code is none of the standard's.
     InvalidExpression(DwOp),
@@ -61,7 +62,7 @@ pub enum ReadError {
     UnknownLocListsEntry(u8),
     /// The code of a frame instruction is none of the standard's (DWARF 5, table 7.29).
     UnknownCallFrameInstruction(u8),
-    /// The augmentation of a common frame entry has an unknown letter.
+    /// The augmentation of a common frame entry doesn't begin with `z`, or has an unknown letter.
     UnknownAugmentation,
     /// A pointer's encoding has no meaning.
     UnknownPointerEncoding(DwEhPe),
