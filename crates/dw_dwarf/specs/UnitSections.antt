@@ -31,10 +31,11 @@ module _ {R E : Type 0} {RG : Reader.Ghosts R E} {EG : Endianity.Ghosts E} where
   PassesUnit old new (Some x) = (x.0 ≡ old.next) × (old.next < length (units_of old)) × (x.1.0 ≡ old.first + old.next) × (new ≡ record old { next = old.next + 1 })
   PassesUnit old new None = (length (units_of old) ≤ old.next) × (new ≡ old)
 
-  -- The next unit, with what is written for it, the strings of its file and its root, which was read.
+  -- The next of the units of the file that is read, with what is written for it, the strings of its file and its root, which was read.
   pub record HandsOutUnit (reading : R → Reading) (s : ConvertUnitSection R E RG EG) (c : ConvertUnit R E RG EG) (root : ConvertUnitEntry R E) : Type 0 where
     pub left : s.next < length (units_of s)
-    pub given : IsGiven s.found s.read.now s.next s.first c.given
+    pub file : ∥ NumbersUnits reading s.found.read.now s.found.found ∥₁
+    pub given : IsGiven s.found s.next s.first c.given
     pub read_unit : c.read_unit ≡ c.given.read
     pub skeleton : c.read_skeleton_unit ≡ None
     pub id : c.id.0 ≡ s.first + s.next
@@ -58,7 +59,7 @@ module _ {R E : Type 0} {RG : Reader.Ghosts R E} {EG : Endianity.Ghosts E} where
   -- All units of a file were read, and for each a new one is behind those that were there: in its encoding, with its root alone, and
   -- with an id for each entry. None was handed out yet.
   pub record BeginsUnits (reading : R → Reading) (d : ReadDwarf R E) (old : DwarfValue) (s : ConvertUnitSection R E RG EG) : Type 0 where
-    pub read : s.read.now ≡ d
+    pub read : s.found.read.now ≡ d
     pub found : NumbersUnits reading d s.found.found
     pub dwarf : dwarf_in s.dwarf.now ≡ record old { units = old.units ++ map unit_for s.found.found.units.items }
     pub first : s.first ≡ length old.units

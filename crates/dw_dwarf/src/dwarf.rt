@@ -263,7 +263,6 @@ impl Dwarf {
         found.add_new(alloc, &mut self.units)?;
         Ok(ConvertUnitSection {
             alloc,
-            read: dwarf,
             found,
             dwarf: self,
             first,

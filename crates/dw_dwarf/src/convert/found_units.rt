@@ -18,31 +18,27 @@ use dw_sources::{ConvertError, ConvertResult};
 use dw_unit::UnitTable;
 use std::alloc::Global;
 
-impl<R: Reader> FoundUnits<R> {
+impl<'a, R: Reader> FoundUnits<'a, R> {
     /// Reads all units, and numbers their entries.
-    pub(crate) fn read(alloc: Global, dwarf: &Dwarf<R>) -> ConvertResult<FoundUnits<R>>
+    pub(crate) fn read(alloc: Global, dwarf: &'a Dwarf<R>) -> ConvertResult<FoundUnits<'a, R>>
         ensures ok { IfOk result (λ f. NumbersUnits R.reading dwarf.now f.found) }
+        ensures file { IfOk result (λ f. f.read.now ≡ dwarf.now) }
         ensures err { IfErr result (λ e. (e ≡ NoMemory) ⊎ CannotRead R.reading dwarf.now e) }
     {
         let found = number_units(alloc, dwarf)?;
-        Ok(FoundUnits { found })
+        Ok(FoundUnits { read: dwarf, found })
     }
 
     /// The unit of an index in its file, where the first of all becomes that of an id.
-    pub(crate) fn give<'a>(
-        &'a self,
-        dwarf: &'a Dwarf<R>,
-        index: usize,
-        first: UnitId,
-    ) -> GivenUnit<'a, R>
+    pub(crate) fn give(&self, index: usize, first: UnitId) -> GivenUnit<'_, R>
         requires { index < length self.now.found.units.items }
-        ensures { IsGiven self.now dwarf.now index first.0 result }
+        ensures { IsGiven self.now index first.0 result }
     {
         let numbered = &self.found.units[index];
         let start = numbered.unit.header.offset();
         GivenUnit {
             read: UnitRef {
-                dwarf,
+                dwarf: self.read,
                 unit: &numbered.unit,
             },
             refs: UnitRefs::new(&self.found.ids, UnitId::new(index), start, first),

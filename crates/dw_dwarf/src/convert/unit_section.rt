@@ -12,7 +12,6 @@ use crate::convert::unit_rows::UnitRows;
 use crate::dwarf::Dwarf;
 use dw_base::UnitId;
 use dw_read::Reader;
-use dw_read_units::Dwarf as ReadDwarf;
 use dw_sources::ConvertResult;
 use dw_strings::{LineStringTable, StringTable};
 use dw_unit::Unit;
@@ -32,8 +31,7 @@ use std::alloc::Global;
 #[derive(Drop)]
 pub struct ConvertUnitSection<'a, R: Reader> {
     pub(crate) alloc: Global,
-    pub(crate) read: &'a ReadDwarf<R>,
-    pub(crate) found: FoundUnits<R>,
+    pub(crate) found: FoundUnits<'a, R>,
     pub(crate) dwarf: &'a mut Dwarf,
     /// The number of the unit that the first of them becomes.
     pub(crate) first: usize,
@@ -55,7 +53,6 @@ impl<'a, R: Reader> ConvertUnitSection<'a, R> {
         };
         let ConvertUnitSection {
             alloc,
-            read,
             found,
             dwarf,
             first,
@@ -67,7 +64,7 @@ impl<'a, R: Reader> ConvertUnitSection<'a, R> {
             line_strings,
             strings,
         } = &mut **dwarf;
-        let given = found.give(*read, index, UnitId::new(*first));
+        let given = found.give(index, UnitId::new(*first));
         let unit = units.get_mut(id);
         let mut converter = ConvertUnit::of(*alloc, given, id, unit, line_strings, strings);
         let mut root = converter.null_entry();

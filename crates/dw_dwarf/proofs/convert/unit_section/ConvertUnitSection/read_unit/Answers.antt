@@ -30,11 +30,12 @@ returns g c =
     let root = root_read reading new c.read_entry.new.entry new.given.entries c.in_ok-read_entry.field-0 new.given.readable (c.in_ok-read_entry.ensures.reads [] (rows_held reading (held new)) stands) in
     record {
       left = p.1;
+      file = s.found.numbered;
       given =
-          subst (λ h. IsGiven s.found s.read.now s.next s.first h) (sym given)
-          (subst (λ n. IsGiven s.found s.read.now n s.first c.give-given.result) p.0
-          (subst (λ n. IsGiven s.found s.read.now c.in-Some.index n c.give-given.result) (c.new.ensures ∙ ap (λ x. x.first) p.3)
-          (subst (λ x. IsGiven x.found x.read.now c.in-Some.index c.new.result.0 c.give-given.result) p.3 c.give-given.ensures)));
+          subst (λ h. IsGiven s.found s.next s.first h) (sym given)
+          (subst (λ n. IsGiven s.found n s.first c.give-given.result) p.0
+          (subst (λ n. IsGiven s.found c.in-Some.index n c.give-given.result) (c.new.ensures ∙ ap (λ x. x.first) p.3)
+          (subst (λ x. IsGiven x.found c.in-Some.index c.new.result.0 c.give-given.result) p.3 c.give-given.ensures)));
       read_unit = ap (λ x. x.read_unit) same ∙ of.read_unit ∙ sym (ap (λ h. h.read) given);
       skeleton = ap (λ x. x.read_skeleton_unit) same ∙ of.skeleton;
       id = ap (λ x. x.id.0) same ∙ ap (λ i. i.0) of.id ∙ p.2;
