@@ -4,6 +4,7 @@ pub mod SizeLaws
 pub mod WriteSteps
 pub mod PartLaws
 pub mod Kept
+mod Copies
 pub mod Placing
 mod Worked
 pub mod ExpressionDrafts

@@ -1,5 +1,5 @@
 -- The operation of a tree that a value stands for.
-use Rattle.std.specs.Prelude.{List, map}
+use Rattle.std.specs.Prelude.{Bool, true, false, List, map}
 use Rattle.dw_expr.specs.Trees.{Plain, Node, plain, entry_value, tree_of}
 use Rattle.dw_expr.specs.Trees as trees
 use Rattle.dw_expr.specs.declared.op.Operation.{Operation}
@@ -40,3 +40,11 @@ node_of (ops.EntryValue expression) = entry_value (tree_of expression)
 
 abbrev pub nodes_in : List Operation → List Node
 nodes_in operations = map node_of operations
+
+-- neither bytes nor an expression belong to it
+abbrev pub owns_nothing : Operation → Bool
+owns_nothing (ops.Raw bytes) = false
+owns_nothing (ops.ConstantType entry bytes) = false
+owns_nothing (ops.ImplicitValue bytes) = false
+owns_nothing (ops.EntryValue expression) = false
+owns_nothing o = true

@@ -1,8 +1,8 @@
 //! Copies of expressions.
 
-ghost use Rattle.std.specs.Prelude.{◌≡◌, IfOk, IfErr};
+ghost use Rattle.std.specs.Prelude.{◌≡◌, IfOk, IfErr, IsTrue};
 ghost use Rattle.dw_base.specs.declared.error.Error.TheVariants.{NoMemory};
-ghost use Rattle.dw_expr.specs.Views.{node_of, nodes_in};
+ghost use Rattle.dw_expr.specs.Views.{node_of, nodes_in, owns_nothing};
 
 use super::{Expression, Operation};
 use dw_base::Result;
@@ -50,58 +50,72 @@ fn copy_operation(alloc: Global, operation: &Operation) -> result::Result<Operat
 {
     match operation {
         Operation::Raw(bytecode) => Ok(Operation::Raw(bytecode.clone()?)),
-        Operation::Simple(opcode) => Ok(Operation::Simple(*opcode)),
-        Operation::Address(address) => Ok(Operation::Address(*address)),
-        Operation::UnsignedConstant(value) => Ok(Operation::UnsignedConstant(*value)),
-        Operation::SignedConstant(value) => Ok(Operation::SignedConstant(*value)),
         Operation::ConstantType(base, value) => Ok(Operation::ConstantType(*base, value.clone()?)),
-        Operation::FrameOffset(offset) => Ok(Operation::FrameOffset(*offset)),
-        Operation::RegisterOffset(register, offset) => Ok(Operation::RegisterOffset(
-            *register, *offset,
-        )),
-        Operation::RegisterType(register, base) => Ok(Operation::RegisterType(*register, *base)),
-        Operation::Pick(index) => Ok(Operation::Pick(*index)),
-        Operation::Deref { space } => Ok(Operation::Deref { space: *space }),
-        Operation::DerefSize { space, size } => Ok(Operation::DerefSize {
-            space: *space,
-            size: *size,
-        }),
-        Operation::DerefType { space, size, base } => Ok(Operation::DerefType {
-            space: *space,
-            size: *size,
-            base: *base,
-        }),
-        Operation::PlusConstant(value) => Ok(Operation::PlusConstant(*value)),
-        Operation::Skip(target) => Ok(Operation::Skip(*target)),
-        Operation::Branch(target) => Ok(Operation::Branch(*target)),
-        Operation::Call(entry) => Ok(Operation::Call(*entry)),
-        Operation::CallRef(entry) => Ok(Operation::CallRef(*entry)),
-        Operation::VariableValue(entry) => Ok(Operation::VariableValue(*entry)),
-        Operation::Convert(base) => Ok(Operation::Convert(*base)),
-        Operation::Reinterpret(base) => Ok(Operation::Reinterpret(*base)),
-        Operation::Register(register) => Ok(Operation::Register(*register)),
         Operation::ImplicitValue(bytes) => Ok(Operation::ImplicitValue(bytes.clone()?)),
-        Operation::ImplicitPointer { entry, byte_offset } => Ok(Operation::ImplicitPointer {
-            entry: *entry,
-            byte_offset: *byte_offset,
-        }),
-        Operation::Piece { size_in_bytes } => Ok(Operation::Piece {
-            size_in_bytes: *size_in_bytes,
-        }),
-        Operation::BitPiece {
-            size_in_bits,
-            bit_offset,
-        } => Ok(Operation::BitPiece {
-            size_in_bits: *size_in_bits,
-            bit_offset: *bit_offset,
-        }),
-        Operation::ParameterRef(entry) => Ok(Operation::ParameterRef(*entry)),
-        Operation::WasmLocal(index) => Ok(Operation::WasmLocal(*index)),
-        Operation::WasmGlobal(index) => Ok(Operation::WasmGlobal(*index)),
-        Operation::WasmStack(index) => Ok(Operation::WasmStack(*index)),
         Operation::EntryValue(expression) => {
             let operations = copy_operations(alloc, expression.operations.as_slice())?;
             Ok(Operation::EntryValue(Expression { operations }))
         }
+        _ => Ok(copy_values(operation)),
+    }
+}
+
+/// A copy of an operation that owns neither bytes nor an expression.
+fn copy_values(operation: &Operation) -> Operation
+    requires { IsTrue (owns_nothing operation.now) }
+    ensures { result ≡ operation.now }
+{
+    match operation {
+        Operation::Simple(opcode) => Operation::Simple(*opcode),
+        Operation::Address(address) => Operation::Address(*address),
+        Operation::UnsignedConstant(value) => Operation::UnsignedConstant(*value),
+        Operation::SignedConstant(value) => Operation::SignedConstant(*value),
+        Operation::FrameOffset(offset) => Operation::FrameOffset(*offset),
+        Operation::RegisterOffset(register, offset) => Operation::RegisterOffset(
+            *register, *offset,
+        ),
+        Operation::RegisterType(register, base) => Operation::RegisterType(*register, *base),
+        Operation::Pick(index) => Operation::Pick(*index),
+        Operation::Deref { space } => Operation::Deref { space: *space },
+        Operation::DerefSize { space, size } => Operation::DerefSize {
+            space: *space,
+            size: *size,
+        },
+        Operation::DerefType { space, size, base } => Operation::DerefType {
+            space: *space,
+            size: *size,
+            base: *base,
+        },
+        Operation::PlusConstant(value) => Operation::PlusConstant(*value),
+        Operation::Skip(target) => Operation::Skip(*target),
+        Operation::Branch(target) => Operation::Branch(*target),
+        Operation::Call(entry) => Operation::Call(*entry),
+        Operation::CallRef(entry) => Operation::CallRef(*entry),
+        Operation::VariableValue(entry) => Operation::VariableValue(*entry),
+        Operation::Convert(base) => Operation::Convert(*base),
+        Operation::Reinterpret(base) => Operation::Reinterpret(*base),
+        Operation::Register(register) => Operation::Register(*register),
+        Operation::ImplicitPointer { entry, byte_offset } => Operation::ImplicitPointer {
+            entry: *entry,
+            byte_offset: *byte_offset,
+        },
+        Operation::Piece { size_in_bytes } => Operation::Piece {
+            size_in_bytes: *size_in_bytes,
+        },
+        Operation::BitPiece {
+            size_in_bits,
+            bit_offset,
+        } => Operation::BitPiece {
+            size_in_bits: *size_in_bits,
+            bit_offset: *bit_offset,
+        },
+        Operation::ParameterRef(entry) => Operation::ParameterRef(*entry),
+        Operation::WasmLocal(index) => Operation::WasmLocal(*index),
+        Operation::WasmGlobal(index) => Operation::WasmGlobal(*index),
+        Operation::WasmStack(index) => Operation::WasmStack(*index),
+        Operation::Raw(_)
+        | Operation::ConstantType(..)
+        | Operation::ImplicitValue(_)
+        | Operation::EntryValue(_) => unreachable!(),
     }
 }
