@@ -1,5 +1,5 @@
 -- Causes of several parts, and of elements one after another.
-use Rattle.std.specs.Prelude.{◌≡◌, ℕ, suc, zero, ◌+◌, ◌<◌, ◌≤◌, Bool, true, false, ◌||◌, List, [], ◌∷◌, ◌++◌, length, take, drop, get_or, map, Result, Ok, Err, OnOk, IfOk, Option, Some, None, refl, All, IsTrue, IsFalse}
+use Rattle.std.specs.Prelude.{◌≡◌, ℕ, suc, zero, ◌+◌, ◌<◌, ◌≤◌, Bool, true, false, ◌||◌, List, [], ◌∷◌, ◌++◌, length, take, drop, get_or, map, Result, Ok, Err, OnOk, IfOk, IfErr, Option, Some, None, refl, All, IsTrue, IsFalse}
 use Rattle.std.proofs.Common.{sym, ◌∙◌, ap, subst, arith}
 use Rattle.std.specs.List.{list_any}
 use Rattle.std.proofs.lemmas.List.{at_drop_more, at_drop_all, take_more}
@@ -17,6 +17,10 @@ first_false true b h = h
 second_false : (a b : Bool) → IsFalse (a || b) → IsFalse b
 second_false false b h = h
 second_false true b h = absurd (let k : true ≡ false = h in cc)
+
+-- what holds of the error that a call answers
+pub refused_at : {T : Type 0} (r : Result T Error) (p : Error → Type 0) (e : Error) → r ≡ Err e → p e → IfErr r p
+refused_at r p e is h = subst (λ q. IfErr q p) (sym is) h
 
 -- neither of two causes
 pub neither_cause : (f g : Error → Bool) → IsNone f → IsNone g → IsNone (λ e. f e || g e)

@@ -128,49 +128,48 @@ impl LocationListTable {
         ensures same { IsSameWriter (locations_of W.meaning encoding sections.old)
             (locations_of W.meaning encoding sections.new) }
     {
-        let alloc = *self.lists.allocator();
-        let lists = self.lists.as_slice();
         if encoding.version == 5 {
             let w = &mut sections.debug_loclists.0;
             let fixups = &mut sections.debug_loclists_fixups;
-            write_locations(alloc, lists, encoding, have_base_address, places, w, fixups)
+            self.write_to(encoding, have_base_address, places, w, fixups)
         } else {
             let w = &mut sections.debug_loc.0;
             let fixups = &mut sections.debug_loc_fixups;
-            write_locations(alloc, lists, encoding, have_base_address, places, w, fixups)
+            self.write_to(encoding, have_base_address, places, w, fixups)
         }
     }
-}
 
-/// Writes location lists to the section of their version.
-fn write_locations<W: Writer, P: EntryPlaces>(
-    alloc: Global,
-    lists: &[LocationList],
-    encoding: Encoding,
-    has_base: bool,
-    places: Option<&P>,
-    w: &mut W,
-    fixups: &mut FixupList,
-) -> Result<LocationListOffsets>
-    ensures ok { let place = place_by (known_by P.places places.entry) in
-        OnOk result (Drafts (W.meaning w.old) (W.meaning w.new) fixups.old fixups.new
-        (table_draft true encoding place (locations_in lists.now))) }
-    ensures offsets { let place = place_by (known_by P.places places.entry) in
-        IfOk result (λ r. r ≡ offsets_from true encoding place
-        (W.meaning w.old).size (locations_in lists.now)) }
-    ensures again { let place = place_by (known_by P.places places.entry) in
-        OnOk result (IsReadAgain true encoding place (locations_in lists.now)) }
-    ensures numbered { OnOk result
-        ((W.meaning w.old).is_plain ≡ true → All AreNumbered (locations_in lists.now)) }
-    ensures sound { let known = known_by P.places places.entry in
-        OnOk result (IsNone (table_fails true encoding known has_base
-        (W.meaning w.old).is_plain (locations_in lists.now))) }
-    ensures err { let known = known_by P.places places.entry in
-        IfErr result (Refused (W.meaning w.old) (W.meaning w.new)
-        (Is (table_fails true encoding known has_base
-        (W.meaning w.old).is_plain (locations_in lists.now)))) }
-    ensures same { IsSameWriter (W.meaning w.old) (W.meaning w.new) }
-{
-    let lists = write_table(alloc, lists, encoding, has_base, places, w, fixups)?;
-    Ok(LocationListOffsets { lists })
+    /// Writes the lists to the section of their version.
+    fn write_to<W: Writer, P: EntryPlaces>(
+        &self,
+        encoding: Encoding,
+        has_base: bool,
+        places: Option<&P>,
+        w: &mut W,
+        fixups: &mut FixupList,
+    ) -> Result<LocationListOffsets>
+        ensures ok { let place = place_by (known_by P.places places.entry) in
+            OnOk result (Drafts (W.meaning w.old) (W.meaning w.new) fixups.old fixups.new
+            (table_draft true encoding place (locations_in self.now))) }
+        ensures offsets { let place = place_by (known_by P.places places.entry) in
+            IfOk result (λ r. r ≡ offsets_from true encoding place
+            (W.meaning w.old).size (locations_in self.now)) }
+        ensures again { let place = place_by (known_by P.places places.entry) in
+            OnOk result (IsReadAgain true encoding place (locations_in self.now)) }
+        ensures numbered { OnOk result
+            ((W.meaning w.old).is_plain ≡ true → All AreNumbered (locations_in self.now)) }
+        ensures sound { let known = known_by P.places places.entry in
+            OnOk result (IsNone (table_fails true encoding known has_base
+            (W.meaning w.old).is_plain (locations_in self.now))) }
+        ensures err { let known = known_by P.places places.entry in
+            IfErr result (Refused (W.meaning w.old) (W.meaning w.new)
+            (Is (table_fails true encoding known has_base
+            (W.meaning w.old).is_plain (locations_in self.now)))) }
+        ensures same { IsSameWriter (W.meaning w.old) (W.meaning w.new) }
+    {
+        let alloc = *self.lists.allocator();
+        let lists = self.lists.as_slice();
+        let lists = write_table(alloc, lists, encoding, has_base, places, w, fixups)?;
+        Ok(LocationListOffsets { lists })
+    }
 }

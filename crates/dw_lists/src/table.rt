@@ -125,46 +125,43 @@ impl RangeListTable {
         ensures same { IsSameWriter (ranges_of W.meaning encoding sections.old)
             (ranges_of W.meaning encoding sections.new) }
     {
-        let alloc = *self.lists.allocator();
-        let lists = self.lists.as_slice();
         if encoding.version == 5 {
-            let w = &mut sections.debug_rnglists.0;
-            write_ranges(alloc, lists, encoding, have_base_address, w)
+            self.write_to(encoding, have_base_address, &mut sections.debug_rnglists.0)
         } else {
-            let w = &mut sections.debug_ranges.0;
-            write_ranges(alloc, lists, encoding, have_base_address, w)
+            self.write_to(encoding, have_base_address, &mut sections.debug_ranges.0)
         }
     }
-}
 
-/// Writes range lists to the section of their version.
-fn write_ranges<W: Writer>(
-    alloc: Global,
-    lists: &[RangeList],
-    encoding: Encoding,
-    has_base: bool,
-    w: &mut W,
-) -> Result<RangeListOffsets>
-    ensures ok { OnOk result
-        (IsWritten (W.meaning w.old) (W.meaning w.new)
-        (table_draft false encoding no_place (ranges_in lists.now))) }
-    ensures offsets { IfOk result
-        (λ r. r ≡ offsets_from false encoding no_place
-        (W.meaning w.old).size (ranges_in lists.now)) }
-    ensures again { OnOk result (IsReadAgain false encoding no_place (ranges_in lists.now)) }
-    ensures numbered { OnOk result
-        ((W.meaning w.old).is_plain ≡ true → All AreNumbered (ranges_in lists.now)) }
-    ensures sound { OnOk result
-        (IsNone (table_fails false encoding None has_base
-        (W.meaning w.old).is_plain (ranges_in lists.now))) }
-    ensures err { IfErr result
-        (Refused (W.meaning w.old) (W.meaning w.new)
-        (Is (table_fails false encoding None has_base
-        (W.meaning w.old).is_plain (ranges_in lists.now)))) }
-    ensures same { IsSameWriter (W.meaning w.old) (W.meaning w.new) }
-{
-    let places = None::<&NoPlaces>;
-    let mut fixups = FixupList::new(alloc);
-    let lists = write_table(alloc, lists, encoding, has_base, places, w, &mut fixups)?;
-    Ok(RangeListOffsets { lists })
+    /// Writes the lists to the section of their version.
+    fn write_to<W: Writer>(
+        &self,
+        encoding: Encoding,
+        has_base: bool,
+        w: &mut W,
+    ) -> Result<RangeListOffsets>
+        ensures ok { OnOk result
+            (IsWritten (W.meaning w.old) (W.meaning w.new)
+            (table_draft false encoding no_place (ranges_in self.now))) }
+        ensures offsets { IfOk result
+            (λ r. r ≡ offsets_from false encoding no_place
+            (W.meaning w.old).size (ranges_in self.now)) }
+        ensures again { OnOk result (IsReadAgain false encoding no_place (ranges_in self.now)) }
+        ensures numbered { OnOk result
+            ((W.meaning w.old).is_plain ≡ true → All AreNumbered (ranges_in self.now)) }
+        ensures sound { OnOk result
+            (IsNone (table_fails false encoding None has_base
+            (W.meaning w.old).is_plain (ranges_in self.now))) }
+        ensures err { IfErr result
+            (Refused (W.meaning w.old) (W.meaning w.new)
+            (Is (table_fails false encoding None has_base
+            (W.meaning w.old).is_plain (ranges_in self.now)))) }
+        ensures same { IsSameWriter (W.meaning w.old) (W.meaning w.new) }
+    {
+        let alloc = *self.lists.allocator();
+        let lists = self.lists.as_slice();
+        let places = None::<&NoPlaces>;
+        let mut fixups = FixupList::new(alloc);
+        let lists = write_table(alloc, lists, encoding, has_base, places, w, &mut fixups)?;
+        Ok(RangeListOffsets { lists })
+    }
 }
