@@ -85,6 +85,11 @@ module _ (loc : Bool) (e : Encoding) (place : ℕ → Option ℕ) where
   none_written m x [] h = Drafts-nothing m x
   none_written m x (y ∷ ys) h = absurd (omega arith)
 
+-- nothing refuses it
+pub none_refused : (loc : Bool) (e : Encoding) (known : Option (ℕ → Option ℕ)) (base plain : Bool) (xs : List (List Part)) → length xs ≡ 0 → IsNone (table_fails loc e known base plain xs)
+none_refused loc e known base plain [] h = λ err. refl
+none_refused loc e known base plain (y ∷ ys) h = absurd (omega arith)
+
 -- what a match on the version tells
 pub not_five : (e : Encoding) → (e.version ≡ 5 → ⊥) → is_five e ≡ false
 not_five e h = ne_eqb e.version 5 h

@@ -1,11 +1,14 @@
-use Rattle.std.proofs.Common.{◌∙◌, ◌<◌, sym, subst, map, length, true, false, arith}
+use Rattle.std.proofs.Common.{◌∙◌, ◌<◌, ap, sym, Err, subst, map, length, true, false, arith}
 use Rattle.std.proofs.lemmas.List.{length-map}
+use Rattle.std.proofs.lemmas.Result.{err_from_is_err_and}
 use Rattle.dw_writer.proofs.Outcomes.{OnOk-map, IfErr-map}
 use Rattle.dw_writer.proofs.WriteLaws.{Drafts-is}
 use Rattle.dw_expr.specs.Places.{known_by, place_by}
-use Rattle.dw_lists.specs.Causes.{IsNone, lists_fail}
-use Rattle.dw_lists.proofs.Causes.{IfOk-map}
-use Rattle.dw_lists.proofs.Versions.{five_is, four_is, some_of, none_of, new_table_is, new_offsets_is, table_none, table_refused, none_written}
+use Rattle.dw_lists.specs.Kinds.{kinds_of}
+use Rattle.dw_lists.specs.Texts.{lists_draft}
+use Rattle.dw_lists.specs.Causes.{IsNone, Refused, Is, lists_fail}
+use Rattle.dw_lists.proofs.Causes.{IfOk-map, refused_at}
+use Rattle.dw_lists.proofs.Versions.{five_is, four_is, some_of, none_of, new_table_is, new_offsets_is, old_table_is, table_none, table_refused, none_written, none_refused}
 use Rattle.dw_lists.proofs.lists.write_table.Goals as goal
 
 pub returns-then-is_empty-clause-ok : goal.returns-then-is_empty-clause-ok
@@ -91,3 +94,41 @@ returns-in_ok-places-in-2-to-4-clause-sound g c =
     let four = four_is v (omega (arith, c.in-2-to-4)) in
     table_none loc v known base false four m.is_plain (omega (arith, c.in-2-to-4)) (omega (arith, c.in-2-to-4)) xs some
     (subst (λ b. IsNone (lists_fail v known m.is_plain b base xs)) four c.in_ok-places-in-2-to-4.ensures.sound)
+
+pub returns-then-is_empty-clause-sound : goal.returns-then-is_empty-clause-sound
+returns-then-is_empty-clause-sound g c =
+    let loc = g.L.ItemList.is_location in
+    let xs = map g.L.ItemList.parts c.args.lists.now in
+    let v = c.args.encoding in
+    let known = known_by g.P.EntryPlaces.places c.args.places in
+    let plain = (g.W.Writer.meaning c.args.w.now).is_plain in
+    none_refused loc v known c.args.has_base plain xs (length-map c.args.lists.now g.L.ItemList.parts ∙ none_of (length c.args.lists.now) (sym c.if-is_empty.ensures))
+
+pub returns-in_err-places-in-2-to-4-clause-err : goal.returns-in_err-places-in-2-to-4-clause-err
+returns-in_err-places-in-2-to-4-clause-err g c =
+    let loc = g.L.ItemList.is_location in
+    let xs = map g.L.ItemList.parts c.args.lists.now in
+    let v = c.args.encoding in
+    let known = known_by g.P.EntryPlaces.places c.args.places in
+    let base = c.args.has_base in
+    let m = g.W.Writer.meaning c.args.w.now in
+    let filled = some_of (length c.args.lists.now) (sym c.if-is_empty.ensures) in
+    let some : 0 < length xs = omega (arith, filled, length-map c.args.lists.now g.L.ItemList.parts) in
+    let four = four_is v (omega (arith, c.in-2-to-4)) in
+    let p = err_from_is_err_and c.from_residual.result c.from_residual.ensures.1 in
+    let err = c.in_err-places-in-2-to-4.field-0.0 in
+    let new = g.W.Writer.meaning c.write_lists.new.w in
+    refused_at c.from_residual.result _ err (p.1 ∙ ap Err p.2)
+    (table_refused loc v known base false four m.is_plain m new xs some err
+    (subst (λ b. Refused m new (Is (lists_fail v known m.is_plain b base xs)) err) four c.in_err-places-in-2-to-4.ensures.err))
+
+pub returns-in_ok-places-in-2-to-4-clause-ok : goal.returns-in_ok-places-in-2-to-4-clause-ok
+returns-in_ok-places-in-2-to-4-clause-ok g c =
+    let loc = g.L.ItemList.is_location in
+    let xs = map g.L.ItemList.parts c.args.lists.now in
+    let v = c.args.encoding in
+    let place = place_by (known_by g.P.EntryPlaces.places c.args.places) in
+    let filled = some_of (length c.args.lists.now) (sym c.if-is_empty.ensures) in
+    let some : 0 < length xs = omega (arith, filled, length-map c.args.lists.now g.L.ItemList.parts) in
+    let four = four_is v (omega (arith, c.in-2-to-4)) in
+    Drafts-is c.in_ok-places-in-2-to-4.ensures.ok (ap (λ b. lists_draft b v place (kinds_of loc) xs) four ∙ old_table_is loc v place four xs some)
