@@ -1,5 +1,5 @@
 -- Items with the expressions of locations: their sizes, what is written of them, and why they are refused.
-use Rattle.std.specs.Prelude.{◌≡◌, ℕ, zero, suc, ◌+◌, ◌<◌, ◌^◌, Bool, true, false, List, [], ◌∷◌, length, Option, Some, None, refl, IsTrue}
+use Rattle.std.specs.Prelude.{◌≡◌, ℕ, zero, suc, ◌+◌, ◌<◌, ◌^◌, Bool, true, false, List, [], ◌∷◌, length, Option, Some, None, refl, IsTrue, Result, OnOk, IfErr}
 use Rattle.std.proofs.Common.{sym, ◌∙◌, ap, subst}
 use Rattle.std.proofs.lemmas.Bool.{leb-false, or_left, or_right}
 use Rattle.std.proofs.Math.Path.{fun_ext}
@@ -8,14 +8,16 @@ use Rattle.dw_base.specs.Leb128.{uleb}
 use Rattle.dw_base.specs.declared.common.Encoding.{Encoding}
 use Rattle.dw_base.specs.declared.error.Error.{Error}
 use Rattle.dw_base.specs.declared.error.Error.TheVariants as errors
-use Rattle.dw_writer.specs.Meaning.{Meaning, Adds}
+use Rattle.dw_writer.specs.Meaning.{Meaning, IsSameWriter, Adds}
 use Rattle.dw_writer.specs.SectionTexts.{bytes_text}
+use Rattle.dw_writer.proofs.FaultLaws.{HasRisen-from}
+use Rattle.dw_writer.proofs.Outcomes.{OnOk-map, IfErr-map}
 use Rattle.dw_writer.proofs.Steps.{Adds-appends}
 use Rattle.dw_writer.specs.Drafts.{whole, then_draft, Drafts}
 use Rattle.dw_writer.specs.declared.fixup.DebugInfoFixup.{DebugInfoFixup}
 use Rattle.dw_writer.proofs.WriteLaws.{Drafts-then, Drafts-whole}
 use Rattle.dw_expr.specs.Trees.{Node}
-use Rattle.dw_expr.specs.Places.{place_by}
+use Rattle.dw_expr.specs.Places.{place_by, Refused as expressions_refused}
 use Rattle.dw_expr.specs.Spelling.{expression_draft, expression_size}
 use Rattle.dw_expr.specs.Causes as expressions
 use Rattle.dw_lists.specs.declared.kinds.Kinds.{Kinds}
@@ -24,8 +26,9 @@ use Rattle.dw_lists.specs.Items.{Span, is_five}
 use Rattle.dw_lists.specs.Parts.{Part, part_at, ranges_parts}
 use Rattle.dw_lists.specs.Pieces.{IsWritten}
 use Rattle.dw_lists.specs.Texts.{count_draft, located, part_draft, span_draft, span_in, span_text, span_size}
-use Rattle.dw_lists.specs.Causes.{Refused, Is, IsNone, located_fails, old_span_fails, new_span_fails, old_fails, new_part_fails}
+use Rattle.dw_lists.specs.Causes.{Refused, Is, IsNone, count_of_fails, located_fails, old_span_fails, new_span_fails, old_fails, new_part_fails}
 use Rattle.dw_lists.proofs.Causes.{neither_cause, first_none}
+use Rattle.dw_lists.proofs.Refusals.{weaker}
 use Rattle.dw_lists.proofs.Spans.{written-number}
 use Rattle.dw_lists.proofs.TableCauses.{unsized_quiet}
 
@@ -60,6 +63,33 @@ module _ (v : Encoding) (known : Option (ℕ → Option ℕ)) (plain : Bool) whe
 
   pub new_part_none : (r : Option Range) (x : Option (List Node)) → IsNone (new_span_fails plain v.address_size r) → IsNone (located_fails v known plain true x) → IsNone (new_part_fails v known plain (record { range = r; expression = x }))
   new_part_none r x n h = neither_cause (new_span_fails plain v.address_size r) (located_fails v known plain true x) n h
+
+-- a call that writes an expression behind its length, from what its last call answers
+module _ (v : Encoding) (known : Option (ℕ → Option ℕ)) (five : Bool) (o : Option (List Node)) (x : List Node) (is : o ≡ Some x) where
+  refused_by : (a b c : Meaning) → IsSameWriter a b → (e : Error) → expressions_refused b c (expressions.expression_fails v known true b.is_plain x) e → Refused a c (Is (located_fails v known a.is_plain five (Some x))) e
+  refused_by a b c same errors.NoMemory h = tt
+  refused_by a b c same errors.WriteFault h = HasRisen-from a b c same.faults h
+  refused_by a b c same e h = or_left _ _ (subst (λ p. Is (expressions.expression_fails v known true p x) e) same.kind h)
+
+  pub located_refused : {T : Type 0} (r : Result T Error) (a b c : Meaning) → IsSameWriter a b → IfErr r (expressions_refused b c (expressions.expression_fails v known true b.is_plain x)) →
+      IfErr r (Refused a c (Is (located_fails v known a.is_plain five o)))
+  located_refused r a b c same h =
+      subst (λ y. IfErr r (Refused a c (Is (located_fails v known a.is_plain five y)))) (sym is) (IfErr-map r h (refused_by a b c same))
+
+  pub count_located : (a b : Meaning) (n : ℕ) → n ≡ expression_size v (place_by known) x → (e : Error) → Refused a b (Is (count_of_fails five n)) e → Refused a b (Is (located_fails v known a.is_plain five o)) e
+  count_located a b n size e h =
+      subst (λ y. Refused a b (Is (located_fails v known a.is_plain five y)) e) (sym is)
+      (weaker a b (Is (count_of_fails five n)) (Is (located_fails v known a.is_plain five (Some x)))
+      (λ err k. or_right (expressions.expression_fails v known true a.is_plain x err) _ (subst (λ m. Is (count_of_fails five m) err) size k)) e h)
+
+  pub located_sound : {T : Type 0} (r : Result T Error) (a b : Meaning) (n : ℕ) → IsSameWriter a b → n ≡ expression_size v (place_by known) x → IsNone (count_of_fails five n) →
+      OnOk r (IsNone (expressions.expression_fails v known true b.is_plain x)) → OnOk r (IsNone (located_fails v known a.is_plain five o))
+  located_sound r a b n same size k h =
+      subst (λ y. OnOk r (IsNone (located_fails v known a.is_plain five y))) (sym is)
+      (OnOk-map r h (λ none.
+      neither_cause (expressions.expression_fails v known true a.is_plain x) (count_of_fails five (expression_size v (place_by known) x))
+      (subst (λ p. IsNone (expressions.expression_fails v known true p x)) same.kind none)
+      (subst (λ m. IsNone (count_of_fails five m)) size k)))
 
 -- the causes of an item are those of its range and of its expression
 module _ (v : Encoding) (known : Option (ℕ → Option ℕ)) (plain : Bool) (x : Option (List Node)) where

@@ -1,13 +1,54 @@
-use Rattle.std.proofs.Common.{sym, subst}
-use Rattle.dw_writer.proofs.Outcomes.{OnOk-map}
-use Rattle.dw_expr.specs.Places.{known_by}
-use Rattle.dw_lists.specs.Causes.{IsNone, list_fails}
-use Rattle.dw_lists.proofs.Versions.{five_is}
+use Rattle.std.proofs.Common.{true, false}
+use Rattle.dw_expr.specs.Places.{known_by, place_by}
+use Rattle.dw_lists.specs.Kinds.{kinds_of}
+use Rattle.dw_lists.proofs.Chosen.{list_drafts, list_readable, list_sound, list_refused}
+use Rattle.dw_lists.proofs.Versions.{five_is, not_five}
 use Rattle.dw_lists.proofs.list.write_list.Goals as goal
+
+pub returns-then-encoding-eq5-clause-ok : goal.returns-then-encoding-eq5-clause-ok
+returns-then-encoding-eq5-clause-ok g c =
+    let known = known_by g.P.EntryPlaces.places c.args.places in
+    let is = five_is c.args.encoding c.if-encoding-eq5.true in
+    list_drafts c.args.encoding true is c.write_new_list.result (g.W.Writer.meaning c.args.w.now) (g.W.Writer.meaning c.write_new_list.new.w) _ _ (place_by known) (kinds_of g.L.ItemList.is_location) (g.L.ItemList.parts c.args.list.now) c.write_new_list.ensures.ok
+
+pub returns-then-encoding-eq5-clause-readable : goal.returns-then-encoding-eq5-clause-readable
+returns-then-encoding-eq5-clause-readable g c =
+    let known = known_by g.P.EntryPlaces.places c.args.places in
+    let is = five_is c.args.encoding c.if-encoding-eq5.true in
+    list_readable c.args.encoding true is c.write_new_list.result (place_by known) (g.L.ItemList.parts c.args.list.now) c.write_new_list.ensures.readable
 
 pub returns-then-encoding-eq5-clause-sound : goal.returns-then-encoding-eq5-clause-sound
 returns-then-encoding-eq5-clause-sound g c =
-    let v = c.args.encoding in
     let known = known_by g.P.EntryPlaces.places c.args.places in
-    OnOk-map c.write_new_list.result c.write_new_list.ensures.sound
-    (λ h. subst (λ b. IsNone (list_fails v known (g.W.Writer.meaning c.args.w.now).is_plain b c.args.has_base (g.L.ItemList.parts c.args.list.now))) (sym (five_is v c.if-encoding-eq5.true)) h)
+    let is = five_is c.args.encoding c.if-encoding-eq5.true in
+    list_sound c.args.encoding true is c.write_new_list.result known (g.W.Writer.meaning c.args.w.now).is_plain c.args.has_base (g.L.ItemList.parts c.args.list.now) c.write_new_list.ensures.sound
+
+pub returns-then-encoding-eq5-clause-err : goal.returns-then-encoding-eq5-clause-err
+returns-then-encoding-eq5-clause-err g c =
+    let known = known_by g.P.EntryPlaces.places c.args.places in
+    let is = five_is c.args.encoding c.if-encoding-eq5.true in
+    list_refused c.args.encoding true is c.write_new_list.result (g.W.Writer.meaning c.args.w.now) (g.W.Writer.meaning c.write_new_list.new.w) known (g.W.Writer.meaning c.args.w.now).is_plain c.args.has_base (g.L.ItemList.parts c.args.list.now) c.write_new_list.ensures.err
+
+pub returns-else-encoding-eq5-clause-ok : goal.returns-else-encoding-eq5-clause-ok
+returns-else-encoding-eq5-clause-ok g c =
+    let known = known_by g.P.EntryPlaces.places c.args.places in
+    let is = not_five c.args.encoding c.if-encoding-eq5.false in
+    list_drafts c.args.encoding false is c.write_old_list.result (g.W.Writer.meaning c.args.w.now) (g.W.Writer.meaning c.write_old_list.new.w) _ _ (place_by known) (kinds_of g.L.ItemList.is_location) (g.L.ItemList.parts c.args.list.now) c.write_old_list.ensures.ok
+
+pub returns-else-encoding-eq5-clause-readable : goal.returns-else-encoding-eq5-clause-readable
+returns-else-encoding-eq5-clause-readable g c =
+    let known = known_by g.P.EntryPlaces.places c.args.places in
+    let is = not_five c.args.encoding c.if-encoding-eq5.false in
+    list_readable c.args.encoding false is c.write_old_list.result (place_by known) (g.L.ItemList.parts c.args.list.now) c.write_old_list.ensures.readable
+
+pub returns-else-encoding-eq5-clause-sound : goal.returns-else-encoding-eq5-clause-sound
+returns-else-encoding-eq5-clause-sound g c =
+    let known = known_by g.P.EntryPlaces.places c.args.places in
+    let is = not_five c.args.encoding c.if-encoding-eq5.false in
+    list_sound c.args.encoding false is c.write_old_list.result known (g.W.Writer.meaning c.args.w.now).is_plain c.args.has_base (g.L.ItemList.parts c.args.list.now) c.write_old_list.ensures.sound
+
+pub returns-else-encoding-eq5-clause-err : goal.returns-else-encoding-eq5-clause-err
+returns-else-encoding-eq5-clause-err g c =
+    let known = known_by g.P.EntryPlaces.places c.args.places in
+    let is = not_five c.args.encoding c.if-encoding-eq5.false in
+    list_refused c.args.encoding false is c.write_old_list.result (g.W.Writer.meaning c.args.w.now) (g.W.Writer.meaning c.write_old_list.new.w) known (g.W.Writer.meaning c.args.w.now).is_plain c.args.has_base (g.L.ItemList.parts c.args.list.now) c.write_old_list.ensures.err
