@@ -5,6 +5,7 @@ pub mod WriteSteps
 pub mod PartLaws
 pub mod Kept
 mod Copies
+mod OperandLaws
 pub mod Placing
 mod Worked
 pub mod ExpressionDrafts
