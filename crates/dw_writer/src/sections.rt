@@ -1,6 +1,6 @@
 //! The sections of a file.
 
-ghost use Rattle.std.specs.Prelude.{◌≡◌, IfOk, IfErr};
+ghost use Rattle.std.specs.Prelude.{◌≡◌, IfOk, IfErr, MatchResult};
 ghost use Rattle.std.specs.Borrow.{sem};
 ghost use Rattle.std.specs.Option.{option_copied, option_copied_mut};
 ghost use Rattle.dw_base.specs.declared.error.Error.TheVariants.{NoMemory};
@@ -73,12 +73,10 @@ impl<W: Writer + Clone> Sections<W> {
 // Five clones of a writer.
 fn clones<W: Writer + Clone>(section: &W) -> Result<(W, W, W, W, W)>
     requires { (w : W) → W.is_clone section.now w → W.meaning w ≡ W.meaning section.now }
-    ensures first { IfOk result (λ five. W.meaning five.0 ≡ W.meaning section.now) }
-    ensures second { IfOk result (λ five. W.meaning five.1 ≡ W.meaning section.now) }
-    ensures third { IfOk result (λ five. W.meaning five.2 ≡ W.meaning section.now) }
-    ensures fourth { IfOk result (λ five. W.meaning five.3 ≡ W.meaning section.now) }
-    ensures fifth { IfOk result (λ five. W.meaning five.4 ≡ W.meaning section.now) }
-    ensures err { IfErr result (λ e. e ≡ NoMemory) }
+    ensures { let m = W.meaning section.now in
+        MatchResult result (λ five. (W.meaning five.0 ≡ m) × (W.meaning five.1 ≡ m)
+        × (W.meaning five.2 ≡ m) × (W.meaning five.3 ≡ m) × (W.meaning five.4 ≡ m))
+        (λ e. e ≡ NoMemory) }
 {
     Ok((
         section.clone()?,
