@@ -46,9 +46,8 @@ module _ (e : Encoding) (known : Option (ℕ → Option ℕ)) (keeps plain : Boo
 
 -- the same of the size of an operand
 module _ (e : Encoding) (known : Option (ℕ → Option ℕ)) where
-  pub placed_by : {T : Type 0} (r : Result T Error) (p o : Given) → p ≡ o → OnOk r ((err : Error) → IsFalse (base_fails e known (operand_in o) err)) →
-      OnOk r ((err : Error) → IsFalse (base_fails e known (operand_in p) err))
-  placed_by r p o is h = subst (λ q. OnOk r ((err : Error) → IsFalse (base_fails e known (operand_in q) err))) (sym is) h
+  pub placed_by : (p o : Given) → p ≡ o → ((err : Error) → IsFalse (base_fails e known (operand_in o) err)) → (err : Error) → IsFalse (base_fails e known (operand_in p) err)
+  placed_by p o is h = subst (λ q. (err : Error) → IsFalse (base_fails e known (operand_in q) err)) (sym is) h
 
   pub size_by : (n : ℕ) (p o : Given) → p ≡ o → n ≡ operand_size e (place_by known) (operand_in o) → n ≡ operand_size e (place_by known) (operand_in p)
   size_by n p o is h = h ∙ ap (λ q. operand_size e (place_by known) (operand_in q)) (sym is)
