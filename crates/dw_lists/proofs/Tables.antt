@@ -1,7 +1,7 @@
 -- What calls that write a table come to.
 use Rattle.std.specs.Prelude.{◌≡◌, ℕ, ◌+◌, ◌*◌, ◌<◌, ◌≤◌, ◌^◌, Bool, true, false, List, [], ◌∷◌, ◌++◌, length, drop, take, map, get_or, Option, Some, None, refl, IsTrue}
 use Rattle.std.proofs.Common.{sym, ◌∙◌, ap, subst, arith, append-nil, append_assoc, length-append, take_all}
-use Rattle.std.proofs.lemmas.List.{at_drop_more}
+use Rattle.std.proofs.lemmas.List.{at_drop_more, at_drop_all}
 use Rattle.std.proofs.lemmas.Bool.{lt-ltb}
 use Rattle.dw_base.specs.Numbers.{when, num, word_of, escape_of, length_fits, length_size}
 use Rattle.dw_base.specs.declared.common.Encoding.{Encoding}
@@ -64,6 +64,14 @@ module _ (five : Bool) (v : Encoding) (place : ℕ → Option ℕ) (k : Kinds) w
 
     pub end_within : (at total : ℕ) → at + (lists_draft five v place k (drop i xs)).size ≡ total → at + (list_draft five v place k x).size ≤ total
     end_within at total h = omega (arith, more_size, h)
+
+  -- past the last list
+  module _ (xs : List (List Part)) (i : ℕ) (past : length xs ≤ i) where
+    pub places_ended : (at : ℕ) (all whole : List ℕ) → all ++ places_from five v place k at (drop i xs) ≡ whole → all ≡ whole
+    places_ended at all whole h = sym (at_drop_all (λ ys. all ++ places_from five v place k at ys) xs i past ∙ append-nil all) ∙ h
+
+    pub end_ended : (at total : ℕ) → at + (lists_draft five v place k (drop i xs)).size ≡ total → at ≡ total
+    end_ended at total h = let none = at_drop_all (λ ys. (lists_draft five v place k ys).size) xs i past in omega (arith, none, h)
 
   pub length-places : (at : ℕ) (xs : List (List Part)) → length (places_from five v place k at xs) ≡ length xs
   length-places at [] = refl

@@ -1,13 +1,13 @@
-use Rattle.std.proofs.Common.{◌∙◌, ◌<◌, ◌+◌, ap, map, length, true, arith}
+use Rattle.std.proofs.Common.{◌∙◌, ◌<◌, ◌≤◌, ◌+◌, ◌++◌, refl, ap, map, length, true, arith}
 use Rattle.std.proofs.lemmas.List.{length-map}
 use Rattle.std.proofs.lemmas.Result.{err_from_is_err_and}
 use Rattle.std.proofs.lemmas.Bool.{or_left}
 use Rattle.dw_expr.specs.Places.{known_by, place_by}
 use Rattle.dw_lists.specs.Kinds.{kinds_of}
-use Rattle.dw_lists.specs.Texts.{lists_draft}
+use Rattle.dw_lists.specs.Texts.{lists_draft, places_from}
 use Rattle.dw_lists.specs.Causes.{lists_unsized_in, size_fails}
 use Rattle.dw_lists.proofs.Causes.{map_there}
-use Rattle.dw_lists.proofs.Tables.{places_more, end_more, end_within}
+use Rattle.dw_lists.proofs.Tables.{places_more, places_ended, end_more, end_ended, end_within}
 use Rattle.dw_lists.proofs.TableCauses.{list_unsized, memory_or}
 use Rattle.dw_lists.proofs.Refusals.{passes}
 use Rattle.dw_lists.proofs.lists.entries.Goals as goal
@@ -63,3 +63,32 @@ returns-in_err-at-clause-err g c =
     let p = err_from_is_err_and c.from_residual-in_err-at.result c.from_residual-in_err-at.ensures.1 in
     rw (p.1, p.2) (memory_or (lists_unsized_in v known total xs) c.in_err-at.field-0.0
     (or_left (size_fails total c.in_err-at.field-0.0) _ (passes _ total c.in_err-at.field-0.0 c.in_err-at.ensures.err (omega (arith, within, c.in_ok-size.ensures.ok)))))
+
+pub loop-list-init : goal.loop-list-init
+loop-list-init g c =
+    let place = place_by (known_by g.P.EntryPlaces.places c.args.places) in
+    let k = kinds_of g.L.ItemList.is_location in
+    record {
+      places = ap (λ ys. ys ++ places_from true c.args.encoding place k c.args.start (map g.L.ItemList.parts c.args.lists.now)) c.new-all.ensures.items;
+      end = refl;
+    }
+
+pub returns-clause-places : goal.returns-clause-places
+returns-clause-places g c =
+    let f = g.L.ItemList.parts in
+    let v = c.args.encoding in
+    let xs = map f c.args.lists.now in
+    let place = place_by (known_by g.P.EntryPlaces.places c.args.places) in
+    let k = kinds_of g.L.ItemList.is_location in
+    let past : length xs ≤ c.loop-list.list-index = omega (arith, c.loop-list-test.false, length-map c.args.lists.now f) in
+    places_ended true v place k xs c.loop-list.list-index past c.loop-list.at c.loop-list.all.items _ c.loop-list.invariant.places
+
+pub returns-clause-end : goal.returns-clause-end
+returns-clause-end g c =
+    let f = g.L.ItemList.parts in
+    let v = c.args.encoding in
+    let xs = map f c.args.lists.now in
+    let place = place_by (known_by g.P.EntryPlaces.places c.args.places) in
+    let k = kinds_of g.L.ItemList.is_location in
+    let past : length xs ≤ c.loop-list.list-index = omega (arith, c.loop-list-test.false, length-map c.args.lists.now f) in
+    end_ended true v place k xs c.loop-list.list-index past c.loop-list.at _ c.loop-list.invariant.end

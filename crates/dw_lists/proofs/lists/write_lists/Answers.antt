@@ -10,7 +10,7 @@ use Rattle.dw_lists.specs.Texts.{list_draft, lists_draft, places_from, AreReadab
 use Rattle.dw_lists.specs.Causes.{IsNone, list_fails}
 use Rattle.dw_lists.proofs.Causes.{map_there, any_more, any_ended, All-more}
 use Rattle.dw_lists.proofs.TableCauses.{lists_refused}
-use Rattle.dw_lists.proofs.Tables.{places_more}
+use Rattle.dw_lists.proofs.Tables.{places_more, places_ended}
 use Rattle.dw_lists.proofs.lists.write_lists.Goals as goal
 
 pub loop-list-init : goal.loop-list-init
@@ -92,3 +92,13 @@ returns-clause-sound g c =
     let known = known_by g.P.EntryPlaces.places c.args.places in
     let past : length xs ≤ c.loop-list.list-index = omega (arith, c.loop-list-test.false, length-map c.args.lists.now f) in
     λ e. c.loop-list.invariant.none e ∙ any_ended (list_fails v known (g.W.Writer.meaning c.args.w.now).is_plain (is_five v) c.args.has_base) xs c.loop-list.list-index past e
+
+pub returns-clause-places : goal.returns-clause-places
+returns-clause-places g c =
+    let f = g.L.ItemList.parts in
+    let v = c.args.encoding in
+    let xs = map f c.args.lists.now in
+    let place = place_by (known_by g.P.EntryPlaces.places c.args.places) in
+    let k = kinds_of g.L.ItemList.is_location in
+    let past : length xs ≤ c.loop-list.list-index = omega (arith, c.loop-list-test.false, length-map c.args.lists.now f) in
+    places_ended (is_five v) v place k xs c.loop-list.list-index past (g.W.Writer.meaning c.loop-list.w).size c.loop-list.all.items _ c.loop-list.invariant.places
