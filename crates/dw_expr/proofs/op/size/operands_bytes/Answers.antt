@@ -61,3 +61,25 @@ returns g c =
     let total : n ≡ operands_size e (place_by known) (dense (operand_in os.code ∷ operand_in os.first ∷ operand_in os.second ∷ operand_in os.third ∷ [])) = omega (arith, all, c.in_ok-last.ensures.0, c.in_ok-behind.ensures.0) in
     Sized-is c.sum-3.result c.sum-3.ensures total
     (four_sound e known (operand_in os.code) (operand_in os.first) (operand_in os.second) (operand_in os.third) n total c.in_ok-code.ensures.sound c.in_ok-first.ensures.sound c.in_ok-second.ensures.sound c.in_ok-third.ensures.sound)
+
+pub returns-in_err-code : goal.returns-in_err-code
+returns-in_err-code g c =
+    let e = c.args.encoding in
+    let known = known_by g.P.EntryPlaces.places c.args.places in
+    let os = c.args.operands.now in
+    let p = err_from_is_err_and c.from_residual.result c.from_residual.ensures.1 in
+    let err = c.in_err-code.field-0.0 in
+    Sized-err c.from_residual.result _ _ err (p.1 ∙ ap Err p.2)
+    (four_fail e known (operand_in os.code) (operand_in os.first) (operand_in os.second) (operand_in os.third) err
+    (or_left (base_fails e known (operand_in os.code) err) _ c.in_err-code.ensures.err))
+
+pub returns-in_err-first : goal.returns-in_err-first
+returns-in_err-first g c =
+    let e = c.args.encoding in
+    let known = known_by g.P.EntryPlaces.places c.args.places in
+    let os = c.args.operands.now in
+    let p = err_from_is_err_and c.from_residual-in_err-first.result c.from_residual-in_err-first.ensures.1 in
+    let err = c.in_err-first.field-0.0 in
+    Sized-err c.from_residual-in_err-first.result _ _ err (p.1 ∙ ap Err p.2)
+    (four_fail e known (operand_in os.code) (operand_in os.first) (operand_in os.second) (operand_in os.third) err
+    (or_right (base_fails e known (operand_in os.code) err) _ (or_left (base_fails e known (operand_in os.first) err) _ c.in_err-first.ensures.err)))

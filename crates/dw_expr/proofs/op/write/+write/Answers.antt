@@ -339,3 +339,12 @@ write_operations-returns-in_err-write_operation-clause-same g t c = IsSameWriter
 
 pub write_operations-returns-in_err-write_operation-clause-unkept : goal.write_operations-returns-in_err-write_operation-clause-unkept
 write_operations-returns-in_err-write_operation-clause-unkept g t c k = c.write_operation.ensures.unkept k ∙ c.loop-i.invariant.unkept k
+
+pub write_operation-returns-clause-same : goal.write_operation-returns-clause-same
+write_operation-returns-clause-same g t c = IsSameWriter-trans c.write_operands.ensures.same (IsSameWriter-trans c.write_uleb128.ensures.same c.write_operations.ensures.same)
+
+pub write_operation-returns-clause-unkept : goal.write_operation-returns-clause-unkept
+write_operation-returns-clause-unkept g t c = λ k. c.write_operations.ensures.unkept k ∙ c.write_operands.ensures.unkept k
+
+pub write_operation-returns-in_err-write_uleb128-clause-same : goal.write_operation-returns-in_err-write_uleb128-clause-same
+write_operation-returns-in_err-write_uleb128-clause-same g t c = IsSameWriter-trans c.write_operands.ensures.same c.write_uleb128.ensures.same

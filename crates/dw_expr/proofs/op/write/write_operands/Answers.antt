@@ -142,3 +142,21 @@ returns-in_err-write_operand-3-clause-err g c =
     (refused_after (meaning c.args.w.now) (meaning c.write_operand-2.new.w) (meaning c.write_operand-3.new.w) _ all same2
     (λ err h. four_writes_fail e known S to keeps plain code first second third err
     (or_right (F code err) _ (or_right (F first err) _ (or_left (F second err) _ (sym (same_kind e known S to keeps second err same2.kind) ∙ h))))) err c.in_err-write_operand-3.ensures.err)
+
+pub returns-clause-same : goal.returns-clause-same
+returns-clause-same g c = IsSameWriter-trans c.write_operand.ensures.same (IsSameWriter-trans c.write_operand-2.ensures.same (IsSameWriter-trans c.write_operand-3.ensures.same c.write_operand-4.ensures.same))
+
+pub returns-clause-unkept : goal.returns-clause-unkept
+returns-clause-unkept g c = λ k. c.write_operand-4.ensures.unkept k ∙ c.write_operand-3.ensures.unkept k ∙ c.write_operand-2.ensures.unkept k ∙ c.write_operand.ensures.unkept k
+
+pub returns-in_err-write_operand-2-clause-same : goal.returns-in_err-write_operand-2-clause-same
+returns-in_err-write_operand-2-clause-same g c = IsSameWriter-trans c.write_operand.ensures.same c.write_operand-2.ensures.same
+
+pub returns-in_err-write_operand-2-clause-unkept : goal.returns-in_err-write_operand-2-clause-unkept
+returns-in_err-write_operand-2-clause-unkept g c = λ k. c.write_operand-2.ensures.unkept k ∙ c.write_operand.ensures.unkept k
+
+pub returns-in_err-write_operand-3-clause-same : goal.returns-in_err-write_operand-3-clause-same
+returns-in_err-write_operand-3-clause-same g c = IsSameWriter-trans c.write_operand.ensures.same (IsSameWriter-trans c.write_operand-2.ensures.same c.write_operand-3.ensures.same)
+
+pub returns-in_err-write_operand-3-clause-unkept : goal.returns-in_err-write_operand-3-clause-unkept
+returns-in_err-write_operand-3-clause-unkept g c = λ k. c.write_operand-3.ensures.unkept k ∙ c.write_operand-2.ensures.unkept k ∙ c.write_operand.ensures.unkept k
