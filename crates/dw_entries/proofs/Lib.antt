@@ -7,6 +7,7 @@ pub mod Children
 pub mod ChildReads
 pub mod Arenas
 pub mod ValueLaws
+mod ValueSizes
 pub mod Replaced
 pub mod Walk
 pub mod Inside
