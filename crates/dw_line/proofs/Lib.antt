@@ -20,3 +20,4 @@ pub mod EntryTextLaws
 pub mod TableLaws
 pub mod TablesAgain
 pub mod NameSteps
+pub mod RefusalSteps

@@ -87,3 +87,6 @@ returns-clause-front g c =
     (Front-then c.in_ok-place.ensures.front (Front-then c.in_ok-write_parameters.ensures.front c.in_ok-write_tables.ensures.front)) in
     let within : (g.W.Writer.meaning c.args.w.now).size ≤ c.in_ok-place.place = omega (arith, c.in_ok-place.ensures.place, c.in_ok-write_version.ensures.ok.size) in
     λ tidy. Front-patched tidy c.in_ok-place.place within added _ _ c.write_initial_length_at.result c.write_initial_length_at.ensures.ok c.write_initial_length_at.ensures.partly
+
+pub returns-clause-same : goal.returns-clause-same
+returns-clause-same g c = IsSameWriter-trans (written g c) c.write_initial_length_at.ensures.same

@@ -54,3 +54,15 @@ pub returns-clause-front : goal.returns-clause-front
 returns-clause-front g c = Front-then c.in_ok-write_directory_formats.ensures.front
     (Front-then c.in_ok-write_names.ensures.front
     (Front-then c.in_ok-write_file_formats.ensures.front c.write_files.ensures.front))
+
+pub returns-in_err-write_directory_formats-clause-same : goal.returns-in_err-write_directory_formats-clause-same
+returns-in_err-write_directory_formats-clause-same g c = c.in_err-write_directory_formats.ensures.same
+
+pub returns-in_err-write_names-clause-same : goal.returns-in_err-write_names-clause-same
+returns-in_err-write_names-clause-same g c = IsSameWriter-trans c.in_ok-write_directory_formats.ensures.same c.in_err-write_names.ensures.same
+
+pub returns-in_err-write_file_formats-clause-same : goal.returns-in_err-write_file_formats-clause-same
+returns-in_err-write_file_formats-clause-same g c = IsSameWriter-trans c.in_ok-write_directory_formats.ensures.same (IsSameWriter-trans c.in_ok-write_names.ensures.same c.in_err-write_file_formats.ensures.same)
+
+pub returns-clause-same : goal.returns-clause-same
+returns-clause-same g c = IsSameWriter-trans c.in_ok-write_directory_formats.ensures.same (IsSameWriter-trans c.in_ok-write_names.ensures.same (IsSameWriter-trans c.in_ok-write_file_formats.ensures.same c.write_files.ensures.same))

@@ -59,3 +59,15 @@ returns-clause-front g c = Front-then c.in_ok-write_names.ensures.front
     (Front-then (Adds-front c.in_ok-write_u8.ensures.ok)
     (Front-then c.in_ok-write_files.ensures.front
     (Front-either _ _ c.write_u8-2.result c.write_u8-2.ensures.ok c.write_u8-2.ensures.partly)))
+
+pub returns-in_err-write_names-clause-same : goal.returns-in_err-write_names-clause-same
+returns-in_err-write_names-clause-same g c = c.in_err-write_names.ensures.same
+
+pub returns-in_err-write_u8-clause-same : goal.returns-in_err-write_u8-clause-same
+returns-in_err-write_u8-clause-same g c = IsSameWriter-trans c.in_ok-write_names.ensures.same c.in_err-write_u8.ensures.same
+
+pub returns-in_err-write_files-clause-same : goal.returns-in_err-write_files-clause-same
+returns-in_err-write_files-clause-same g c = IsSameWriter-trans c.in_ok-write_names.ensures.same (IsSameWriter-trans c.in_ok-write_u8.ensures.same c.in_err-write_files.ensures.same)
+
+pub returns-clause-same : goal.returns-clause-same
+returns-clause-same g c = IsSameWriter-trans c.in_ok-write_names.ensures.same (IsSameWriter-trans c.in_ok-write_u8.ensures.same (IsSameWriter-trans c.in_ok-write_files.ensures.same c.write_u8-2.ensures.same))

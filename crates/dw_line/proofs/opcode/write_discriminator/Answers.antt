@@ -2,7 +2,7 @@ use Rattle.std.proofs.Common.{◌≡◌, suc, ◌+◌, ◌∷◌, length, not, �
 use Rattle.dw_base.specs.Leb128.{uleb}
 use Rattle.dw_base.proofs.Leb128Laws.{uleb_short}
 use Rattle.dw_writer.proofs.Outcomes.{OnOk-map}
-use Rattle.dw_writer.proofs.Steps.{Adds-then}
+use Rattle.dw_writer.proofs.Steps.{IsSameWriter-trans, Adds-then}
 use Rattle.dw_line_machine.specs.Instructions.{extended_bytes}
 use Rattle.dw_line.proofs.Steps.{Adds-byte, needed, left_out, other, equal}
 use Rattle.dw_line.proofs.FrontSteps.{Adds-front, AddsSome-front, Front-either, Front-none, Front-then}
@@ -41,3 +41,15 @@ returns-then-discriminator-ne0-clause-front g c = Front-then (Adds-front c.in_ok
 
 pub returns-clause-front : goal.returns-clause-front
 returns-clause-front g c = Front-none _
+
+pub returns-in_err-write_u8-clause-same : goal.returns-in_err-write_u8-clause-same
+returns-in_err-write_u8-clause-same g c = c.in_err-write_u8.ensures.same
+
+pub returns-in_err-write_uleb128-clause-same : goal.returns-in_err-write_uleb128-clause-same
+returns-in_err-write_uleb128-clause-same g c = IsSameWriter-trans c.in_ok-write_u8.ensures.same c.in_err-write_uleb128.ensures.same
+
+pub returns-in_err-write_u8-2-clause-same : goal.returns-in_err-write_u8-2-clause-same
+returns-in_err-write_u8-2-clause-same g c = IsSameWriter-trans c.in_ok-write_u8.ensures.same (IsSameWriter-trans c.in_ok-write_uleb128.ensures.same c.in_err-write_u8-2.ensures.same)
+
+pub returns-then-discriminator-ne0-clause-same : goal.returns-then-discriminator-ne0-clause-same
+returns-then-discriminator-ne0-clause-same g c = IsSameWriter-trans c.in_ok-write_u8.ensures.same (IsSameWriter-trans c.in_ok-write_uleb128.ensures.same (IsSameWriter-trans c.in_ok-write_u8-2.ensures.same c.write_uleb128-then-discriminator-ne0.ensures.same))

@@ -1,6 +1,6 @@
 use Rattle.std.proofs.Common.{◌≡◌, ◌+◌, suc, arith}
 use Rattle.dw_writer.proofs.Outcomes.{OnOk-map}
-use Rattle.dw_writer.proofs.Steps.{Adds-then}
+use Rattle.dw_writer.proofs.Steps.{IsSameWriter-trans, Adds-then}
 use Rattle.dw_line.proofs.Steps.{Adds-byte}
 use Rattle.dw_line.proofs.SequenceSteps.{set_none, set_some}
 use Rattle.dw_line.proofs.FrontSteps.{Adds-front, AddsSome-front, AddsSomeWith-front, Front-none, Front-then}
@@ -35,3 +35,15 @@ returns-in_ok-write_u8-in-Some-2-clause-front g c = Front-then (Adds-front c.in_
 
 pub returns-in-None-clause-front : goal.returns-in-None-clause-front
 returns-in-None-clause-front g c = Front-none _
+
+pub returns-in_err-write_u8-in-Some-clause-same : goal.returns-in_err-write_u8-in-Some-clause-same
+returns-in_err-write_u8-in-Some-clause-same g c = c.in_err-write_u8-in-Some.ensures.same
+
+pub returns-in_err-write_uleb128-in-Some-clause-same : goal.returns-in_err-write_uleb128-in-Some-clause-same
+returns-in_err-write_uleb128-in-Some-clause-same g c = IsSameWriter-trans c.in_ok-write_u8-in-Some.ensures.same c.in_err-write_uleb128-in-Some.ensures.same
+
+pub returns-in_err-write_u8-in-Some-2-clause-same : goal.returns-in_err-write_u8-in-Some-2-clause-same
+returns-in_err-write_u8-in-Some-2-clause-same g c = IsSameWriter-trans c.in_ok-write_u8-in-Some.ensures.same (IsSameWriter-trans c.in_ok-write_uleb128-in-Some.ensures.same c.in_err-write_u8-in-Some-2.ensures.same)
+
+pub returns-in_ok-write_u8-in-Some-2-clause-same : goal.returns-in_ok-write_u8-in-Some-2-clause-same
+returns-in_ok-write_u8-in-Some-2-clause-same g c = IsSameWriter-trans c.in_ok-write_u8-in-Some.ensures.same (IsSameWriter-trans c.in_ok-write_uleb128-in-Some.ensures.same (IsSameWriter-trans c.in_ok-write_u8-in-Some-2.ensures.same c.write_address.ensures.same))

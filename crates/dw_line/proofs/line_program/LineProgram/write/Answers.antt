@@ -35,3 +35,29 @@ returns-in_ok-write-in-Some-clause-front g c = c.in_ok-write-in-Some.ensures.fro
 
 pub returns-in-None-clause-front : goal.returns-in-None-clause-front
 returns-in-None-clause-front g c = λ tidy. Front-none _
+
+pub returns-in_ok-write-in-Some-clause-ok : goal.returns-in_ok-write-in-Some-clause-ok
+returns-in_ok-write-in-Some-clause-ok g c =
+    let there = ap (λ v. v.program) (sym c.self.view_is) ∙ c.in-Some.is in
+    rw there c.in_ok-write-in-Some.ensures.ok
+
+pub returns-in_ok-write-in-Some-clause-rows : goal.returns-in_ok-write-in-Some-clause-rows
+returns-in_ok-write-in-Some-clause-rows g c =
+    let there = ap (λ v. v.program) (sym c.self.view_is) ∙ c.in-Some.is in
+    rw there c.in_ok-write-in-Some.ensures.rows
+
+pub returns-in_ok-write-in-Some-clause-tables : goal.returns-in_ok-write-in-Some-clause-tables
+returns-in_ok-write-in-Some-clause-tables g c =
+    let there = ap (λ v. v.program) (sym c.self.view_is) ∙ c.in-Some.is in
+    rw there c.in_ok-write-in-Some.ensures.tables
+
+pub returns-in_ok-write-in-Some-clause-sound : goal.returns-in_ok-write-in-Some-clause-sound
+returns-in_ok-write-in-Some-clause-sound g c =
+    let there = ap (λ v. v.program) (sym c.self.view_is) ∙ c.in-Some.is in
+    rw there c.in_ok-write-in-Some.ensures.sound
+
+pub returns-in_err-write-in-Some-clause-err : goal.returns-in_err-write-in-Some-clause-err
+returns-in_err-write-in-Some-clause-err g c =
+    let there = ap (λ v. v.program) (sym c.self.view_is) ∙ c.in-Some.is in
+    let p = err_from_is_err_and c.from_residual.result c.from_residual.ensures.1 in
+    rw (p.1, p.2, there) c.in_err-write-in-Some.ensures.err

@@ -20,8 +20,9 @@ use Rattle.dw_line.proofs.PartSteps.{refused_after, or_false, not_false, OnOk-bo
 use Rattle.dw_line.proofs.ReaderLaws.{CanBeRead, narrow_of, shows_sequences, shows_tables}
 use Rattle.dw_line.proofs.TablesAgain.{HaveTables, new_files}
 use Rattle.dw_line.proofs.HeaderSteps.{first_filled}
-use Rattle.dw_writer.proofs.Steps.{Adds-appends}
+use Rattle.dw_writer.proofs.Steps.{Adds-appends, IsSameWriter-trans}
 use Rattle.dw_line.proofs.FrontSteps.{Front-none, Front-then, Adds-front, AddsSome-front, Front-patched}
+use Rattle.dw_line.proofs.RefusalSteps.{encoding_refused, forms_refused}
 use Rattle.dw_line.proofs.program.Program.write.Goals as goal
 
 pub returns-in_err-write_contents-clause-err : goal.returns-in_err-write_contents-clause-err
@@ -125,3 +126,27 @@ returns-clause-front g c =
     λ tidy. Front-patched tidy c.in_ok-place.place within
     (Front-then (Adds-front c.in_ok-place.ensures.ok) (c.in_ok-write_contents.ensures.front ((Adds-appends c.in_ok-place.ensures.ok).tidy tidy)))
     _ _ c.write_initial_length_at.result c.write_initial_length_at.ensures.ok c.write_initial_length_at.ensures.partly
+
+pub returns-in_err-check_encoding-clause-err : goal.returns-in_err-check_encoding-clause-err
+returns-in_err-check_encoding-clause-err g c =
+    let failed = err_from_is_err_and c.from_residual.result c.from_residual.ensures.1 in
+    let a = g.W.Writer.meaning c.args.w.now in
+    let fails = subst (λ q. IsTrue (encoding_fails q.encoding c.args.unit c.in_err-check_encoding.field-0.0)) c.self.view_is c.in_err-check_encoding.ensures.err in
+    rw (failed.1, failed.2) (encoding_refused c.args.strings.now c.args.line_strings.now c.args.self.now c.args.unit a a a.is_plain c.in_err-check_encoding.field-0.0 fails)
+
+pub returns-in_err-check_forms-clause-err : goal.returns-in_err-check_forms-clause-err
+returns-in_err-check_forms-clause-err g c =
+    let failed = err_from_is_err_and c.from_residual-in_err-check_forms.result c.from_residual-in_err-check_forms.ensures.1 in
+    let a = g.W.Writer.meaning c.args.w.now in
+    let listed = rw (c.as_slice-directories.ensures.keys, c.as_slice-files.ensures.keys) at c.in_err-check_forms.ensures.err in
+    let fails = subst (λ q. IsTrue (forms_fail q.encoding.version q.directories q.files c.in_err-check_forms.field-0.0)) c.self.view_is listed in
+    rw (failed.1, failed.2) (forms_refused c.args.strings.now c.args.line_strings.now c.args.self.now c.args.unit a a a.is_plain c.in_err-check_forms.field-0.0 fails)
+
+pub returns-in_err-place-clause-same : goal.returns-in_err-place-clause-same
+returns-in_err-place-clause-same g c = c.in_err-place.ensures.same
+
+pub returns-in_err-write_contents-clause-same : goal.returns-in_err-write_contents-clause-same
+returns-in_err-write_contents-clause-same g c = IsSameWriter-trans c.in_ok-place.ensures.same c.in_err-write_contents.ensures.same
+
+pub returns-clause-same : goal.returns-clause-same
+returns-clause-same g c = IsSameWriter-trans c.in_ok-place.ensures.same (IsSameWriter-trans c.in_ok-write_contents.ensures.same c.write_initial_length_at.ensures.same)

@@ -11,6 +11,7 @@ use Rattle.dw_line.specs.ProgramTexts.{open_sequence}
 use Rattle.dw_line.specs.SequenceTexts.{AreBuilt}
 use Rattle.dw_line.proofs.ProgramSteps.{with_open, without_open, sequences_sound, sequences_refused, program_built}
 use Rattle.dw_line.proofs.FrontSteps.{Front-then}
+use Rattle.dw_writer.proofs.Steps.{IsSameWriter-trans}
 use Rattle.dw_line.proofs.program.Program.write_sequences.Goals as goal
 
 pub returns-in_err-write_sequences-clause-err : goal.returns-in_err-write_sequences-clause-err
@@ -74,3 +75,6 @@ returns-clause-built g c =
 
 pub returns-then-self-clause-front : goal.returns-then-self-clause-front
 returns-then-self-clause-front g c = Front-then c.in_ok-write_sequences.ensures.front c.write_sequence.ensures.front
+
+pub returns-then-self-clause-same : goal.returns-then-self-clause-same
+returns-then-self-clause-same g c = IsSameWriter-trans c.in_ok-write_sequences.ensures.same c.write_sequence.ensures.same
