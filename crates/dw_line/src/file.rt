@@ -8,7 +8,7 @@ ghost use Rattle.dw_writer.specs.Texts.{zeros};
 ghost use Rattle.dw_writer.specs.Meaning.{IsSameWriter, Adds, Appends};
 ghost use Rattle.dw_writer.specs.Causes.{BytesRefused};
 ghost use Rattle.dw_line.specs.FileEqual.{file_eq, file_fed, file_per, file_equiv, file-fed};
-ghost use Rattle.dw_line.specs.Files.{columns_of, first_source, has_timestamp, has_size, has_md5, old_columns, file_numbers, source_of, source_size, source_text, source_fails, file_size, file_text, file_fails};
+ghost use Rattle.dw_line.specs.Files.{columns_of, first_source, old_columns, file_numbers, source_of, source_size, source_text, source_fails, file_size, file_text, file_fails};
 ghost use Rattle.dw_base.specs.Leb128.{uleb};
 ghost use Rattle.dw_line.specs.Parts.{KeepsFront, sizes, texts, Refused};
 ghost use Rattle.dw_line.specs.RowTexts.{where_needed};
@@ -114,34 +114,19 @@ impl Columns {
     pub(crate) fn of(files: &[FileEntry]) -> Columns
         ensures { result ≡ columns_of files.now }
     {
-        Columns {
-            timestamp: some_has_timestamp(files),
-            size: some_has_size(files),
-            md5: some_has_checksum(files),
+        let mut columns = Columns {
+            timestamp: false,
+            size: false,
+            md5: false,
             source: first_source_form(files),
+        };
+        for file in files {
+            columns.timestamp |= file.info.timestamp != 0;
+            columns.size |= file.info.size != 0;
+            columns.md5 |= file.info.md5.is_some();
         }
+        columns
     }
-}
-
-/// Tells that the time of the last change of some file is known.
-fn some_has_timestamp(files: &[FileEntry]) -> bool
-    ensures { result ≡ has_timestamp files.now }
-{
-    files.iter().any(|f| f.info.timestamp != 0)
-}
-
-/// Tells that the size of some file is known.
-fn some_has_size(files: &[FileEntry]) -> bool
-    ensures { result ≡ has_size files.now }
-{
-    files.iter().any(|f| f.info.size != 0)
-}
-
-/// Tells that some file has a checksum.
-fn some_has_checksum(files: &[FileEntry]) -> bool
-    ensures { result ≡ has_md5 files.now }
-{
-    files.iter().any(|f| f.info.md5.is_some())
 }
 
 /// The form of the first text of a file.
