@@ -59,3 +59,7 @@ fitting_number w n h = by_test (fits w n) h
     by_test : (b : Bool) → IsFalse (not b) → IsTrue b
     by_test true k = refl
     by_test false k = absurd (let x : true ≡ false = k in cc)
+
+-- bytes behind others are refused for no cause of their own
+pub refused_bytes : (a b c : Meaning) (p : Error → Type 0) → IsSameWriter a b → (e : Error) → BytesRefused b c e → Refused a c p e
+refused_bytes a b c p same e h = refused_after a b c p p same (λ x k. k) e (bytes_because p b c (λ rise. rise) e h)

@@ -6,6 +6,8 @@ use Rattle.dw_unit.specs.UnitFaults.{attributes_fail}
 use Rattle.dw_unit.proofs.Drafted.{Drafts-bytes}
 use Rattle.dw_unit.proofs.Faults.{refused_after}
 use Rattle.dw_writer.proofs.Steps.{IsSameWriter-trans}
+use Rattle.std.proofs.lemmas.Result.{err_from_is_err_and}
+use Rattle.dw_writer.specs.Causes.{NotAtAll}
 use Rattle.dw_unit.proofs.body.write_entry.Goals as goal
 
 pub returns-clause-ok : goal.returns-clause-ok
@@ -26,3 +28,16 @@ returns-clause-err g c =
     let same = IsSameWriter-trans c.in_ok-write_uleb128.ensures.same c.in_ok-write_sibling.ensures.same in
     IfErr-map c.write_attributes.result err
     (refused_after (g.W.Writer.meaning c.args.w.now) (g.W.Writer.meaning c.write_sibling.new.w) (g.W.Writer.meaning c.write_attributes.new.w) fails fails same (λ e h. h))
+
+pub returns-in_err-write_sibling-clause-err : goal.returns-in_err-write_sibling-clause-err
+returns-in_err-write_sibling-clause-err g c =
+    let p = err_from_is_err_and c.from_residual-in_err-write_sibling.result c.from_residual-in_err-write_sibling.ensures.1 in
+    rw (p.1, p.2)
+    (refused_after (g.W.Writer.meaning c.args.w.now) (g.W.Writer.meaning c.write_uleb128.new.self) (g.W.Writer.meaning c.write_sibling.new.w) NotAtAll (Is (attributes_fail c.args.encoding (targets_at c.args.targets.now) (g.W.Writer.meaning c.args.w.now).is_plain c.args.entry.now.attributes)) c.in_ok-write_uleb128.ensures.same (λ e h. absurd h)
+    c.in_err-write_sibling.field-0.0 c.in_err-write_sibling.ensures.err)
+
+pub returns-in_err-write_sibling-clause-same : goal.returns-in_err-write_sibling-clause-same
+returns-in_err-write_sibling-clause-same g c = IsSameWriter-trans c.in_ok-write_uleb128.ensures.same c.in_err-write_sibling.ensures.same
+
+pub returns-clause-same : goal.returns-clause-same
+returns-clause-same g c = IsSameWriter-trans c.in_ok-write_uleb128.ensures.same (IsSameWriter-trans c.in_ok-write_sibling.ensures.same c.write_attributes.ensures.same)

@@ -7,7 +7,8 @@ use Rattle.dw_entries.proofs.ChildReads.{indexed}
 use Rattle.dw_unit.specs.TargetsAt.{targets_at}
 use Rattle.dw_unit.specs.UnitFaults.{attributes_fail, mark_fails}
 use Rattle.dw_unit.proofs.Drafted.{Drafts-byte}
-use Rattle.dw_unit.proofs.Faults.{because-map}
+use Rattle.dw_unit.proofs.Faults.{because-map, bytes_because}
+use Rattle.dw_unit.specs.Causes.{Is}
 use Rattle.dw_unit.proofs.body.write_item.Goals as goal
 
 pub returns-in-Null-clause-ok : goal.returns-in-Null-clause-ok
@@ -37,3 +38,8 @@ returns-in-Open-clause-err g c =
     let is = indexed es i c.index-entries-index.result within c.index-entries-index.is in
     IfErr-map c.write_entry.result c.write_entry.ensures.err
     (because-map (λ h. h) (λ err h. subst (λ item. IsTrue (mark_fails e es place plain (mark_of item) err)) (sym c.in-Open.is) (subst (λ (x : EntryValue). IsTrue (attributes_fail e place plain x.attributes err)) is h)))
+
+pub returns-in-Null-clause-err : goal.returns-in-Null-clause-err
+returns-in-Null-clause-err g c =
+    IfErr-map c.write_u8.result c.write_u8.ensures.err
+    (bytes_because (Is (mark_fails c.args.encoding c.args.entries.now (targets_at c.args.targets.now) (g.W.Writer.meaning c.args.w.now).is_plain (mark_of c.args.item))) (g.W.Writer.meaning c.args.w.now) (g.W.Writer.meaning c.write_u8.new.self) (λ rise. rise))

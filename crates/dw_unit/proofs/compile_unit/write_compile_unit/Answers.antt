@@ -1,6 +1,6 @@
 use Rattle.std.proofs.Common.{ℕ, subst, arith}
 use Rattle.std.proofs.lemmas.Result.{err_from_is_err_and}
-use Rattle.dw_writer.proofs.Outcomes.{OnOk-map, IfErr-map}
+use Rattle.dw_writer.proofs.Outcomes.{IfErr-map}
 use Rattle.dw_writer.proofs.Steps.{IsSameWriter-trans}
 use Rattle.dw_entries.specs.Tree.{marks}
 use Rattle.dw_unit.specs.Causes.{Is}
@@ -87,3 +87,12 @@ returns-clause-err g c =
     IfErr-map c.write_initial_length_at.result refused
     (λ err h. refused_after m mid new (Is (header_fails e c.args.table m.is_plain long)) (Is (unit_fails e es c.args.table u m.is_plain)) same (in_header e es c.args.table u m.is_plain) err
     (length_refused mid new e c.args.table m.is_plain long c.in_ok-place.place (omega (arith, inside, fields.size, body.text.size)) err h))
+
+pub returns-in_err-write_fields-clause-same : goal.returns-in_err-write_fields-clause-same
+returns-in_err-write_fields-clause-same g c = IsSameWriter-trans c.in_ok-place.ensures.same c.in_err-write_fields.ensures.same
+
+pub returns-in_err-write_items-clause-same : goal.returns-in_err-write_items-clause-same
+returns-in_err-write_items-clause-same g c = IsSameWriter-trans c.in_ok-place.ensures.same (IsSameWriter-trans c.in_ok-write_fields.ensures.same c.in_err-write_items.ensures.same)
+
+pub returns-clause-same : goal.returns-clause-same
+returns-clause-same g c = IsSameWriter-trans c.in_ok-place.ensures.same (IsSameWriter-trans c.in_ok-write_fields.ensures.same (IsSameWriter-trans c.in_ok-write_items.ensures.same c.write_initial_length_at.ensures.same))

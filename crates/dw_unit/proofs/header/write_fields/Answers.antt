@@ -108,3 +108,18 @@ returns-in_err-write_offset-clause-err g c =
     let failed = err_from_is_err_and c.from_residual-in_err-write_offset.result c.from_residual-in_err-write_offset.ensures.1 in
     rw (failed.1, failed.2)
     (place_behind (m c.args.w.now) (m c.write_u16.new.self) (m c.write_offset-else-encoding-eq5.new.self) c.args.encoding c.args.table c.in_ok-write_u16.ensures.same c.in_err-write_offset.field-0.0 refused)
+
+pub returns-in_ok-write_u8-2-clause-same : goal.returns-in_ok-write_u8-2-clause-same
+returns-in_ok-write_u8-2-clause-same g c = IsSameWriter-trans c.in_ok-write_u16.ensures.same (IsSameWriter-trans c.in_ok-write_u8.ensures.same (IsSameWriter-trans c.in_ok-write_u8-2.ensures.same c.write_offset.ensures.same))
+
+pub returns-in_ok-write_offset-clause-same : goal.returns-in_ok-write_offset-clause-same
+returns-in_ok-write_offset-clause-same g c = IsSameWriter-trans c.in_ok-write_u16.ensures.same (IsSameWriter-trans c.in_ok-write_offset.ensures.same c.write_u8-else-encoding-eq5.ensures.same)
+
+pub returns-in_err-write_u8-clause-same : goal.returns-in_err-write_u8-clause-same
+returns-in_err-write_u8-clause-same g c = IsSameWriter-trans c.in_ok-write_u16.ensures.same c.in_err-write_u8.ensures.same
+
+pub returns-in_err-write_u8-2-clause-same : goal.returns-in_err-write_u8-2-clause-same
+returns-in_err-write_u8-2-clause-same g c = IsSameWriter-trans c.in_ok-write_u16.ensures.same (IsSameWriter-trans c.in_ok-write_u8.ensures.same c.in_err-write_u8-2.ensures.same)
+
+pub returns-in_err-write_offset-clause-same : goal.returns-in_err-write_offset-clause-same
+returns-in_err-write_offset-clause-same g c = IsSameWriter-trans c.in_ok-write_u16.ensures.same c.in_err-write_offset.ensures.same
