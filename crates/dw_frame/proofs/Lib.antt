@@ -24,3 +24,4 @@ pub mod ConvertLaws
 pub mod ConvertSteps
 pub mod ConvertTableSteps
 pub mod Worked
+pub mod PlainInstructions

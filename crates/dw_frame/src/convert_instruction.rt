@@ -54,10 +54,7 @@ pub(crate) fn convert_instruction<R: Reader, F: Fn(u64) -> Option<Address>>(
             let expression = convert_expression(alloc, expression, encoding, convert_address)?;
             Ok(Some(CallFrameInstruction::ValExpression(register, expression)))
         }
-        other => {
-            let kept = convert_plain(&other, factor)?;
-            Ok(kept)
-        }
+        other => convert_plain(&other, factor),
     }
 }
 
