@@ -15,10 +15,11 @@ use Rattle.dw_unit.specs.declared.entry_mut.EntryMut.{EntryMut}
 use Rattle.dw_dwarf.specs.ConvertedEntries.{Values, attribute_of}
 use Rattle.dw_dwarf.specs.Placed.{with_contents}
 
--- an answer that is one once its error is another's was one before
-pub was_ok : {A E F P : Type 0} (r : Result A E) (s : Result A F) (x : A) → is_ok s ≡ is_ok r → s ≡ Ok x → OnOk r P → P
-was_ok (Ok y) s x v e h = h
-was_ok (Err y) s x v e h = absurd (let b : is_ok s ≡ true = ap is_ok e in false≢true (sym v ∙ b))
+-- an answer whose error became another's says what it said before
+pub ok_mapped : {A E F : Type 0} (P : Type 0) (r : Result A E) (s : Result A F) → is_ok s ≡ is_ok r → OnOk r P → OnOk s P
+ok_mapped P (Ok y) (Ok x) v h = h
+ok_mapped P (Err y) (Ok x) v h = absurd (false≢true (sym v))
+ok_mapped P r (Err x) v h = tt
 
 -- a `?` hands on a reason
 pub is_err : {A E : Type 0} (r : Result A E) (e : E) → IsErr r × IsErrAnd r (λ x. x ≡ e) → r ≡ Err e

@@ -3,20 +3,19 @@
 ghost use Rattle.std.specs.Prelude.{◌≡◌, [], length, map, OnOk, IfErr};
 ghost use Rattle.dw_entries.specs.Attributes.{HaveDistinctNames};
 ghost use Rattle.dw_entries.specs.Entries.{entry_at, with_attributes};
-ghost use Rattle.dw_sources.specs.declared.convert_error.ConvertError.TheVariants.{NoMemory};
+ghost use Rattle.dw_base.specs.declared.error.Error.TheVariants.{NoMemory};
 ghost use Rattle.dw_unit.specs.UnitValue.{with_entry};
 ghost use Rattle.dw_dwarf.specs.ConvertedEntries.{attribute_of};
 
-use dw_base::DwAt;
+use dw_base::{DwAt, Result};
 use dw_entries::AttributeValue;
-use dw_sources::{ConvertError, ConvertResult};
 use dw_unit::EntryMut;
 
 /// Gives an entry that has no attributes these, in their order.
 pub(crate) fn set_attributes(
     entry: &mut EntryMut<'_>,
     attributes: Vec<(DwAt, AttributeValue)>,
-) -> ConvertResult<()>
+) -> Result<()>
     requires none { (entry_at entry.old.unit.now.entries entry.old.index).attributes ≡ [] }
     requires distinct { HaveDistinctNames (map attribute_of attributes.items) }
     ensures same_unit { entry.new.unit.ghost_name ≡ entry.old.unit.ghost_name }
@@ -26,11 +25,9 @@ pub(crate) fn set_attributes(
     ensures count { length entry.new.unit.now.entries ≡ length entry.old.unit.now.entries }
     ensures err { IfErr result (λ e. e ≡ NoMemory) }
 {
-    entry
-        .reserve(attributes.len())
-        .map_err(|_| ConvertError::NoMemory)?;
+    entry.reserve(attributes.len())?;
     'attributes: for (name, value) in attributes {
-        entry.set(name, value).map_err(|_| ConvertError::NoMemory)?;
+        entry.set(name, value)?;
     }
     Ok(())
 }

@@ -1,6 +1,7 @@
 //! One entry.
 
 ghost use Rattle.std.specs.Prelude.{◌≡◌, ◌≢◌, ◌⊎◌, ◌<◌, ℕ, [], length, map, false, OnOk, IfOk, IfErr};
+ghost use Rattle.dw_base.specs.declared.error.Error.TheVariants as written;
 ghost use Rattle.dw_entries.specs.Attributes.{HaveDistinctNames};
 ghost use Rattle.dw_entries.specs.Entries.{entry_at, filled_up};
 ghost use Rattle.dw_read.specs.Rows.{entry_of};
@@ -15,7 +16,7 @@ ghost use Rattle.dw_dwarf.specs.ConvertSteps.{tables_in, BecomesEntry};
 
 use crate::convert::attributes::set_attributes;
 use dw_base::constants::DW_AT_sibling;
-use dw_base::{Address, DwAt, DwTag, FileId, UnitEntryId};
+use dw_base::{Address, DwAt, DwTag, FileId, Result, UnitEntryId};
 use dw_convert::{ConvertDebugInfoRef, convert_attributes};
 use dw_entries::AttributeValue;
 use dw_read::{DebuggingInformationEntry, Reader};
@@ -70,9 +71,8 @@ pub(crate) fn convert_entry<R: Reader, C: ConvertDebugInfoRef, F: Fn(u64) -> Opt
         convert_address,
         refs,
     )?;
-    place(unit, id, parent, entry.tag)?;
     let sibling = id != unit.root() && names_sibling(entry);
-    fill(unit, id, sibling, attributes)
+    add_entry(unit, id, parent, entry.tag, sibling, attributes).map_err(|_| ConvertError::NoMemory)
 }
 
 /// Converts the attributes of an entry, with the lists of the unit that it is written to.
@@ -114,8 +114,35 @@ fn convert_values<R: Reader, C: ConvertDebugInfoRef, F: Fn(u64) -> Option<Addres
     )
 }
 
+/// Adds an entry under its parent, with its flag and its attributes. The root is there, and is
+/// given these alone.
+fn add_entry(
+    unit: &mut Unit,
+    id: UnitEntryId,
+    parent: UnitEntryId,
+    tag: DwTag,
+    sibling: bool,
+    attributes: Vec<(DwAt, AttributeValue)>,
+) -> Result<()>
+    requires some { 0 < length unit.old.entries }
+    requires id_in { id.0 < unit.old.reserved }
+    requires parent_in { parent.0 < unit.old.reserved }
+    requires tagged { tag.0 ≢ 0 }
+    requires not_yet { entry_at (filled_up unit.old.reserved unit.old.entries) id.0
+        ≡ unconverted id.0 }
+    requires not_freed { unit.old.is_freed ≡ false }
+    requires distinct { HaveDistinctNames (map attribute_of attributes.items) }
+    ensures ok { OnOk result (unit.new ≡ with_entry (record unit.old
+        { entries = with_placed unit.old.reserved id.0 parent.0 tag.0 unit.old.entries }) id.0
+        (with_contents sibling (map attribute_of attributes.items))) }
+    ensures err { IfErr result (λ e. e ≡ written.NoMemory) }
+{
+    place(unit, id, parent, tag)?;
+    fill(unit, id, sibling, attributes)
+}
+
 /// Adds an entry under its parent, but for the root, which is there.
-fn place(unit: &mut Unit, id: UnitEntryId, parent: UnitEntryId, tag: DwTag) -> ConvertResult<()>
+fn place(unit: &mut Unit, id: UnitEntryId, parent: UnitEntryId, tag: DwTag) -> Result<()>
     requires some { 0 < length unit.old.entries }
     requires reserved { id.0 ≢ 0 → IsReserved unit.old id.0 }
     requires id_in { id.0 < unit.old.reserved }
@@ -125,13 +152,12 @@ fn place(unit: &mut Unit, id: UnitEntryId, parent: UnitEntryId, tag: DwTag) -> C
     ensures ok { OnOk result (unit.new ≡ record unit.old
         { entries = with_placed unit.old.reserved id.0 parent.0 tag.0 unit.old.entries }) }
     ensures there { OnOk result (id.0 < length unit.new.entries) }
-    ensures err { IfErr result (λ e. e ≡ NoMemory) }
+    ensures err { IfErr result (λ e. e ≡ written.NoMemory) }
 {
     if id == unit.root() {
         return Ok(());
     }
     unit.add_reserved(id, parent, tag)
-        .map_err(|_| ConvertError::NoMemory)
 }
 
 /// Gives an entry that has no attributes its flag and its attributes.
@@ -140,13 +166,13 @@ fn fill(
     id: UnitEntryId,
     sibling: bool,
     attributes: Vec<(DwAt, AttributeValue)>,
-) -> ConvertResult<()>
+) -> Result<()>
     requires there { id.0 < length unit.old.entries }
     requires none { (entry_at unit.old.entries id.0).attributes ≡ [] }
     requires distinct { HaveDistinctNames (map attribute_of attributes.items) }
     ensures ok { OnOk result (unit.new ≡ with_entry unit.old id.0
         (with_contents sibling (map attribute_of attributes.items))) }
-    ensures err { IfErr result (λ e. e ≡ NoMemory) }
+    ensures err { IfErr result (λ e. e ≡ written.NoMemory) }
 {
     let mut entry = unit.get_mut(id);
     entry.set_sibling(sibling);

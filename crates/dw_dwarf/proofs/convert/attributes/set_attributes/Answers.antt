@@ -6,7 +6,7 @@ use Rattle.dw_base.specs.declared.constants.DwAt.{DwAt}
 use Rattle.dw_unit.specs.UnitValue.{with_entry}
 use Rattle.dw_entries.specs.Entries.{with_attribute, with_attributes}
 use Rattle.dw_dwarf.specs.ConvertedEntries.{Values, attribute_of}
-use Rattle.dw_dwarf.proofs.Setting.{unit_none_set, unit_more_set, fresh_name, set_count, was_ok}
+use Rattle.dw_dwarf.proofs.Setting.{unit_none_set, unit_more_set, fresh_name, set_count}
 use Rattle.dw_dwarf.proofs.convert.attributes.set_attributes.Goals as goal
 
 pub attributes-init : goal.attributes-init
@@ -48,18 +48,18 @@ attributes-preserved c =
       index = c.set.ensures.index ∙ c.attributes.invariant.index;
       is = unit_more_set c.args.entry.now.unit.now c.attributes.entry.unit.now c.set.new.self.unit.now c.args.entry.now.index c.attributes.yielded (c.in-Some.name, c.in-Some.value)
           c.attributes.invariant.is
-          (subst (λ (k : ℕ). c.set.new.self.unit.now ≡ with_entry c.attributes.entry.unit.now k (with_attribute c.in-Some.name.0 c.in-Some.value)) c.attributes.invariant.index (was_ok _ _ _ c.map_err-in-attributes.ensures.variant c.in_ok-map_err-2.was c.set.ensures.ok))
+          (subst (λ (k : ℕ). c.set.new.self.unit.now ≡ with_entry c.attributes.entry.unit.now k (with_attribute c.in-Some.name.0 c.in-Some.value)) c.attributes.invariant.index c.in_ok-set.ensures.ok)
           fresh.1;
     }
 
-pub returns-in_err-map_err-2-clause-same_unit : goal.returns-in_err-map_err-2-clause-same_unit
-returns-in_err-map_err-2-clause-same_unit c = c.set.ensures.same_unit ∙ c.attributes.invariant.same_unit
+pub returns-in_err-set-clause-same_unit : goal.returns-in_err-set-clause-same_unit
+returns-in_err-set-clause-same_unit c = c.set.ensures.same_unit ∙ c.attributes.invariant.same_unit
 
-pub returns-in_err-map_err-2-clause-index : goal.returns-in_err-map_err-2-clause-index
-returns-in_err-map_err-2-clause-index c = c.set.ensures.index ∙ c.attributes.invariant.index
+pub returns-in_err-set-clause-index : goal.returns-in_err-set-clause-index
+returns-in_err-set-clause-index c = c.set.ensures.index ∙ c.attributes.invariant.index
 
-pub returns-in_err-map_err-2-clause-count : goal.returns-in_err-map_err-2-clause-count
-returns-in_err-map_err-2-clause-count c = c.set.ensures.count ∙ set_count c.args.entry.now c.attributes.entry c.attributes.yielded c.attributes.invariant
+pub returns-in_err-set-clause-count : goal.returns-in_err-set-clause-count
+returns-in_err-set-clause-count c = c.set.ensures.count ∙ set_count c.args.entry.now c.attributes.entry c.attributes.yielded c.attributes.invariant
 
 pub returns-clause-same_unit : goal.returns-clause-same_unit
 returns-clause-same_unit c = c.attributes.invariant.same_unit
