@@ -110,6 +110,16 @@ returns-in_err-kept-clause-err g c =
       cause = inr (inl (stands_failing _ _ reading _ _ _ c.instructions.instructions c.next.new.self i.images i.stands o p why (by_terms _ _ _ _ _ _ _ _ encoding offsets h)));
     }))) c.in_err-kept.ensures.err)
 
+pub returns-in_err-fde-clause-err : goal.returns-in_err-fde-clause-err
+returns-in_err-fde-clause-err g c =
+    let e : c.from_residual.result ≡ Err c.in_err-fde.field-0.0 = is_err _ _ c.from_residual.ensures in
+    rw e (inr (inl c.in_err-fde.ensures.err))
+
+pub returns-in_err-keep-clause-err : goal.returns-in_err-keep-clause-err
+returns-in_err-keep-clause-err g c =
+    let e : c.from_residual-in_err-keep.result ≡ Err c.in_err-keep.field-0.0 = is_err _ _ c.from_residual-in_err-keep.ensures in
+    rw e (inl c.in_err-keep.ensures.err)
+
 pub returns-clause-ok : goal.returns-clause-ok
 returns-clause-ok g c =
     let reading = g.R.Reader.reading in

@@ -104,6 +104,11 @@ returns-in_err-pair-clause-err g c =
       cause = inr (stands_failing answers section _ _ reading old new i.pairs i.stands (is old.input) f p (is new.input) why h);
     })) c.in_err-pair.ensures.err)
 
+pub returns-in_err-add_frame-clause-err : goal.returns-in_err-add_frame-clause-err
+returns-in_err-add_frame-clause-err g c =
+    let e : c.from_residual-in_err-add_frame.result ≡ Err c.in_err-add_frame.field-0.0 = is_err _ _ c.from_residual-in_err-add_frame.ensures in
+    rw e (inl c.in_err-add_frame.ensures.err)
+
 pub returns-clause-ok : goal.returns-clause-ok
 returns-clause-ok g c =
     let reading = g.R.Reader.reading in
