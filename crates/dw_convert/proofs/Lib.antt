@@ -10,6 +10,7 @@ mod WrittenItems
 mod WrittenWalks
 mod Dropped
 mod Lookups
+mod Made
 mod Defaults
 mod Spelled
 mod Formed

@@ -20,5 +20,7 @@ pub mod Files
 pub mod Sources
 pub mod Exprlocs
 pub mod Values
+pub mod SourceImages
+pub mod PlainValues
 pub mod Attributes
 pub mod AttributeLists

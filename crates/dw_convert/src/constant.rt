@@ -23,8 +23,8 @@ pub(crate) fn same_value<R: Reader>(
         (λ e. (e ≡ NoMemory) ⊎ same_value (value_of R.reading value) ≡ Err e) }
 {
     match value {
-        ReadValue::Block(bytes) => Ok(AttributeValue::Block(copied(alloc, &bytes)?)),
-        ReadValue::String(bytes) => Ok(AttributeValue::String(copied(alloc, &bytes)?)),
+        ReadValue::Block(bytes) => copied(alloc, &bytes).map(AttributeValue::Block),
+        ReadValue::String(bytes) => copied(alloc, &bytes).map(AttributeValue::String),
         ReadValue::Data1(number) => Ok(AttributeValue::Data1(number)),
         ReadValue::Data2(number) => Ok(AttributeValue::Data2(number)),
         ReadValue::Data4(number) => Ok(AttributeValue::Data4(number)),

@@ -5,6 +5,7 @@ ghost use Rattle.dw_read.specs.Orders.{value_order};
 ghost use Rattle.dw_read.specs.Values.{value_of};
 ghost use Rattle.dw_sources.specs.declared.convert_error.ConvertError.TheVariants.{NoMemory};
 ghost use Rattle.dw_convert.specs.Images.{image_of, HoldsText};
+ghost use Rattle.dw_convert.specs.PlainValues.{PlainOutcome};
 ghost use Rattle.dw_convert.specs.Values.{ValueOutcome, order_or_little, program_image};
 
 use crate::address::{converted, indexed};
@@ -12,10 +13,11 @@ use crate::constant::same_value;
 use crate::exprloc::convert_exprloc;
 use crate::file::convert_file_index;
 use crate::image::Image;
-use crate::locations::location_list;
-use crate::ranges::range_list;
 use crate::references::ConvertDebugInfoRef;
-use crate::source::{indexed_locations, indexed_ranges, indexed_string, line_string_at, string_at};
+use crate::source::{
+    indexed_locations, indexed_ranges, indexed_string, line_string_at, locations_at, ranges_at,
+    string_at,
+};
 use dw_base::{Address, DebugLineOffset, DwAt, FileId};
 use dw_entries::AttributeValue;
 use dw_read::{AttributeValue as ReadValue, Reader};
@@ -23,8 +25,7 @@ use dw_read_units::UnitRef;
 use dw_sources::{ConvertError, ConvertResult};
 use std::alloc::Global;
 
-/// What a value under a name becomes, by the table of the values that were read. It is one match,
-/// since each of them has a row there.
+/// What a value under a name becomes, by the table of the values that were read.
 pub(crate) fn convert_value<R: Reader, C: ConvertDebugInfoRef, F: Fn(u64) -> Option<Address>>(
     alloc: Global,
     unit: UnitRef<'_, R>,
@@ -45,58 +46,59 @@ pub(crate) fn convert_value<R: Reader, C: ConvertDebugInfoRef, F: Fn(u64) -> Opt
         (order_or_little (value_order R.reading value)) name.0 (value_of R.reading value) (Err e)) }
 {
     match value {
-        ReadValue::Addr(address) => {
-            let address = converted(address, convert_address)?;
-            Ok(Image::Value(AttributeValue::Address(address)))
+        ReadValue::DebugStrRef(offset) => string_at(unit, offset),
+        ReadValue::DebugStrOffsetsIndex(index) => indexed_string(unit, index),
+        ReadValue::DebugLineStrRef(offset) => line_string_at(unit, offset),
+        ReadValue::RangeListsRef(offset) => ranges_at(alloc, unit, offset, convert_address),
+        ReadValue::DebugRngListsIndex(index) => indexed_ranges(alloc, unit, index, convert_address),
+        ReadValue::LocationListsRef(offset) => {
+            locations_at(alloc, unit, offset, convert_address, refs)
         }
-        ReadValue::DebugAddrIndex(index) => {
-            let address = indexed(unit, index, convert_address)?;
-            Ok(Image::Value(AttributeValue::Address(address)))
+        ReadValue::DebugLocListsIndex(index) => {
+            indexed_locations(alloc, unit, index, convert_address, refs)
         }
         ReadValue::Exprloc(read) => {
             let read = convert_exprloc(alloc, unit, name, read, convert_address, refs)?;
             Ok(Image::Value(AttributeValue::Exprloc(read)))
         }
-        ReadValue::UnitRef(entry) => {
-            let entry = refs.convert_unit_ref(entry)?;
-            Ok(Image::Value(AttributeValue::UnitRef(entry)))
-        }
-        ReadValue::DebugInfoRef(entry) => {
-            let entry = refs.convert_debug_info_ref(entry)?;
-            Ok(Image::Value(AttributeValue::DebugInfoRef(entry)))
-        }
-        ReadValue::DebugStrRef(offset) => Ok(Image::String(string_at(unit, offset)?)),
-        ReadValue::DebugStrOffsetsIndex(index) => Ok(Image::String(indexed_string(unit, index)?)),
-        ReadValue::DebugLineStrRef(offset) => {
-            Ok(Image::LineString(line_string_at(unit, offset)?))
-        }
-        ReadValue::DebugRngListsIndex(index) => {
-            let offset = indexed_ranges(unit, index)?;
-            let list = range_list(alloc, unit, offset, convert_address)?;
-            Ok(Image::Ranges(list))
-        }
-        ReadValue::RangeListsRef(offset) => {
-            let list = range_list(alloc, unit, offset, convert_address)?;
-            Ok(Image::Ranges(list))
-        }
-        ReadValue::DebugLocListsIndex(index) => {
-            let offset = indexed_locations(unit, index)?;
-            let list = location_list(alloc, unit, offset, convert_address, refs)?;
-            Ok(Image::Locations(list))
-        }
-        ReadValue::LocationListsRef(offset) => {
-            let list = location_list(alloc, unit, offset, convert_address, refs)?;
-            Ok(Image::Locations(list))
-        }
-        ReadValue::FileIndex(index) => {
-            let file = convert_file_index(unit.encoding().version, files, index)?;
-            Ok(Image::Value(AttributeValue::FileIndex(file)))
-        }
-        ReadValue::DebugLineRef(offset) => {
-            let value = program_image(unit.unit.line_program, offset)?;
+        other => {
+            let value = plain_value(alloc, unit, files, other, convert_address, refs)?;
             Ok(Image::Value(value))
         }
-        other => Ok(Image::Value(same_value(alloc, other)?)),
+    }
+}
+
+/// What a value becomes that leads to no string, no list and no expression.
+fn plain_value<R: Reader, C: ConvertDebugInfoRef, F: Fn(u64) -> Option<Address>>(
+    alloc: Global,
+    unit: UnitRef<'_, R>,
+    files: &[FileId],
+    value: ReadValue<R>,
+    convert_address: &F,
+    refs: &C,
+) -> ConvertResult<AttributeValue>
+    requires { F.IsAlwaysCallable convert_address.now }
+    ensures { (result ≡ Err NoMemory) ⊎ PlainOutcome R.reading (F.post convert_address.now)
+        (C.entries refs.now) (C.infos refs.now) unit.entry files.now (value_of R.reading value)
+        result }
+{
+    match value {
+        ReadValue::Addr(address) => {
+            converted(address, convert_address).map(AttributeValue::Address)
+        }
+        ReadValue::DebugAddrIndex(index) => {
+            indexed(unit, index, convert_address).map(AttributeValue::Address)
+        }
+        ReadValue::UnitRef(entry) => refs.convert_unit_ref(entry).map(AttributeValue::UnitRef),
+        ReadValue::DebugInfoRef(entry) => {
+            refs.convert_debug_info_ref(entry)
+                .map(AttributeValue::DebugInfoRef)
+        }
+        ReadValue::FileIndex(index) => {
+            convert_file_index(unit.encoding().version, files, index).map(AttributeValue::FileIndex)
+        }
+        ReadValue::DebugLineRef(offset) => program_image(unit.unit.line_program, offset),
+        other => same_value(alloc, other),
     }
 }
 
