@@ -1,5 +1,5 @@
 -- Results in the tables of what values become.
-use Rattle.std.proofs.Common.{◌≡◌, sym, ap, subst, ℕ, List, Option, Result, Ok, Err, refl}
+use Rattle.std.proofs.Common.{◌≡◌, sym, ap, subst, ℕ, Option, Result, Ok, Err, refl}
 use Rattle.dw_base.specs.declared.address.Address.{Address}
 use Rattle.dw_base.specs.declared.address.DebugInfoRef.{DebugInfoRef}
 use Rattle.dw_base.specs.declared.ids.UnitEntryId.{UnitEntryId}

@@ -1,6 +1,7 @@
 //! Expressions that are values.
 
-ghost use Rattle.std.specs.Prelude.{◌≡◌, ◌⊎◌, IfOk, IfErr, Ok, Err};
+ghost use Rattle.std.specs.Prelude.{◌≡◌, ◌⊎◌, [], ◌∷◌, IfOk, IfErr, Ok, Err};
+ghost use Rattle.dw_expr.specs.Trees.{plain, Raw};
 ghost use Rattle.dw_read.specs.Reading.{left};
 ghost use Rattle.dw_sources.specs.declared.convert_error.ConvertError.TheVariants.{NoMemory};
 ghost use Rattle.dw_convert.specs.Exprlocs.{ExprlocOutcome, is_index, begins_with_constu};
@@ -34,12 +35,19 @@ pub(crate) fn convert_exprloc<R: Reader, C: ConvertDebugInfoRef, F: Fn(u64) -> O
         (R.reading read.0).is_big name.0 (left (R.reading read.0)) (Err e)) }
 {
     if is_index(name, read.0.to_slice()) {
-        let bytes = copied(alloc, &read.0)?;
-        return Expression::raw(alloc, bytes).map_err(|_| ConvertError::NoMemory);
+        return spelled(alloc, &read.0);
     }
     let encoding = unit.encoding();
-    let converted = expression(alloc, read, encoding, Some(unit), convert_address, refs)?;
-    Ok(converted)
+    expression(alloc, read, encoding, Some(unit), convert_address, refs)
+}
+
+/// An expression that stays as it is spelled.
+fn spelled<R: Reader>(alloc: Global, bytes: &R) -> ConvertResult<Expression>
+    ensures ok { IfOk result (λ x. x ≡ plain (Raw (left (R.reading bytes.now))) ∷ []) }
+    ensures err { IfErr result (λ e. e ≡ NoMemory) }
+{
+    let bytes = copied(alloc, bytes)?;
+    Expression::raw(alloc, bytes).map_err(|_| ConvertError::NoMemory)
 }
 
 /// Whether an expression is the index of a virtual function, which compilers write as a constant
