@@ -1,10 +1,9 @@
 -- Parts by which directories and files are described: how they are told one after the other.
-use Rattle.std.proofs.Common.{◌≡◌, ◌∙◌, sym, ap, subst, ℕ, ◌+◌, ◌<◌, ◌≤◌, Bool, true, false, cond, eqb, List, [], ◌∷◌, refl, arith, rules}
-use Rattle.std.specs.Prelude.{◌≢◌, ◌==◌, All, count_by}
-use Rattle.std.proofs.lemmas.List.Elements.{All-nil, All-cons, All-head, All-tail}
+use Rattle.std.proofs.Common.{◌≡◌, ℕ, ◌+◌, ◌≤◌, cond, List, [], ◌∷◌, refl, arith}
+use Rattle.std.specs.Prelude.{◌==◌, All}
+use Rattle.std.proofs.lemmas.List.Elements.{All-nil}
 use Rattle.std.proofs.lemmas.List.Sums.{sum_by-cons}
 use Rattle.dw_base.specs.declared.constants.DwLnct.{DwLnct}
-use Rattle.dw_base.specs.declared.constants.TheConstants.{DW_FORM_implicit_const, DW_LNCT_path}
 use Rattle.dw_convert_lines.specs.FormatLists.{known_contents, times_told, IsConvertible}
 
 pub times_told-nil : (content : DwLnct) → times_told content [] ≡ 0

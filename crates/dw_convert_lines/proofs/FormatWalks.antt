@@ -1,5 +1,5 @@
 -- Going over the parts of a description.
-use Rattle.std.proofs.Common.{◌≡◌, ◌∙◌, sym, ap, subst, ℕ, ◌+◌, ◌≤◌, Bool, true, false, cond, List, [], ◌∷◌, refl, arith}
+use Rattle.std.proofs.Common.{◌≡◌, ◌∙◌, sym, ap, ℕ, ◌+◌, cond, List, [], ◌∷◌, arith}
 use Rattle.std.specs.Prelude.{◌≢◌, ◌==◌, All}
 use Rattle.std.proofs.lemmas.List.Elements.{All-cons, All-head, All-tail, All-same}
 use Rattle.dw_base.specs.declared.constants.DwLnct.{DwLnct}

@@ -1,4 +1,4 @@
-use Rattle.std.proofs.Common.{◌≡◌, ◌∙◌, sym, refl, ℕ}
+use Rattle.std.proofs.Common.{◌∙◌, sym, refl}
 use Rattle.std.proofs.lemmas.Bool.{eqb-true, eqb-false}
 use Rattle.dw_convert_lines.proofs.FormatWalks.{plain_first, plain_end, plain_more, not_plain}
 use Rattle.dw_convert_lines.proofs.format_list.has_no_constants.Goals as goal

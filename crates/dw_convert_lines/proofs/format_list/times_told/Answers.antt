@@ -1,4 +1,4 @@
-use Rattle.std.proofs.Common.{◌≡◌, refl, ℕ, arith}
+use Rattle.std.proofs.Common.{arith}
 use Rattle.std.proofs.lemmas.Bool.Decides.{nat_tests}
 use Rattle.dw_convert_lines.proofs.FormatWalks.{counted_first, counted_end, counted_more}
 use Rattle.dw_convert_lines.proofs.format_list.times_told.Goals as goal

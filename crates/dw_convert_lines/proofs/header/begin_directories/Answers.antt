@@ -1,5 +1,4 @@
-use Rattle.std.proofs.Common.{◌≡◌, refl, ℕ, true, false}
-use Rattle.dw_read.specs.Reading.{left}
+use Rattle.std.proofs.Common.{refl, ℕ}
 use Rattle.dw_sources.specs.ConvertErrors.{from_read}
 use Rattle.dw_convert_lines.proofs.Beginnings.{misses_directories, refuses_directories}
 use Rattle.dw_convert_lines.proofs.Reasons.{is_err}

@@ -1,4 +1,4 @@
-use Rattle.std.proofs.Common.{◌≡◌, refl, true, false}
+use Rattle.std.proofs.Common.{refl}
 use Rattle.dw_convert_lines.proofs.Beginnings.{refuses_behind}
 use Rattle.dw_convert_lines.proofs.header.begin_files.Goals as goal
 

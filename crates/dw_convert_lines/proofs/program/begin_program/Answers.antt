@@ -1,4 +1,4 @@
-use Rattle.std.proofs.Common.{◌∙◌, ap, inl, inr, refl, Ok, Err}
+use Rattle.std.proofs.Common.{◌∙◌, ap, inr, refl, Ok, Err}
 use Rattle.std.specs.Prelude.{unwrap_or}
 use Rattle.dw_base.specs.declared.common.Encoding.{Encoding}
 use Rattle.dw_sources.specs.declared.convert_error.ConvertError.{ConvertError}
