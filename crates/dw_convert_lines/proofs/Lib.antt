@@ -1,6 +1,7 @@
 pub mod Reasons
 pub mod Outcomes
 pub mod Texts
+mod Unnamed
 pub mod Indices
 pub mod OldEntries
 pub mod Walking

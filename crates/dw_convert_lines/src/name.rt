@@ -37,13 +37,16 @@ pub(crate) fn convert_name<R: Reader>(
         (texts_of R.reading dwarf.now) (tables strings.old line_strings.old)
         (option_of (value_of R.reading) name.now) ≡ Err e) }
 {
+    let Some(name) = name else {
+        return Err(ConvertError::UnsupportedLineProgram);
+    };
     match name {
-        Some(AttributeValue::String(text)) => inline(alloc, ended(text.to_slice())),
-        Some(AttributeValue::DebugStrRef(offset)) => {
+        AttributeValue::String(text) => inline(alloc, ended(text.to_slice())),
+        AttributeValue::DebugStrRef(offset) => {
             let text = text_in(&dwarf.debug_str, offset.0)?;
             convert_string(alloc, version, text.to_slice(), strings)
         }
-        Some(AttributeValue::DebugLineStrRef(offset)) => {
+        AttributeValue::DebugLineStrRef(offset) => {
             let text = text_in(&dwarf.debug_line_str, offset.0)?;
             convert_line_string(alloc, version, text.to_slice(), line_strings)
         }

@@ -1,9 +1,20 @@
-use Rattle.std.proofs.Common.{◌∙◌, sym, ap}
+use Rattle.std.proofs.Common.{◌∙◌, sym, ap, ⊎_elim, inl, inr}
 use Rattle.dw_line.specs.LinePrograms.{LineProgramValue}
-use Rattle.dw_convert_lines.proofs.SequenceLaws.{row_added}
+use Rattle.dw_convert_lines.proofs.SequenceLaws.{refused_more, row_added, row_refused}
+use Rattle.dw_convert_lines.proofs.Reasons.{is_err}
 use Rattle.dw_convert_lines.proofs.sequence.add_row.Goals as goal
 
 pub returns-in-Ok-clause-ok : goal.returns-in-Ok-clause-ok
 returns-in-Ok-clause-ok g c =
-    row_added _ _ _ _ _ c.in_ok-begin_sequence.ensures.ok _ _ _ (ap (λ x. x.minimum_instruction_length) c.line_encoding-minimum_length.ensures) c.last_offset-before.ensures c.unwrap_or-base.ensures c.args.version c.args.files.now _ c.in_ok-row.row
+    row_added _ _ _ _ c.in_ok-begin_sequence.ensures.ok _ _ _ (ap (λ x. x.minimum_instruction_length) c.line_encoding-minimum_length.ensures) c.last_offset-before.ensures c.unwrap_or-base.ensures _ c.args.version c.args.files.now _ c.in_ok-row.row
     (sym c.convert_row.ensures.is ∙ c.in_ok-row.was) (ap (λ (x : LineProgramValue). x.program) c.in-Ok.ensures.ok)
+
+pub returns-in_err-begin_sequence-clause-err : goal.returns-in_err-begin_sequence-clause-err
+returns-in_err-begin_sequence-clause-err g c =
+    let e = is_err _ c.in_err-begin_sequence.field-0.0 c.from_residual.ensures in
+    rw e (⊎_elim (λ n. inl n) (λ h. inr (refused_more _ _ _ (λ p q. inl q) h)) c.in_err-begin_sequence.ensures.err)
+
+pub returns-in_err-row-clause-err : goal.returns-in_err-row-clause-err
+returns-in_err-row-clause-err g c =
+    let e = is_err _ c.in_err-row.field-0.0 c.from_residual-in_err-row.ensures in
+    rw e (inr (row_refused _ _ _ _ c.in_ok-begin_sequence.ensures.ok _ _ _ (ap (λ x. x.minimum_instruction_length) c.line_encoding-minimum_length.ensures) c.last_offset-before.ensures c.unwrap_or-base.ensures c.args.version c.args.files.now _ _ (sym c.convert_row.ensures.is ∙ c.in_err-row.was)))
