@@ -1,10 +1,11 @@
-use Rattle.std.proofs.Common.{subst, inl, inr, ℕ, ◌≤◌, Some}
+use Rattle.std.proofs.Common.{subst, inl, inr, ℕ, ◌≤◌, Some, refl}
 use Rattle.std.specs.Prelude.{nat_le}
 use Rattle.dw_base.specs.declared.ids.FileId.{FileId}
 use Rattle.dw_line.specs.declared.line_string.FileInfo.{FileInfo}
 use Rattle.dw_line.specs.declared.line_string.LineString.{LineString}
 use Rattle.dw_read_lines.specs.LineEntryViews.{entry_of}
 use Rattle.dw_sources.specs.declared.convert_error.ConvertError.{ConvertError}
+use Rattle.dw_sources.specs.declared.convert_error.ConvertError.TheVariants.{NoMemory}
 use Rattle.dw_convert_lines.specs.EntryImages.{Converting}
 use Rattle.dw_convert_lines.specs.EntryNames.{Tables}
 use Rattle.dw_convert_lines.specs.Views.{texts_of, tables, converting}
@@ -93,3 +94,11 @@ add_file-requires-clause-named g c = λ old. c.in_ok-name.ensures.full (subst (�
 
 pub add_file-requires-clause-source : goal.add_file-requires-clause-source
 add_file-requires-clause-source g c = c.in_ok-info.ensures.text
+
+pub returns-in-Err : goal.returns-in-Err
+returns-in-Err g c = record { ok = tt; target = tt; err = inl refl }
+
+pub returns-in_err-push-in-Ok : goal.returns-in_err-push-in-Ok
+returns-in_err-push-in-Ok g c =
+    let e = is_err _ NoMemory c.from_residual-in_err-push-in-Ok.ensures in
+    rw e (record { ok = tt; target = tt; err = inl refl })
