@@ -214,9 +214,12 @@ fn has_eh_frame(section: Slice<'_>, size: u8, wanted: &Wanted) -> bool {
 #[test]
 fn reads_the_entries_of_frames(rt: HostRuntime) {
     let wide = EndianSlice::new(WIDE_FRAME, RunTimeEndian::Big);
-    assert!(rt; has_debug_frame(little(DEBUG_FRAME), 4, &DEBUG));
-    assert!(rt; has_eh_frame(little(EH_FRAME), 8, &EH));
-    assert!(rt; has_debug_frame(wide, 8, &WIDE));
+    let are_read = [
+        has_debug_frame(little(DEBUG_FRAME), 4, &DEBUG),
+        has_eh_frame(little(EH_FRAME), 8, &EH),
+        has_debug_frame(wide, 8, &WIDE),
+    ];
+    assert_eq!(rt; are_read, [true; 3]);
 }
 
 /// Why no common entry is read at a place of `EH_FRAME`, if none is.
@@ -236,6 +239,6 @@ fn refuses_a_place_without_a_cie(rt: HostRuntime) {
         (56, Some(ReadError::InvalidCiePointer(56))),
         (EH_FRAME.len() + 1, Some(ReadError::UnexpectedEof)),
     ] {
-        assert_eq!(rt; refusal_at(place), refused);
+        assert!(rt; refusal_at(place) == refused, "at {place}");
     }
 }

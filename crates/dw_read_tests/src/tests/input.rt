@@ -1,9 +1,11 @@
 //! What bytes are read as, and how that ends.
 
-use crate::tests::lines::program;
-use crate::tests::operations::operations;
+use crate::tests::lines::{next_entry, program};
+use crate::tests::lists::{END, next_location, next_range};
+use crate::tests::operations::{next_operation, operations};
 use crate::tests::sections::{Bytes, NONE, Slice, little};
 use crate::tests::trees::rows_of;
+use crate::tests::unit_headers::next_header;
 use dw_base::{Encoding, RunTimeEndian};
 use dw_read::{Abbreviations, ReadResult, Reader, UnitHeadersIter};
 use dw_read_frames::{CfiEntriesIter, DebugFrame, EhFrame, UnwindSection};
@@ -41,8 +43,8 @@ pub(crate) trait Items {
 
 impl Items for UnitHeadersIter<Slice<'_>> {
     fn passes(&mut self) -> ReadResult<bool> {
-        match self.next() {
-            Ok(item) => Ok(item.is_some()),
+        match next_header(self) {
+            Ok(header) => Ok(header.is_some()),
             Err(reason) => Err(reason),
         }
     }
@@ -59,8 +61,8 @@ impl Items for CfiEntriesIter<Slice<'_>> {
 
 impl Items for FileEntryIter<Slice<'_>> {
     fn passes(&mut self) -> ReadResult<bool> {
-        match self.next() {
-            Ok(item) => Ok(item.is_some()),
+        match next_entry(self) {
+            Ok(entry) => Ok(entry.is_some()),
             Err(reason) => Err(reason),
         }
     }
@@ -68,8 +70,8 @@ impl Items for FileEntryIter<Slice<'_>> {
 
 impl Items for RawRngListIter<Slice<'_>> {
     fn passes(&mut self) -> ReadResult<bool> {
-        match self.next() {
-            Ok(item) => Ok(item.is_some()),
+        match next_range(self) {
+            Ok(item) => Ok(item != END),
             Err(reason) => Err(reason),
         }
     }
@@ -77,8 +79,8 @@ impl Items for RawRngListIter<Slice<'_>> {
 
 impl Items for RawLocListIter<Slice<'_>> {
     fn passes(&mut self) -> ReadResult<bool> {
-        match self.next() {
-            Ok(item) => Ok(item.is_some()),
+        match next_location(self) {
+            Ok(item) => Ok(item != END),
             Err(reason) => Err(reason),
         }
     }
@@ -86,8 +88,8 @@ impl Items for RawLocListIter<Slice<'_>> {
 
 impl Items for OperationIter<Slice<'_>> {
     fn passes(&mut self) -> ReadResult<bool> {
-        match self.next() {
-            Ok(item) => Ok(item.is_some()),
+        match next_operation(self) {
+            Ok(operation) => Ok(operation.is_some()),
             Err(reason) => Err(reason),
         }
     }

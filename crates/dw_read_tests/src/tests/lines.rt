@@ -8,7 +8,6 @@ use dw_read_lines::{
     FileEntry, FileEntryIter, IncompleteLineProgram, LineInstruction, LineInstructions,
     LineProgramHeader,
 };
-use std::test::Fail;
 
 /// The program at an offset of `.debug_line`, with addresses of 4 bytes where it doesn't tell.
 pub(crate) fn program(line: &[u8], offset: usize) -> ReadResult<IncompleteLineProgram<Slice<'_>>> {
@@ -32,7 +31,7 @@ const FIVE: &[u8] = b"\x45\x00\x00\x00\x05\x00\x08\x00\x3d\x00\x00\x00\
     a.c\x00\x00\x01\x02\x03\x04\x05\x06\x07\x08\x09\x0a\x0b\x0c\x0d\x0e\x0f\x10\x02\xaa\xbb";
 
 /// The name of a directory or a file, its directory, its time, its size and its checksum.
-type Entry = [Told; 5];
+pub(crate) type Entry = (Told, Told, Told, Told, Told);
 
 const UNTOLD: Told = ("", 0);
 
@@ -43,51 +42,75 @@ fn told_or_none(value: &Option<AttributeValue<Slice<'_>>>) -> Told {
     }
 }
 
-fn is_told(entry: &FileEntry<Slice<'_>>, wanted: &Entry) -> bool {
-    told_or_none(&entry.path_name) == wanted[0]
-        && told_or_none(&entry.directory_index) == wanted[1]
-        && told_or_none(&entry.timestamp) == wanted[2]
-        && told_or_none(&entry.size) == wanted[3]
-        && told_or_none(&entry.md5) == wanted[4]
+fn entry_of(entry: &FileEntry<Slice<'_>>) -> Entry {
+    (
+        told_or_none(&entry.path_name),
+        told_or_none(&entry.directory_index),
+        told_or_none(&entry.timestamp),
+        told_or_none(&entry.size),
+        told_or_none(&entry.md5),
+    )
 }
 
-/// Whether the next entry is told so, and none comes behind it, however often it is asked for.
+/// The next entry.
+pub(crate) fn next_entry(entries: &mut FileEntryIter<Slice<'_>>) -> ReadResult<Option<Entry>> {
+    match entries.next() {
+        Ok(Some(entry)) => Ok(Some(entry_of(&entry))),
+        Ok(None) => Ok(None),
+        Err(reason) => Err(reason),
+    }
+}
+
+/// Whether the next entry is this one, and none comes behind it, however often it is asked for.
 fn is_alone(entries: &mut FileEntryIter<Slice<'_>>, wanted: &Entry) -> bool {
-    let is_first = match entries.next() {
-        Ok(Some(entry)) => is_told(&entry, wanted),
-        _ => false,
-    };
-    is_first && matches!(entries.next(), Ok(None)) && matches!(entries.next(), Ok(None))
+    next_entry(entries) == Ok(Some(*wanted))
+        && next_entry(entries) == Ok(None)
+        && next_entry(entries) == Ok(None)
 }
 
 /// Whether a program has this one directory, and this one file.
 fn has_entries(line: &[u8], directory: &Entry, file: &Entry) -> ReadResult<bool> {
-    let program = program(line, 0)?;
-    let mut directories = program.header().include_directories()?;
-    let has_directory = is_alone(&mut directories, directory);
-    let mut files = directories.file_names()?;
-    Ok(has_directory && is_alone(&mut files, file))
+    match program(line, 0) {
+        Ok(program) => match program.header().include_directories() {
+            Ok(directories) => are_alone(directories, directory, file),
+            Err(reason) => Err(reason),
+        },
+        Err(reason) => Err(reason),
+    }
 }
 
-const DIRECTORY_OF_TWO: Entry = [("string", 0x0069_6e63), UNTOLD, UNTOLD, UNTOLD, UNTOLD];
+/// Whether the directories are this one, and the files behind them that one.
+fn are_alone(
+    mut directories: FileEntryIter<Slice<'_>>,
+    directory: &Entry,
+    file: &Entry,
+) -> ReadResult<bool> {
+    let has_directory = is_alone(&mut directories, directory);
+    match directories.file_names() {
+        Ok(mut files) => Ok(has_directory && is_alone(&mut files, file)),
+        Err(reason) => Err(reason),
+    }
+}
 
-const FILE_OF_TWO: Entry = [
+const DIRECTORY_OF_TWO: Entry = (("string", 0x0069_6e63), UNTOLD, UNTOLD, UNTOLD, UNTOLD);
+
+const FILE_OF_TWO: Entry = (
     ("string", 0x0061_2e63),
     ("udata", 1),
     ("udata", 2),
     ("udata", 3),
     UNTOLD,
-];
+);
 
-const DIRECTORY_OF_FIVE: Entry = [("line_str_ref", 0), UNTOLD, UNTOLD, UNTOLD, UNTOLD];
+const DIRECTORY_OF_FIVE: Entry = (("line_str_ref", 0), UNTOLD, UNTOLD, UNTOLD, UNTOLD);
 
-const FILE_OF_FIVE: Entry = [
+const FILE_OF_FIVE: Entry = (
     ("string", 0x0061_2e63),
     ("data1", 0),
     UNTOLD,
     UNTOLD,
     ("data16", 0x100f_0e0d_0c0b_0a09_0807_0605_0403_0201),
-];
+);
 
 #[test]
 fn reads_directories_and_files(rt: HostRuntime) {
@@ -99,15 +122,14 @@ fn reads_directories_and_files(rt: HostRuntime) {
 /// What a header tells: its encoding, its place, the first special opcode, and how its lines are
 /// encoded.
 fn facts(line: &[u8]) -> ReadResult<(Encoding, DebugLineOffset, u8, LineEncoding)> {
-    program(line, 0).map(|program| {
-        let header = program.header();
-        (
-            header.encoding(),
-            header.offset(),
-            header.opcode_base(),
-            header.line_encoding(),
-        )
-    })
+    let program = program(line, 0)?;
+    let header = program.header();
+    Ok((
+        header.encoding(),
+        header.offset(),
+        header.opcode_base(),
+        header.line_encoding(),
+    ))
 }
 
 #[test]
@@ -156,13 +178,26 @@ const INSTRUCTIONS: [Told; 6] = [
     UNTOLD,
 ];
 
-#[test]
-fn reads_instructions_of_lines(rt: HostRuntime) -> Result<(), Fail> {
-    let program = program(TWO, 0)?;
-    let header = program.header();
+/// The first instruction of a program that isn't as it should be.
+fn first_other(header: &LineProgramHeader<Slice<'_>>) -> Option<usize> {
     let mut instructions = header.instructions();
-    for wanted in INSTRUCTIONS {
-        assert_eq!(rt; next_of(&mut instructions, header), Ok(wanted));
+    for (index, wanted) in INSTRUCTIONS.iter().enumerate() {
+        if next_of(&mut instructions, header) != Ok(*wanted) {
+            return Some(index);
+        }
     }
-    Ok(())
+    None
+}
+
+/// The same of the program of these bytes.
+fn first_other_of(line: &[u8]) -> ReadResult<Option<usize>> {
+    match program(line, 0) {
+        Ok(program) => Ok(first_other(program.header())),
+        Err(reason) => Err(reason),
+    }
+}
+
+#[test]
+fn reads_instructions_of_lines(rt: HostRuntime) {
+    assert!(rt; first_other_of(TWO) == Ok(None));
 }

@@ -27,10 +27,10 @@ enum Sought {
 /// The number that is found, of a text one whose first byte is the highest.
 fn found(alloc: Global, both: UnitRef<'_, Slice<'_>>, sought: Sought, at: u64) -> ReadResult<u128> {
     match sought {
-        Sought::StringOffset => both.string_offset(at).map(|offset| offset.0 as u128),
-        Sought::Address => both.address(at).map(|address| address as u128),
-        Sought::Ranges => both.ranges_offset(at).map(|offset| offset.0 as u128),
-        Sought::Locations => both.locations_offset(at).map(|offset| offset.0 as u128),
+        Sought::StringOffset => Ok(both.string_offset(at)?.0 as u128),
+        Sought::Address => Ok(both.address(at)? as u128),
+        Sought::Ranges => Ok(both.ranges_offset(at)?.0 as u128),
+        Sought::Locations => Ok(both.locations_offset(at)?.0 as u128),
         _ => found_at(alloc, both, sought, at as usize),
     }
 }
@@ -42,17 +42,14 @@ fn found_at(
     at: usize,
 ) -> ReadResult<u128> {
     match sought {
-        Sought::String => {
-            let text = both.string(DebugStrOffset(at));
-            text.map(|text| number_of(text.to_slice()))
-        }
+        Sought::String => Ok(number_of(both.string(DebugStrOffset(at))?.to_slice())),
         Sought::LineString => {
-            let text = both.line_string(DebugLineStrOffset(at));
-            text.map(|text| number_of(text.to_slice()))
+            let text = both.line_string(DebugLineStrOffset(at))?;
+            Ok(number_of(text.to_slice()))
         }
         _ => {
-            let rows = both.entries_raw(alloc, Some(UnitOffset(at)));
-            rows.map(|rows| if rows.is_empty() { 0 } else { 1 })
+            let rows = both.entries_raw(alloc, Some(UnitOffset(at)))?;
+            Ok(if rows.is_empty() { 0 } else { 1 })
         }
     }
 }
@@ -228,12 +225,19 @@ fn cases() -> [&'static [Case]; 3] {
     [INDEXED, HUGE, PLACED]
 }
 
+/// The first row of a table that leads elsewhere.
+fn first_missed(alloc: Global, table: &[Case]) -> Option<usize> {
+    for (row, (bytes, sought, at, wanted)) in table.iter().enumerate() {
+        if looked_up(alloc, bytes, *sought, *at) != *wanted {
+            return Some(row);
+        }
+    }
+    None
+}
+
 #[test]
 fn finds_what_operands_lead_to(rt: HostRuntime) {
-    for table in cases() {
-        for (row, (bytes, sought, at, wanted)) in table.iter().enumerate() {
-            let answer = looked_up(rt.alloc(), bytes, *sought, *at);
-            assert_eq!(rt; answer, *wanted, "row {row}, at {at}");
-        }
+    for (number, table) in cases().iter().enumerate() {
+        assert_eq!(rt; first_missed(rt.alloc(), table), None, "of table {number}");
     }
 }

@@ -33,24 +33,26 @@ enum Call {
 fn answer(reader: &mut Slice<'_>, call: Call) -> ReadResult<u128> {
     match call {
         Call::U128 => reader.read_u128(),
-        Call::Sleb => reader.read_sleb128().map(|n| n.cast_unsigned() as u128),
-        Call::Text => reader
-            .read_null_terminated()
-            .map(|text| number_of(text.to_slice())),
-        Call::Word(format) => reader.read_word(format).map(|n| n as u128),
-        Call::Length => reader.read_initial_length().map(|(length, format)| match format {
-            Format::Dwarf32 => length as u128,
-            Format::Dwarf64 => (1u128 << 64).wrapping_add(length as u128),
-        }),
-        _ => narrower(reader, call).map(|n| n as u128),
+        Call::Sleb => Ok(reader.read_sleb128()?.cast_unsigned() as u128),
+        Call::Text => Ok(number_of(reader.read_null_terminated()?.to_slice())),
+        Call::Word(format) => Ok(reader.read_word(format)? as u128),
+        Call::Length => length(reader),
+        _ => Ok(narrower(reader, call)? as u128),
+    }
+}
+
+fn length(reader: &mut Slice<'_>) -> ReadResult<u128> {
+    match reader.read_initial_length()? {
+        (length, Format::Dwarf32) => Ok(length as u128),
+        (length, Format::Dwarf64) => Ok((1u128 << 64).wrapping_add(length as u128)),
     }
 }
 
 fn narrower(reader: &mut Slice<'_>, call: Call) -> ReadResult<u64> {
     match call {
-        Call::U8 => reader.read_u8().map(|n| n as u64),
-        Call::U16 => reader.read_u16().map(|n| n as u64),
-        Call::U32 => reader.read_u32().map(|n| n as u64),
+        Call::U8 => Ok(reader.read_u8()? as u64),
+        Call::U16 => Ok(reader.read_u16()? as u64),
+        Call::U32 => Ok(reader.read_u32()? as u64),
         Call::U64 => reader.read_u64(),
         Call::Uint => reader.read_uint(3),
         Call::Address(size) => reader.read_address(size),
@@ -190,9 +192,8 @@ fn reads_numbers_and_texts(rt: HostRuntime) {
         let mut reader = EndianSlice::new(bytes, *endian);
         let was_passed = reader.skip(*passed).is_ok();
         let read = answer(&mut reader, *call);
-        assert_eq!(rt;
-            (was_passed, read, reader.place()),
-            (true, *wanted, *place),
+        assert!(rt;
+            was_passed && read == *wanted && reader.place() == *place,
             "{bytes:?}"
         );
     }
@@ -225,6 +226,6 @@ fn reads_numbers_of_any_length(rt: HostRuntime) {
         bytes[0] = *first;
         bytes[299] = *last;
         let read = (answer_at(&bytes, Uleb), answer_at(&bytes, Sleb));
-        assert_eq!(rt; read, (*unsigned, *signed), "{first:#x} to {last:#x}");
+        assert!(rt; read == (*unsigned, *signed), "{first:#x} to {last:#x}");
     }
 }

@@ -123,7 +123,7 @@ fn cases() -> [&'static [Case]; 5] {
 }
 
 /// The variant's name and its first two numbers.
-type Told = (&'static str, u128, u128);
+pub(crate) type Told = (&'static str, u128, u128);
 
 fn told(operation: &Operation<Slice<'_>>) -> Told {
     match operation {
@@ -201,20 +201,21 @@ pub(crate) fn operations(
     OperationIter::new(Expression(EndianSlice::new(bytes, endian)), encoding)
 }
 
-/// The next operation, and the place behind it.
-fn next_of(operations: &mut OperationIter<Slice<'_>>) -> (ReadResult<Option<Told>>, usize) {
-    let told = match operations.next() {
+/// The next operation.
+pub(crate) fn next_operation(
+    operations: &mut OperationIter<Slice<'_>>,
+) -> ReadResult<Option<Told>> {
+    match operations.next() {
         Ok(Some(operation)) => Ok(Some(told(&operation))),
         Ok(None) => Ok(None),
         Err(reason) => Err(reason),
-    };
-    (told, operations.place())
+    }
 }
 
 /// Whether the bytes are this one operation.
 fn is_read(bytes: &[u8], endian: RunTimeEndian, encoding: Encoding, wanted: Told) -> bool {
     let mut rest = operations(bytes, endian, encoding);
-    next_of(&mut rest) == (Ok(Some(wanted)), bytes.len())
+    next_operation(&mut rest) == Ok(Some(wanted)) && rest.place() == bytes.len()
 }
 
 /// Whether the bytes are the operation of the case, where numbers begin with their lowest byte.
@@ -238,16 +239,31 @@ fn first_missed(table: &[Case], version: u16) -> Option<usize> {
     None
 }
 
+/// The first table, and the first case of it, that isn't read so.
+fn first_missed_of_all(version: u16) -> Option<(usize, usize)> {
+    for (number, table) in cases().iter().enumerate() {
+        if let Some(row) = first_missed(table, version) {
+            return Some((number, row));
+        }
+    }
+    None
+}
+
+/// The first code of an operation without operands that isn't read so.
+fn first_missed_code(version: u16) -> Option<u8> {
+    for code in SIMPLE {
+        if !is_simple(*code, version) {
+            return Some(*code);
+        }
+    }
+    None
+}
+
 #[test]
 fn reads_operations(rt: HostRuntime) {
     for version in 2..=5 {
-        for code in SIMPLE {
-            assert!(rt; is_simple(*code, version), "{code:#x} in version {version}");
-        }
-        for (number, table) in cases().iter().enumerate() {
-            let row = first_missed(table, version);
-            assert_eq!(rt; row, None, "of table {number} in version {version}");
-        }
+        let missed = (first_missed_code(version), first_missed_of_all(version));
+        assert_eq!(rt; missed, (None, None), "in version {version}");
     }
 }
 
@@ -314,6 +330,10 @@ fn reads_operations_by_encoding(rt: HostRuntime) {
         let is_so = is_read(bytes, RunTimeEndian::Little, *encoding, *wanted);
         assert!(rt; is_so, "{bytes:?}");
     }
+}
+
+#[test]
+fn reads_operations_of_the_other_order(rt: HostRuntime) {
     for (bytes, wanted) in big() {
         let is_so = is_read(bytes, RunTimeEndian::Big, narrow(5), *wanted);
         assert!(rt; is_so, "{bytes:?}");
@@ -356,14 +376,23 @@ fn next_part(operations: &mut OperationIter<Slice<'_>>) -> (ReadResult<Option<us
     (begin, operations.place())
 }
 
+/// The first operation that has another part, or ends at another place.
+fn first_other_part(operations: &mut OperationIter<Slice<'_>>) -> Option<usize> {
+    for (row, (part, place)) in parts().iter().enumerate() {
+        if next_part(operations) != (Ok(Some(*part)), *place) {
+            return Some(row);
+        }
+    }
+    None
+}
+
 #[test]
 fn hands_out_parts_of_the_section(rt: HostRuntime) {
     let bytes = b"\xa4\x2a\x02\xaa\xbb\xf4\x2a\x01\xff\x9e\x02\xff\xfe\xa3\x01\xff\xf3\x00\
         \x2f\x02\x00\x10\x17";
     let mut rest = operations(bytes, RunTimeEndian::Little, narrow(4));
-    assert_eq!(rt; rest.place(), 0);
-    for (part, place) in parts() {
-        assert_eq!(rt; next_part(&mut rest), (Ok(Some(*part)), *place));
-    }
-    assert_eq!(rt; next_part(&mut rest), (Ok(None), 23));
+    let begin = rest.place();
+    let other = first_other_part(&mut rest);
+    let is_at_end = next_part(&mut rest) == (Ok(None), 23);
+    assert_eq!(rt; (begin, other, is_at_end), (0, None, true));
 }

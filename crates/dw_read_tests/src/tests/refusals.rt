@@ -9,9 +9,9 @@ use crate::tests::input::{Input, ending};
 use crate::tests::joined::turned;
 use crate::tests::lines::TWO;
 use crate::tests::lists::{LOCATIONS, OLD_LOCATIONS, PAIRS, RANGES};
-use crate::tests::sections::narrow;
+use crate::tests::sections::{encoding, narrow};
 use dw_base::constants::{DW_FORM_implicit_const, DW_FORM_indirect, DW_OP_WASM_location};
-use dw_base::{DwEhPe, DwForm, DwOp, Encoding, Format};
+use dw_base::{DwEhPe, DwForm, DwOp};
 use dw_read::{ReadError, ReadResult};
 use std::alloc::Global;
 
@@ -349,10 +349,18 @@ fn refuses_by_the_cause(rt: HostRuntime) {
         let row = first_ending_otherwise(rt.alloc(), table);
         assert_eq!(rt; row, None, "of table {number}");
     }
+}
+
+/// Whether an operation of this code is refused.
+fn is_unknown(alloc: Global, code: u8) -> bool {
+    let wanted = Err(ReadError::InvalidExpression(DwOp(code)));
+    ending(alloc, Operations, narrow(5), &[code, 0, 0, 0, 0]) == wanted
+}
+
+#[test]
+fn refuses_unknown_operations(rt: HostRuntime) {
     for code in UNKNOWN {
-        let wanted = Err(ReadError::InvalidExpression(DwOp(*code)));
-        let end = ending(rt.alloc(), Operations, narrow(5), &[*code, 0, 0, 0, 0]);
-        assert_eq!(rt; end, wanted, "the code {code:#x}");
+        assert!(rt; is_unknown(rt.alloc(), *code), "the code {code:#x}");
     }
 }
 
@@ -371,16 +379,16 @@ fn of_three() -> &'static [Case] {
     OF_THREE
 }
 
+/// Whether bytes end so where addresses have 3 bytes.
+fn is_ended(alloc: Global, case: &Case) -> bool {
+    let (input, version, bytes, wanted) = *case;
+    ending(alloc, input, encoding(version, 3), bytes) == wanted
+}
+
 #[test]
 fn refuses_addresses_of_three_bytes(rt: HostRuntime) {
-    for (input, version, bytes, wanted) in of_three() {
-        let encoding = Encoding {
-            address_size: 3,
-            format: Format::Dwarf32,
-            version: *version,
-        };
-        let end = ending(rt.alloc(), *input, encoding, bytes);
-        assert_eq!(rt; end, *wanted, "{bytes:?}");
+    for (row, case) in of_three().iter().enumerate() {
+        assert!(rt; is_ended(rt.alloc(), case), "{row}");
     }
 }
 

@@ -206,22 +206,35 @@ fn letter_at(alloc: Global, case: &Case, part: Part, place: usize, mask: u8) -> 
     letter(end.err())
 }
 
-/// The letters of one byte, one for each mask.
-fn letters_at(alloc: Global, case: &Case, part: Part, place: usize) -> [u8; 9] {
-    MASKS.map(|mask| letter_at(alloc, case, part, place, mask))
+/// Whether these are the letters of one byte, one for each mask.
+fn are_letters(alloc: Global, case: &Case, part: Part, place: usize, letters: &[u8]) -> bool {
+    for (mask, letter) in MASKS.iter().zip(letters) {
+        if letter_at(alloc, case, part, place, *mask) != *letter {
+            return false;
+        }
+    }
+    letters.len() == MASKS.len()
+}
+
+/// The first byte of a section whose letters are others.
+fn first_other(alloc: Global, case: &Case, part: Part) -> Option<usize> {
+    let letters = match part {
+        Part::Info => case.info_letters,
+        Part::Abbrev => case.abbrev_letters,
+    };
+    for (place, row) in letters.lines().enumerate() {
+        if !are_letters(alloc, case, part, place, row.as_bytes()) {
+            return Some(place);
+        }
+    }
+    None
 }
 
 #[test]
 fn refuses_turned_bits(rt: HostRuntime) {
-    for case in cases() {
-        for (part, letters) in [
-            (Part::Info, case.info_letters),
-            (Part::Abbrev, case.abbrev_letters),
-        ] {
-            for (place, row) in letters.lines().enumerate() {
-                let read = letters_at(rt.alloc(), &case, part, place);
-                assert_eq!(rt; read.as_slice(), row.as_bytes(), "at {place} of {letters}");
-            }
-        }
+    for (number, case) in cases().iter().enumerate() {
+        let info = first_other(rt.alloc(), case, Part::Info);
+        let abbrev = first_other(rt.alloc(), case, Part::Abbrev);
+        assert_eq!(rt; (info, abbrev), (None, None), "of case {number}");
     }
 }

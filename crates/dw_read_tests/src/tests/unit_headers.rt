@@ -3,28 +3,33 @@
 use crate::tests::sections::{Slice, little};
 use dw_base::constants::{DW_UT_compile, DW_UT_type};
 use dw_base::{DwUt, Encoding, Format};
-use dw_read::{ReadError, ReadResult, UnitHeadersIter};
+use dw_read::{ReadError, ReadResult, UnitHeader, UnitHeadersIter};
 
 /// What a header tells: its place, the version, the size of addresses and the format, its type, its
 /// identity and its length.
-type Header = (usize, (u16, u8, Format), DwUt, Option<u64>, usize);
+pub(crate) type Header = (usize, (u16, u8, Format), DwUt, Option<u64>, usize);
 
 fn told(encoding: Encoding) -> (u16, u8, Format) {
     (encoding.version, encoding.address_size, encoding.format)
 }
 
+fn header_of(header: &UnitHeader<Slice<'_>>) -> Header {
+    (
+        header.offset().0,
+        told(header.encoding()),
+        header.unit_type(),
+        header.identity(),
+        header.size(),
+    )
+}
+
 /// The next header.
-fn next_of(headers: &mut UnitHeadersIter<Slice<'_>>) -> ReadResult<Option<Header>> {
-    let header = headers.next()?;
-    Ok(header.map(|header| {
-        (
-            header.offset().0,
-            told(header.encoding()),
-            header.unit_type(),
-            header.identity(),
-            header.size(),
-        )
-    }))
+pub(crate) fn next_header(headers: &mut UnitHeadersIter<Slice<'_>>) -> ReadResult<Option<Header>> {
+    match headers.next() {
+        Ok(Some(header)) => Ok(Some(header_of(&header))),
+        Ok(None) => Ok(None),
+        Err(reason) => Err(reason),
+    }
 }
 
 const CUT: ReadResult<Option<Header>> = Err(ReadError::UnexpectedEof);
@@ -107,12 +112,21 @@ fn cases() -> &'static [Case] {
     CASES
 }
 
+/// Whether the bytes are answered so.
+fn are_answered(case: &Case) -> bool {
+    let (bytes, wanted) = *case;
+    let mut headers = UnitHeadersIter::new(little(bytes));
+    for answer in wanted {
+        if next_header(&mut headers) != answer {
+            return false;
+        }
+    }
+    true
+}
+
 #[test]
 fn reads_headers_of_units(rt: HostRuntime) {
-    for (bytes, wanted) in cases() {
-        let mut headers = UnitHeadersIter::new(little(bytes));
-        for answer in wanted {
-            assert!(rt; next_of(&mut headers) == *answer, "of {bytes:?}");
-        }
+    for (row, case) in cases().iter().enumerate() {
+        assert!(rt; are_answered(case), "{row}");
     }
 }

@@ -220,7 +220,8 @@ fn name_in(alloc: Global, strings: &[u8]) -> ReadResult<Option<u128>> {
         strings,
         ..NONE
     };
-    facts(alloc, &bytes).map(|(names, _, _, _, _)| names.0)
+    let (names, _, _, _, _) = facts(alloc, &bytes)?;
+    Ok(names.0)
 }
 
 fn names() -> &'static [(&'static [u8], Option<u128>)] {
@@ -230,7 +231,7 @@ fn names() -> &'static [(&'static [u8], Option<u128>)] {
 #[test]
 fn misses_names_that_have_no_end(rt: HostRuntime) {
     for (strings, name) in names() {
-        assert_eq!(rt; name_in(rt.alloc(), strings), Ok(*name), "of {strings:?}");
+        assert!(rt; name_in(rt.alloc(), strings) == Ok(*name), "of {strings:?}");
     }
 }
 
