@@ -15,6 +15,8 @@ mod section_tests;
 #[cfg(test)]
 mod string_tests;
 #[cfg(test)]
+mod tables;
+#[cfg(test)]
 mod trials;
 #[cfg(test)]
 mod vector_tests;

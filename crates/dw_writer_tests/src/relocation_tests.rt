@@ -1,13 +1,13 @@
 //! Relocating vectors: their bytes, their records, what they refuse, and their copies.
 
 use crate::calls::Call::{Address, Offset, OffsetAt, Pointer, Reference, U8, U8At, U128};
-use crate::calls::{Answer, Answered, Call, Left, SYMBOL};
-use crate::trials::{Fork, Kind, Trial, pass_over};
+use crate::calls::{Answer, Answered, Left, SYMBOL};
+use crate::trials::{Fork, Kind, Trial};
 use crate::vector_tests::{EACH, PCREL_SDATA4};
 use dw_base::Address::{Constant, Symbol};
 use dw_base::RunTimeEndian::{Big, Little};
 use dw_base::constants::DW_EH_PE_uleb128;
-use dw_base::{Error, RunTimeEndian, SectionId};
+use dw_base::{Error, SectionId};
 use dw_writer::{Relocation, RelocationTarget};
 
 /// The records of each call.
@@ -53,145 +53,145 @@ const LITTLE_WITH_ZEROS: [u8; 64] = [
 /// An offset that has no room in an addend.
 const TOO_LARGE: usize = 0x8000_0000_0000_0000;
 
-/// Calls, and the bytes and records that they leave in a vector of this order.
-type Row = (
-    RunTimeEndian,
-    &'static [Call],
-    &'static [u8],
-    &'static [Relocation],
-);
-
-const HELD: &[Row] = &[
-    (Big, EACH, &BIG_WITH_ZEROS, EACH_RECORDS),
-    (Little, EACH, &LITTLE_WITH_ZEROS, EACH_RECORDS),
-    // A patch may write over a place, and a place may have two records.
+/// Calls, and the bytes and records that they leave.
+const HELD: &[(Kind, Trial)] = &[
     (
-        Little,
-        &[
-            Address(
-                Symbol {
-                    symbol: 1,
-                    addend: 0x1234_5678,
-                },
-                4,
-            ),
-            Address(
-                Symbol {
-                    symbol: 0,
-                    addend: i64::MIN,
-                },
-                8,
-            ),
-            Address(
-                Symbol {
-                    symbol: usize::MAX,
-                    addend: i64::MAX,
-                },
-                1,
-            ),
-            Address(
-                Symbol {
-                    symbol: 2,
-                    addend: -1,
-                },
-                2,
-            ),
-            U8At(3, 9),
-            OffsetAt(4, 7, SectionId::EhFrame, 8),
-        ],
-        b"\0\0\0\x09\0\0\0\0\0\0\0\0\0\0\0",
-        &[
-            Relocation {
-                offset: 0,
-                size: 4,
-                target: RelocationTarget::Symbol(1),
-                addend: 0x1234_5678,
-                eh_pe: None,
-            },
-            Relocation {
-                offset: 4,
-                size: 8,
-                target: RelocationTarget::Symbol(0),
-                addend: i64::MIN,
-                eh_pe: None,
-            },
-            Relocation {
-                offset: 12,
-                size: 1,
-                target: RelocationTarget::Symbol(usize::MAX),
-                addend: i64::MAX,
-                eh_pe: None,
-            },
-            Relocation {
-                offset: 13,
-                size: 2,
-                target: RelocationTarget::Symbol(2),
-                addend: -1,
-                eh_pe: None,
-            },
-            Relocation {
-                offset: 4,
-                size: 8,
-                target: RelocationTarget::Section(SectionId::EhFrame),
-                addend: 7,
-                eh_pe: None,
-            },
-        ],
+        Kind::Relocating(Big),
+        Trial::Leaves(Left {
+            calls: EACH,
+            bytes: &BIG_WITH_ZEROS,
+            records: EACH_RECORDS,
+        }),
     ),
     (
-        Little,
-        &[Offset(TOO_LARGE - 1, SectionId::DebugStr, 1)],
-        b"\0",
-        &[Relocation {
-            offset: 0,
-            size: 1,
-            target: RelocationTarget::Section(SectionId::DebugStr),
-            addend: i64::MAX,
-            eh_pe: None,
-        }],
+        Kind::Relocating(Little),
+        Trial::Leaves(Left {
+            calls: EACH,
+            bytes: &LITTLE_WITH_ZEROS,
+            records: EACH_RECORDS,
+        }),
+    ),
+    // A patch may write over a place, and a place may have two records.
+    (
+        Kind::Relocating(Little),
+        Trial::Leaves(Left {
+            calls: &[
+                Address(
+                    Symbol {
+                        symbol: 1,
+                        addend: 0x1234_5678,
+                    },
+                    4,
+                ),
+                Address(
+                    Symbol {
+                        symbol: 0,
+                        addend: i64::MIN,
+                    },
+                    8,
+                ),
+                Address(
+                    Symbol {
+                        symbol: usize::MAX,
+                        addend: i64::MAX,
+                    },
+                    1,
+                ),
+                Address(
+                    Symbol {
+                        symbol: 2,
+                        addend: -1,
+                    },
+                    2,
+                ),
+                U8At(3, 9),
+                OffsetAt(4, 7, SectionId::EhFrame, 8),
+            ],
+            bytes: b"\0\0\0\x09\0\0\0\0\0\0\0\0\0\0\0",
+            records: &[
+                Relocation {
+                    offset: 0,
+                    size: 4,
+                    target: RelocationTarget::Symbol(1),
+                    addend: 0x1234_5678,
+                    eh_pe: None,
+                },
+                Relocation {
+                    offset: 4,
+                    size: 8,
+                    target: RelocationTarget::Symbol(0),
+                    addend: i64::MIN,
+                    eh_pe: None,
+                },
+                Relocation {
+                    offset: 12,
+                    size: 1,
+                    target: RelocationTarget::Symbol(usize::MAX),
+                    addend: i64::MAX,
+                    eh_pe: None,
+                },
+                Relocation {
+                    offset: 13,
+                    size: 2,
+                    target: RelocationTarget::Symbol(2),
+                    addend: -1,
+                    eh_pe: None,
+                },
+                Relocation {
+                    offset: 4,
+                    size: 8,
+                    target: RelocationTarget::Section(SectionId::EhFrame),
+                    addend: 7,
+                    eh_pe: None,
+                },
+            ],
+        }),
+    ),
+    (
+        Kind::Relocating(Little),
+        Trial::Leaves(Left {
+            calls: &[Offset(TOO_LARGE - 1, SectionId::DebugStr, 1)],
+            bytes: b"\0",
+            records: &[Relocation {
+                offset: 0,
+                size: 1,
+                target: RelocationTarget::Section(SectionId::DebugStr),
+                addend: i64::MAX,
+                eh_pe: None,
+            }],
+        }),
     ),
     // A pointer to a number counts from its own place, and one to a symbol is left out.
     (
-        Little,
-        &[
-            U128(0),
-            Pointer(Constant(8), PCREL_SDATA4, 8),
-            Pointer(
-                Symbol {
-                    symbol: 1,
-                    addend: -3,
-                },
-                PCREL_SDATA4,
-                8,
-            ),
-        ],
-        b"\0\0\0\0\0\0\0\0\0\0\0\0\0\0\0\0\xf8\xff\xff\xff\0\0\0\0",
-        &[Relocation {
-            offset: 20,
-            size: 4,
-            target: RelocationTarget::Symbol(1),
-            addend: -3,
-            eh_pe: Some(PCREL_SDATA4),
-        }],
+        Kind::Relocating(Little),
+        Trial::Leaves(Left {
+            calls: &[
+                U128(0),
+                Pointer(Constant(8), PCREL_SDATA4, 8),
+                Pointer(
+                    Symbol {
+                        symbol: 1,
+                        addend: -3,
+                    },
+                    PCREL_SDATA4,
+                    8,
+                ),
+            ],
+            bytes: b"\0\0\0\0\0\0\0\0\0\0\0\0\0\0\0\0\xf8\xff\xff\xff\0\0\0\0",
+            records: &[Relocation {
+                offset: 20,
+                size: 4,
+                target: RelocationTarget::Symbol(1),
+                addend: -3,
+                eh_pe: Some(PCREL_SDATA4),
+            }],
+        }),
     ),
 ];
 
-/// The table, into which no other proof looks.
-fn held() -> &'static [Row] {
+/// What a linker puts in is recorded. No other proof looks into the table.
+pub fn held() -> &'static [(Kind, Trial)] {
     HELD
-}
-
-#[test]
-fn records_what_a_linker_puts_in(rt: HostRuntime) {
-    for (i, (order, calls, bytes, records)) in held().iter().enumerate() {
-        let trial = Trial::Leaves(Left {
-            calls,
-            bytes,
-            records,
-        });
-        let kind = Kind::Relocating(*order);
-        assert_eq!(rt; pass_over(rt.alloc(), kind, &trial), Ok(true), "at {i}");
-    }
 }
 
 /// Calls that an empty vector refuses.
@@ -225,16 +225,18 @@ const REFUSED: &[Answer] = &[
     ),
 ];
 
-const REFUSES: Trial = Trial::Answers(Answered {
-    calls: REFUSED,
-    bytes: &[],
-    records: &[],
-});
+const REFUSES: &[(Kind, Trial)] = &[(
+    Kind::Relocating(Little),
+    Trial::Answers(Answered {
+        calls: REFUSED,
+        bytes: &[],
+        records: &[],
+    }),
+)];
 
-#[test]
-fn refuses_calls_and_records_nothing(rt: HostRuntime) {
-    let kind = Kind::Relocating(Little);
-    assert_eq!(rt; pass_over(rt.alloc(), kind, &REFUSES), Ok(true));
+/// Calls that are refused record nothing. No other proof looks into the table.
+pub fn refuses() -> &'static [(Kind, Trial)] {
+    REFUSES
 }
 
 /// A record that both have, and one that the copy doesn't get.

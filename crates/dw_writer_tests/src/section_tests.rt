@@ -2,7 +2,7 @@
 
 use crate::calls::Call::{Offset, U8, U8At};
 use crate::calls::{Answered, FAULT, Held, answers};
-use crate::trials::{Kind, Trial, pass_over};
+use crate::trials::{Kind, Trial};
 use dw_base::RunTimeEndian::Little;
 use dw_base::{Error, Result, SectionId, UnitEntryId, UnitId};
 use dw_writer::{
@@ -269,15 +269,8 @@ const TRIALS: &[(Kind, Trial)] = &[
 ];
 
 /// The table, into which no other proof looks.
-fn trials() -> &'static [(Kind, Trial)] {
+pub fn trials() -> &'static [(Kind, Trial)] {
     TRIALS
-}
-
-#[test]
-fn tries_new_sections(rt: HostRuntime) {
-    for (i, (kind, trial)) in trials().iter().enumerate() {
-        assert_eq!(rt; pass_over(rt.alloc(), *kind, trial), Ok(true), "at {i}");
-    }
 }
 
 /// Tells that a copy of a copy of bytes holds them.

@@ -15,6 +15,7 @@ use dw_base::constants::{
     DW_EH_PE_uleb128,
 };
 use dw_base::{DwEhPe, Error, Format, RunTimeEndian, SectionId};
+use std::alloc::Global;
 
 /// Bytes, a number of each width, numbers by their widths, and LEB128; a length, an address and
 /// offsets; and then each call that patches.
@@ -67,85 +68,120 @@ const MINUS_TWO: u64 = 0xffff_ffff_ffff_fffe;
 const SIXTEEN: &[Call] = &[U128(0x0001_0203_0405_0607_0809_0a0b_0c0d_0e0f)];
 
 /// Calls, and the bytes that they leave in a vector of this order.
-const HELD: &[(RunTimeEndian, &[Call], &[u8])] = &[
-    (Big, EACH, &BIG),
-    (Little, EACH, &LITTLE),
+const HELD: &[(RunTimeEndian, Trial)] = &[
     (
         Big,
-        SIXTEEN,
-        &[0, 1, 2, 3, 4, 5, 6, 7, 8, 9, 10, 11, 12, 13, 14, 15],
+        Trial::Leaves(Left {
+            calls: EACH,
+            bytes: &BIG,
+            records: &[],
+        }),
     ),
     (
         Little,
-        SIXTEEN,
-        &[15, 14, 13, 12, 11, 10, 9, 8, 7, 6, 5, 4, 3, 2, 1, 0],
+        Trial::Leaves(Left {
+            calls: EACH,
+            bytes: &LITTLE,
+            records: &[],
+        }),
+    ),
+    (
+        Big,
+        Trial::Leaves(Left {
+            calls: SIXTEEN,
+            bytes: &[0, 1, 2, 3, 4, 5, 6, 7, 8, 9, 10, 11, 12, 13, 14, 15],
+            records: &[],
+        }),
+    ),
+    (
+        Little,
+        Trial::Leaves(Left {
+            calls: SIXTEEN,
+            bytes: &[15, 14, 13, 12, 11, 10, 9, 8, 7, 6, 5, 4, 3, 2, 1, 0],
+            records: &[],
+        }),
     ),
     // The examples of DWARF 5, 7.6 and appendix C.
     (
         Little,
-        &[
-            Uleb128(2),
-            Uleb128(127),
-            Uleb128(128),
-            Uleb128(129),
-            Uleb128(12857),
-            Uleb128(624485),
-        ],
-        b"\x02\x7f\x80\x01\x81\x01\xb9\x64\xe5\x8e\x26",
+        Trial::Leaves(Left {
+            calls: &[
+                Uleb128(2),
+                Uleb128(127),
+                Uleb128(128),
+                Uleb128(129),
+                Uleb128(12857),
+                Uleb128(624485),
+            ],
+            bytes: b"\x02\x7f\x80\x01\x81\x01\xb9\x64\xe5\x8e\x26",
+            records: &[],
+        }),
     ),
     (
         Little,
-        &[
-            Sleb128(2),
-            Sleb128(-2),
-            Sleb128(127),
-            Sleb128(-127),
-            Sleb128(128),
-            Sleb128(-128),
-        ],
-        b"\x02\x7e\xff\x00\x81\x7f\x80\x01\x80\x7f",
+        Trial::Leaves(Left {
+            calls: &[
+                Sleb128(2),
+                Sleb128(-2),
+                Sleb128(127),
+                Sleb128(-127),
+                Sleb128(128),
+                Sleb128(-128),
+            ],
+            bytes: b"\x02\x7e\xff\x00\x81\x7f\x80\x01\x80\x7f",
+            records: &[],
+        }),
     ),
     (
         Little,
-        &[Uleb128(u64::MAX), Sleb128(i64::MIN)],
-        b"\xff\xff\xff\xff\xff\xff\xff\xff\xff\x01\x80\x80\x80\x80\x80\x80\x80\x80\x80\x7f",
+        Trial::Leaves(Left {
+            calls: &[Uleb128(u64::MAX), Sleb128(i64::MIN)],
+            bytes: b"\xff\xff\xff\xff\xff\xff\xff\xff\xff\x01\x80\x80\x80\x80\x80\x80\x80\x80\x80\x7f",
+            records: &[],
+        }),
     ),
     (
         Big,
-        &[
-            Length(2, Format::Dwarf32),
-            Bytes(b"hi"),
-            Length(2, Format::Dwarf64),
-            Bytes(b"hi"),
-        ],
-        b"\0\0\0\x02hi\xff\xff\xff\xff\0\0\0\0\0\0\0\x02hi",
+        Trial::Leaves(Left {
+            calls: &[
+                Length(2, Format::Dwarf32),
+                Bytes(b"hi"),
+                Length(2, Format::Dwarf64),
+                Bytes(b"hi"),
+            ],
+            bytes: b"\0\0\0\x02hi\xff\xff\xff\xff\0\0\0\0\0\0\0\x02hi",
+            records: &[],
+        }),
     ),
     // A pointer in each format; the last but one counts from its own place, which is 35.
     (
         Little,
-        &[
-            Pointer(Constant(0x0102), DW_EH_PE_absptr, 4),
-            Pointer(Constant(0x80), DW_EH_PE_uleb128, 4),
-            Pointer(Constant(0x0304), DW_EH_PE_udata2, 4),
-            Pointer(Constant(5), DW_EH_PE_udata4, 4),
-            Pointer(Constant(6), DW_EH_PE_udata8, 4),
-            Pointer(Constant(MINUS_TWO), DW_EH_PE_sleb128, 4),
-            Pointer(Constant(MINUS_TWO), DW_EH_PE_sdata2, 4),
-            Pointer(Constant(MINUS_TWO), DW_EH_PE_sdata4, 4),
-            Pointer(Constant(MINUS_TWO), DW_EH_PE_sdata8, 4),
-            Pointer(Constant(33), PCREL_SDATA4, 4),
-            Pointer(Constant(7), INDIRECT_UDATA2, 4),
-        ],
-        &[
-            0x02, 0x01, 0x00, 0x00, 0x80, 0x01, 0x04, 0x03, 0x05, 0x00, 0x00, 0x00, 0x06, 0x00,
-            0x00, 0x00, 0x00, 0x00, 0x00, 0x00, 0x7e, 0xfe, 0xff, 0xfe, 0xff, 0xff, 0xff, 0xfe,
-            0xff, 0xff, 0xff, 0xff, 0xff, 0xff, 0xff, 0xfe, 0xff, 0xff, 0xff, 0x07, 0x00,
-        ],
+        Trial::Leaves(Left {
+            calls: &[
+                Pointer(Constant(0x0102), DW_EH_PE_absptr, 4),
+                Pointer(Constant(0x80), DW_EH_PE_uleb128, 4),
+                Pointer(Constant(0x0304), DW_EH_PE_udata2, 4),
+                Pointer(Constant(5), DW_EH_PE_udata4, 4),
+                Pointer(Constant(6), DW_EH_PE_udata8, 4),
+                Pointer(Constant(MINUS_TWO), DW_EH_PE_sleb128, 4),
+                Pointer(Constant(MINUS_TWO), DW_EH_PE_sdata2, 4),
+                Pointer(Constant(MINUS_TWO), DW_EH_PE_sdata4, 4),
+                Pointer(Constant(MINUS_TWO), DW_EH_PE_sdata8, 4),
+                Pointer(Constant(33), PCREL_SDATA4, 4),
+                Pointer(Constant(7), INDIRECT_UDATA2, 4),
+            ],
+            bytes: &[
+                0x02, 0x01, 0x00, 0x00, 0x80, 0x01, 0x04, 0x03, 0x05, 0x00, 0x00, 0x00, 0x06, 0x00,
+                0x00, 0x00, 0x00, 0x00, 0x00, 0x00, 0x7e, 0xfe, 0xff, 0xfe, 0xff, 0xff, 0xff, 0xfe,
+                0xff, 0xff, 0xff, 0xff, 0xff, 0xff, 0xff, 0xfe, 0xff, 0xff, 0xff, 0x07, 0x00,
+            ],
+            records: &[],
+        }),
     ),
 ];
 
 /// The table, into which no other proof looks.
-fn held() -> &'static [(RunTimeEndian, &'static [Call], &'static [u8])] {
+fn held() -> &'static [(RunTimeEndian, Trial)] {
     HELD
 }
 
@@ -159,17 +195,20 @@ fn kinds(order: RunTimeEndian) -> [Kind; 3] {
     [Kind::Failing(order, &[]), Kind::Plain(order), fixed]
 }
 
+/// Tells that vectors of each of these kinds pass a trial.
+fn all_pass(alloc: Global, order: RunTimeEndian, trial: &Trial) -> bool {
+    for kind in kinds(order) {
+        if pass_over(alloc, kind, trial) != Ok(true) {
+            return false;
+        }
+    }
+    true
+}
+
 #[test]
 fn holds_what_calls_leave(rt: HostRuntime) {
-    for (i, (order, calls, bytes)) in held().iter().enumerate() {
-        let trial = Trial::Leaves(Left {
-            calls,
-            bytes,
-            records: &[],
-        });
-        for kind in kinds(*order) {
-            assert_eq!(rt; pass_over(rt.alloc(), kind, &trial), Ok(true), "at {i}");
-        }
+    for (i, (order, trial)) in held().iter().enumerate() {
+        assert!(rt; all_pass(rt.alloc(), *order, trial), "at {i}");
     }
 }
 
@@ -220,11 +259,14 @@ const REFUSES: Trial = Trial::Answers(Answered {
     records: &[],
 });
 
-#[test]
-fn refuses_calls_and_adds_nothing(rt: HostRuntime) {
-    for kind in [Kind::Failing(Big, &[]), Kind::Plain(Big)] {
-        assert_eq!(rt; pass_over(rt.alloc(), kind, &REFUSES), Ok(true));
-    }
+const REFUSING: &[(Kind, Trial)] = &[
+    (Kind::Failing(Big, &[]), REFUSES),
+    (Kind::Plain(Big), REFUSES),
+];
+
+/// Calls that are refused add nothing. No other proof looks into the table.
+pub fn refusing() -> &'static [(Kind, Trial)] {
+    REFUSING
 }
 
 const PATCHED: Fork = Fork {
@@ -284,14 +326,7 @@ const COPIED: &[(Kind, Trial)] = &[
     (Kind::Failing(Big, &[0, 3, 5, 6]), Trial::Forks(FAILING)),
 ];
 
-/// The table, into which no other proof looks.
-fn copied() -> &'static [(Kind, Trial)] {
+/// Copies are apart. No other proof looks into the table.
+pub fn copied() -> &'static [(Kind, Trial)] {
     COPIED
-}
-
-#[test]
-fn copies_are_apart(rt: HostRuntime) {
-    for (i, (kind, trial)) in copied().iter().enumerate() {
-        assert_eq!(rt; pass_over(rt.alloc(), *kind, trial), Ok(true), "at {i}");
-    }
 }
