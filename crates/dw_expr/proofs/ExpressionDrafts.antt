@@ -1,8 +1,8 @@
 -- Expressions are drafts: a text has as many bytes as its size says, and references in it have the widths of numbers.
-use Rattle.std.specs.Prelude.{◌≡◌, ℕ, ◌+◌, Bool, true, false, ◌==◌, nat_lt, List, [], ◌∷◌, ◌++◌, length, map, Option, Some, None, ℤ, pos, negsuc, ◌-ℤ◌, ◌+ℤ◌, slice_get, IsTrue, refl, if◌then◌else◌}
+use Rattle.std.specs.Prelude.{◌≡◌, ℕ, ◌+◌, Bool, true, false, ◌==◌, nat_lt, List, [], ◌∷◌, ◌++◌, length, Option, Some, None, ℤ, pos, negsuc, ◌-ℤ◌, ◌+ℤ◌, slice_get, IsTrue, refl, if◌then◌else◌}
 use Rattle.std.proofs.Common.{sym, ◌∙◌, ap, subst, arith}
 use Rattle.std.proofs.lemmas.Option.{none-some, same_Some}
-use Rattle.dw_base.specs.Numbers.{◌>>=◌, when, is_width, word_of}
+use Rattle.dw_base.specs.Numbers.{◌>>=◌, is_width, word_of}
 use Rattle.dw_base.specs.Leb128.{uleb}
 use Rattle.dw_base.specs.Forms.{info_place_of}
 use Rattle.dw_base.specs.declared.address.Address.{Address as TargetAddress}
@@ -19,7 +19,7 @@ use Rattle.dw_writer.specs.Texts.{Text, num_text, int_text}
 use Rattle.dw_writer.specs.Meaning.{Layout}
 use Rattle.dw_writer.specs.SignedNumbers.{signed_fits, signed_num}
 use Rattle.dw_writer.specs.SectionTexts.{address_text, bytes_text}
-use Rattle.dw_writer.specs.Drafts.{Info, Draft, no_draft, whole, then_draft, all_drafts, IsDraft}
+use Rattle.dw_writer.specs.Drafts.{Info, Draft, no_draft, then_draft, IsDraft}
 use Rattle.dw_writer.proofs.DraftLaws.{whole-draft, no-draft, then-draft, bound-wide}
 use Rattle.dw_writer.proofs.Laws.{length-num_text}
 use Rattle.dw_writer.proofs.Steps.{followed_texts-wide}
@@ -28,7 +28,7 @@ use Rattle.dw_expr.specs.Trees as trees
 use Rattle.dw_expr.specs.Trees.{Plain, Node, Tree, plain, entry_value, nothing, before}
 use Rattle.dw_expr.specs.Operands.{Operand, short_or, picked, base_or_generic, operands, entry_value_code}
 use Rattle.dw_expr.specs.Operands as table
-use Rattle.dw_expr.specs.Spelling.{Part, bytes, place_draft, info_draft, distance_text, parts_size, parts_draft, starts_from, expression, nested, operand_draft, operands_draft, node_part, tree_parts, parts_of, expression_draft, expression_size}
+use Rattle.dw_expr.specs.Spelling.{bytes, place_draft, info_draft, distance_text, parts_size, parts_draft, starts_from, expression, nested, operand_draft, operands_draft, node_part, tree_parts, parts_of, expression_draft, expression_size}
 use Rattle.dw_expr.proofs.PartLaws.{part_width}
 use Rattle.dw_expr.proofs.WriteSteps.{length-signed_num}
 

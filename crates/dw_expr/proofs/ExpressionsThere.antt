@@ -1,5 +1,5 @@
 -- The text of an expression that has no fault for a plain writer is there, once its open places are known.
-use Rattle.std.specs.Prelude.{◌≡◌, ℕ, ◌+◌, Bool, true, false, not, ◌&&◌, ◌||◌, ◌==◌, List, [], ◌∷◌, ◌++◌, Option, Some, None, is_none, pos, ◌-ℤ◌, slice_get, IsTrue, IsFalse, refl}
+use Rattle.std.specs.Prelude.{◌≡◌, ℕ, ◌+◌, Bool, true, false, not, ◌&&◌, List, [], ◌∷◌, ◌++◌, Option, Some, None, is_none, pos, ◌-ℤ◌, slice_get, IsTrue, IsFalse, refl}
 use Rattle.std.proofs.Common.{sym, ◌∙◌, ap}
 use Rattle.std.proofs.lemmas.Bool.{or_parts, eq-eqb}
 use Rattle.dw_base.specs.Numbers.{◌>>=◌, when, num, is_width, fits}
@@ -20,7 +20,7 @@ use Rattle.dw_writer.proofs.Plain.{num-shown}
 use Rattle.dw_expr.specs.Trees.{Node, Tree, plain, entry_value, nothing, before}
 use Rattle.dw_expr.specs.Operands.{Operand, operands, entry_value_code}
 use Rattle.dw_expr.specs.Operands as table
-use Rattle.dw_expr.specs.Causes.{width_fails, address_fails, is_far, is_distant, is_unset, target_place, distance_fails, operand_fails, operands_fail, tree_size_fails, node_fails, tree_fails, nodes_fail, size_fails, expression_fails}
+use Rattle.dw_expr.specs.Causes.{width_fails, address_fails, is_far, is_distant, is_unset, target_place, operand_fails, operands_fail, tree_size_fails, node_fails, tree_fails, nodes_fail, size_fails, expression_fails}
 use Rattle.dw_expr.specs.Spelling.{bytes, place_draft, distance_text, parts_size, parts_draft, starts_from, expression, nested, operand_draft, operands_draft, node_part, tree_parts, parts_of, expression_draft}
 
 -- references lead to places that fit

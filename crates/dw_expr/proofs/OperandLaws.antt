@@ -1,5 +1,5 @@
 -- What calls that write an operand, or size it, answer for each kind of operand.
-use Rattle.std.specs.Prelude.{◌≡◌, ℕ, Bool, true, false, not, ◌&&◌, ◌==◌, List, Option, Some, None, Result, Ok, Err, OnOk, IfOk, IfErr, IsTrue, IsFalse, refl}
+use Rattle.std.specs.Prelude.{◌≡◌, ℕ, Bool, true, false, not, ◌&&◌, ◌==◌, List, Option, Some, None, Result, Ok, Err, OnOk, IfErr, IsTrue, IsFalse, refl}
 use Rattle.std.proofs.Common.{sym, ◌∙◌, ap, subst}
 use Rattle.std.proofs.lemmas.Bool.{eq-eqb}
 use Rattle.dw_base.specs.Numbers.{is_width, fits}

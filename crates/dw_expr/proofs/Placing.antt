@@ -1,7 +1,7 @@
 -- A size hangs on the places of the entries that operands name in ULEB128, and on no others: places that extend those give the
 -- same.
-use Rattle.std.specs.Prelude.{◌≡◌, ℕ, zero, suc, ◌+◌, ◌/◌, ◌%◌, ◌<◌, ◌≤◌, nat_lt, ◌||◌, true, false, List, [], ◌∷◌, length, Option, Some, None, is_none, IsFalse, refl, if◌then◌else◌}
-use Rattle.std.proofs.Common.{sym, ◌∙◌, ap, subst, arith, ⊎_elim}
+use Rattle.std.specs.Prelude.{◌≡◌, ℕ, zero, suc, ◌+◌, ◌/◌, ◌≤◌, nat_lt, ◌||◌, true, false, List, [], ◌∷◌, length, Option, Some, None, is_none, IsFalse, refl}
+use Rattle.std.proofs.Common.{sym, ◌∙◌, ap, arith, ⊎_elim}
 use Rattle.std.proofs.lemmas.Bool.{or_parts, or_from, lt-ltb, le-ltb, cases_lt}
 use Rattle.dw_base.specs.Leb128.{uleb, uleb_groups}
 use Rattle.dw_base.specs.declared.common.Encoding.{Encoding}

@@ -1,4 +1,4 @@
-use Rattle.std.specs.Prelude.{◌≡◌, ℕ, Bool, true, List, []}
+use Rattle.std.specs.Prelude.{◌≡◌, List}
 use Rattle.std.specs.List.{each_same}
 use Rattle.std.proofs.Common.{ap, ◌∙◌}
 use Rattle.dw_writer.specs.Contents.{Meaning}

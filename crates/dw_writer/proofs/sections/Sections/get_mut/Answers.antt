@@ -1,4 +1,4 @@
-use Rattle.std.proofs.Common.{◌≡◌, ◌∙◌, Some, sym, ap, inl}
+use Rattle.std.proofs.Common.{◌∙◌, Some, sym, ap, inl}
 use Rattle.dw_writer.specs.Sections.{section_of, with_section}
 use Rattle.dw_writer.proofs.sections.Sections.get_mut.Goals as goal
 
