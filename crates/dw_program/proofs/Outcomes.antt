@@ -9,3 +9,8 @@ IfOk-map (Err e) p f = tt
 pub IfOk-two : {T E : Type 0} {P Q R : T → Type 0} (r : Result T E) → IfOk r P → IfOk r Q → ((x : T) → P x → Q x → R x) → IfOk r R
 IfOk-two (Ok x) p q f = f x p q
 IfOk-two (Err e) p q f = tt
+
+-- and of three
+pub IfOk-three : {T E : Type 0} {P Q R S : T → Type 0} (r : Result T E) → IfOk r P → IfOk r Q → IfOk r R → ((x : T) → P x → Q x → R x → S x) → IfOk r S
+IfOk-three (Ok x) p q s f = f x p q s
+IfOk-three (Err e) p q s f = tt

@@ -27,6 +27,10 @@ too_long_text = codes "too long\n"
 abbrev pub refusal_text : Refusal → List ℕ
 refusal_text r = codes "line " ++ decimal r.line ++ codes ": " ++ reason_text r.reason ++ codes "\n"
 
+-- writing, converting or linking is refused for a cause of this name
+abbrev pub refused_for : List ℕ → List ℕ
+refused_for name = codes "refused: " ++ name ++ codes "\n"
+
 -- writing is refused
 abbrev pub refused_text : Error → List ℕ
 refused_text e = codes "refused: " ++ error_name e ++ codes "\n"

@@ -1,14 +1,16 @@
 //! What the program answers: a status and the text that goes with it.
 
-ghost use Rattle.std.specs.Prelude.{◌≡◌, ◌≢◌, ◌+◌, ◌≤◌, length, map, IfOk, IfErr, IfSome, string_bytes};
+ghost use Rattle.std.specs.Prelude.{◌≡◌, ◌≢◌, ◌+◌, ◌≤◌, ℕ, Ok, true, length, map, IfOk, IfErr, IfSome, string_bytes};
 ghost use Rattle.dw_base.specs.declared.error.Error.TheVariants.{NoMemory};
+ghost use Rattle.dw_ends.specs.Listing.{Lists, read_of};
 ghost use Rattle.dw_ends.specs.Numbers.{number_below};
+ghost use Rattle.dw_ends.specs.Sections.{sections_of};
 ghost use Rattle.dw_dwarf.specs.DwarfValue.{dwarf_in};
-ghost use Rattle.dw_dwarf.specs.Valid.{AreUnwritten};
+ghost use Rattle.dw_dwarf.specs.Valid.{AreUnwritten, IsValid};
 ghost use Rattle.dw_program.specs.Listed.{SaysOfDwarf};
-ghost use Rattle.dw_make.specs.Generated.{most_variables};
+ghost use Rattle.dw_make.specs.Generated.{generated, most_variables};
 ghost use Rattle.dw_program.specs.Answers.{LeavesUnread, Says, SaysOfBytes, SaysOfInput, SaysMade, Reads, ReadsInput, StopsFor, StopsReading, made_of};
-ghost use Rattle.dw_program.specs.Texts.{refusal_text, refused_text};
+ghost use Rattle.dw_program.specs.Texts.{counts_text, refusal_text, refused_for, refused_text};
 
 use crate::command::Reading;
 use crate::convert::convert_listing;
@@ -22,7 +24,7 @@ use dw_dwarf::Dwarf;
 use dw_ends::{EndError, Source, listing_text, read_all};
 use dw_make::{MOST_VARIABLES, generate};
 use dw_script::parse_u64;
-use dw_writer::Section;
+use dw_writer::{EndianVec, Section, Sections, Writer};
 use std::alloc::{AllocError, Global};
 
 /// The commands.
@@ -95,6 +97,15 @@ pub(crate) fn answer_refusal(alloc: Global, refusal: Refusal) -> Result<Answer, 
     answer_with(alloc, Status::ScriptRefused, text.as_bytes())
 }
 
+/// That writing, converting or linking was refused, for a cause of this name.
+pub(crate) fn answer_refused(alloc: Global, name: &str) -> Result<Answer, AllocError>
+    ensures { IfOk result (λ a.
+        (a.status ≡ Status.WriteRefused) × (a.text.items ≡ refused_for name.now)) }
+{
+    let text = format!(in alloc; "refused: {name}\n")?;
+    answer_with(alloc, Status::WriteRefused, text.as_bytes())
+}
+
 /// Why writing was refused. Want of memory is no refusal of what was built.
 pub(crate) fn answer_write_refusal(alloc: Global, error: Error) -> Result<Answer, AllocError>
     ensures says { IfOk result (λ a.
@@ -104,28 +115,38 @@ pub(crate) fn answer_write_refusal(alloc: Global, error: Error) -> Result<Answer
     if error == Error::NoMemory {
         return Err(AllocError);
     }
-    let name = error.name();
-    let text = format!(in alloc; "refused: {name}\n")?;
-    answer_with(alloc, Status::WriteRefused, text.as_bytes())
+    answer_refused(alloc, error.name())
+}
+
+/// The listing of these sections.
+pub(crate) fn answer_listed(
+    alloc: Global,
+    sections: &Sections<EndianVec<RunTimeEndian>>,
+) -> Result<Answer, AllocError>
+    ensures status { IfOk result (λ a. a.status ≡ Status.Listed) }
+    ensures lists { IfOk result (λ a.
+        Lists ⟦<EndianVec<RunTimeEndian> as Writer>⟧.meaning sections.now a.text.items) }
+    ensures read_back { IfOk result (λ a. sections_of a.text.items ≡
+        Ok (read_of ⟦<EndianVec<RunTimeEndian> as Writer>⟧.meaning sections.now)) }
+{
+    let text = listing_text(alloc, sections)?;
+    Ok(Answer {
+        status: Status::Listed,
+        text,
+    })
 }
 
 /// Writes what was built into new sections of a byte order, and lists them.
 pub(crate) fn answer_dwarf(
     alloc: Global,
     endian: RunTimeEndian,
-    mut dwarf: Dwarf,
+    dwarf: &mut Dwarf,
 ) -> Result<Answer, AllocError>
-    requires { AreUnwritten (dwarf_in dwarf) }
-    ensures { IfOk result (λ a. SaysOfDwarf endian (dwarf_in dwarf) a.status a.text.items) }
+    requires { AreUnwritten (dwarf_in dwarf.old) }
+    ensures { IfOk result (λ a. SaysOfDwarf endian (dwarf_in dwarf.old) a.status a.text.items) }
 {
-    match write_new(alloc, endian, &mut dwarf) {
-        Ok(sections) => {
-            let text = listing_text(alloc, &sections)?;
-            Ok(Answer {
-                status: Status::Listed,
-                text,
-            })
-        }
+    match write_new(alloc, endian, dwarf) {
+        Ok(sections) => answer_listed(alloc, &sections),
         Err(error) => answer_write_refusal(alloc, error),
     }
 }
@@ -136,7 +157,7 @@ fn build(alloc: Global, bytes: &[u8]) -> Result<Answer, AllocError>
     ensures { IfOk result (λ a. SaysOfBytes Reading.Build bytes.now a.status a.text.items) }
 {
     match read_script(alloc, bytes) {
-        Ok(script) => answer_dwarf(alloc, script.endian, script.dwarf),
+        Ok(mut script) => answer_dwarf(alloc, script.endian, &mut script.dwarf),
         Err(ScriptError::Refused(found)) => answer_refusal(alloc, found),
         Err(ScriptError::NoMemory) => Err(AllocError),
     }
@@ -154,6 +175,39 @@ fn answer_bytes(alloc: Global, reading: Reading, bytes: &[u8]) -> Result<Answer,
     }
 }
 
+// Tells what was written.
+fn answer_counts(
+    alloc: Global,
+    counts: Counts,
+    info: &[u8],
+    abbrevs: &[u8],
+) -> Result<Answer, Error>
+    ensures ok { IfOk result (λ a. (a.status ≡ Status.Listed)
+        × (a.text.items ≡ counts_text counts.units counts.entries info.now abbrevs.now)) }
+    ensures err { IfErr result (λ e. e ≡ NoMemory) }
+{
+    let text = summarize(alloc, counts, info, abbrevs)?;
+    Ok(answer_with(alloc, Status::Listed, text.as_bytes())?)
+}
+
+// Writes what was generated for a number, and tells what was written.
+fn answer_made(alloc: Global, dwarf: &mut Dwarf) -> Result<Answer, Error>
+    requires unwritten { AreUnwritten (dwarf_in dwarf.old) }
+    requires valid { IsValid true (dwarf_in dwarf.old) }
+    ensures ok { IfOk result (λ a. (n : ℕ) → dwarf_in dwarf.old ≡ generated n
+        → (a.status ≡ Status.Listed) × SaysMade n a.text.items) }
+    ensures err { IfErr result (λ e. e ≡ NoMemory) }
+{
+    let counts = Counts::of(&dwarf.units);
+    match write_new(alloc, RunTimeEndian::Little, dwarf) {
+        Ok(sections) => {
+            let info = sections.debug_info.section().slice();
+            answer_counts(alloc, counts, info, sections.debug_abbrev.section().slice())
+        }
+        Err(error) => Err(error),
+    }
+}
+
 // Generates so many variables, writes them, and tells what was written. What is generated is
 // valid, so that only memory can lack.
 fn answer_make(alloc: Global, count: u64) -> Result<Answer, Error>
@@ -161,13 +215,10 @@ fn answer_make(alloc: Global, count: u64) -> Result<Answer, Error>
     ensures ok { IfOk result (λ a. (a.status ≡ Status.Listed) × SaysMade count a.text.items) }
     ensures err { IfErr result (λ e. e ≡ NoMemory) }
 {
-    let mut dwarf = generate(alloc, count)?;
-    let counts = Counts::of(&dwarf.units);
-    let sections = write_new(alloc, RunTimeEndian::Little, &mut dwarf)?;
-    let info = sections.debug_info.section().slice();
-    let abbrev = sections.debug_abbrev.section().slice();
-    let text = summarize(alloc, counts, info, abbrev)?;
-    Ok(answer_with(alloc, Status::Listed, text.as_bytes())?)
+    match generate(alloc, count) {
+        Ok(mut dwarf) => answer_made(alloc, &mut dwarf),
+        Err(error) => Err(error),
+    }
 }
 
 // What a command answers to its input.

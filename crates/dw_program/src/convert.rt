@@ -8,7 +8,7 @@ ghost use Rattle.dw_program.specs.Converted.{SaysOfListing};
 ghost use Rattle.dw_program.specs.Texts.{convert_refused_text};
 ghost use Rattle.dw_program.specs.declared.command.Reading.TheVariants.{Convert};
 
-use crate::answer::{Answer, answer_dwarf, answer_refusal, answer_with};
+use crate::answer::{Answer, answer_dwarf, answer_refusal, answer_refused};
 use crate::status::Status;
 use dw_base::Address;
 use dw_build::{Refusal, SCRIPT_LIMIT};
@@ -39,7 +39,7 @@ fn convert_sections(alloc: Global, listing: &Listing) -> Result<Answer, AllocErr
 {
     let read = read_sections(listing);
     match Dwarf::from(alloc, &read, &constant) {
-        Ok(dwarf) => answer_dwarf(alloc, listing.endian, dwarf),
+        Ok(mut dwarf) => answer_dwarf(alloc, listing.endian, &mut dwarf),
         Err(error) => answer_convert_refusal(alloc, error),
     }
 }
@@ -60,7 +60,5 @@ fn answer_convert_refusal(alloc: Global, error: ConvertError) -> Result<Answer, 
     if error == ConvertError::NoMemory {
         return Err(AllocError);
     }
-    let name = error.name();
-    let text = format!(in alloc; "refused: {name}\n")?;
-    answer_with(alloc, Status::WriteRefused, text.as_bytes())
+    answer_refused(alloc, error.name())
 }

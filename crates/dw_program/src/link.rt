@@ -13,12 +13,11 @@ ghost use Rattle.dw_program.specs.SetParts.{AreSets};
 ghost use Rattle.dw_program.specs.Texts.{link_refused_text};
 ghost use Rattle.dw_program.specs.declared.command.Reading.TheVariants.{Link as LinkCommand};
 
-use crate::answer::{Answer, answer_refusal, answer_with, answer_write_refusal};
+use crate::answer::{Answer, answer_listed, answer_refusal, answer_refused, answer_write_refusal};
 use crate::status::Status;
 use crate::write::write_sets;
 use dw_base::RunTimeEndian;
 use dw_build::{SCRIPT_LIMIT, ScriptError, Sets, read_sets};
-use dw_ends::listing_text;
 use dw_link::{LinkError, link};
 use dw_writer::{RelocVec, Sections, Writer};
 use std::alloc::{AllocError, Global};
@@ -67,13 +66,7 @@ fn join_sets(
         → SaysOfSets s a.status a.text.items) }
 {
     match link(alloc, endian, sets, symbols) {
-        Ok(joined) => {
-            let text = listing_text(alloc, &joined)?;
-            Ok(Answer {
-                status: Status::Listed,
-                text,
-            })
-        }
+        Ok(joined) => answer_listed(alloc, &joined),
         Err(error) => answer_link_refusal(alloc, error),
     }
 }
@@ -87,7 +80,5 @@ fn answer_link_refusal(alloc: Global, error: LinkError) -> Result<Answer, AllocE
     if error == LinkError::NoMemory {
         return Err(AllocError);
     }
-    let name = error.name();
-    let text = format!(in alloc; "refused: {name}\n")?;
-    answer_with(alloc, Status::WriteRefused, text.as_bytes())
+    answer_refused(alloc, error.name())
 }
