@@ -147,15 +147,14 @@ impl Script {
         ensures err { IfErr result
             (RefusedFor (after_command (script_in self.old) (Command.Unit encoding))) }
     {
+        self.has_begun = true;
         let unit = Unit::new(alloc, encoding, LineProgram::none()).map_err(
             |_| CommandError::NoMemory,
         )?;
-        self.dwarf
-            .units
-            .add(unit)
-            .map_err(|_| CommandError::NoMemory)?;
-        self.has_begun = true;
-        Ok(())
+        match self.dwarf.units.add(unit) {
+            Ok(_) => Ok(()),
+            Err(_) => Err(CommandError::NoMemory),
+        }
     }
 
     fn add_string(&mut self, alloc: Global, bytes: &HexBytes<'_>) -> Result<(), CommandError>
@@ -165,13 +164,12 @@ impl Script {
         ensures err { IfErr result
             (RefusedFor (after_command (script_in self.old) (Command.String bytes.now))) }
     {
-        let text = text_of(alloc, bytes)?;
-        self.dwarf
-            .strings
-            .add(text.as_slice())
-            .map_err(|_| CommandError::NoMemory)?;
         self.has_begun = true;
-        Ok(())
+        let text = text_of(alloc, bytes)?;
+        match self.dwarf.strings.add(text.as_slice()) {
+            Ok(_) => Ok(()),
+            Err(_) => Err(CommandError::NoMemory),
+        }
     }
 
     fn add_line_string(&mut self, alloc: Global, bytes: &HexBytes<'_>) -> Result<(), CommandError>
@@ -181,13 +179,12 @@ impl Script {
         ensures err { IfErr result
             (RefusedFor (after_command (script_in self.old) (Command.LineString bytes.now))) }
     {
-        let text = text_of(alloc, bytes)?;
-        self.dwarf
-            .line_strings
-            .add(text.as_slice())
-            .map_err(|_| CommandError::NoMemory)?;
         self.has_begun = true;
-        Ok(())
+        let text = text_of(alloc, bytes)?;
+        match self.dwarf.line_strings.add(text.as_slice()) {
+            Ok(_) => Ok(()),
+            Err(_) => Err(CommandError::NoMemory),
+        }
     }
 
     fn change_unit(
@@ -203,11 +200,10 @@ impl Script {
         ensures err { IfErr result
             (RefusedFor (after_command (script_in self.old) (Command.Change unit change.entry))) }
     {
+        self.has_begun = true;
         let index = index_below(unit, self.dwarf.units.count(), Reason::NoSuchUnit)?;
         let unit = self.dwarf.units.get_mut(UnitId::new(index));
-        apply_change(alloc, unit, change)?;
-        self.has_begun = true;
-        Ok(())
+        apply_change(alloc, unit, change)
     }
 
     fn change_line_program(
@@ -223,11 +219,10 @@ impl Script {
         ensures err { IfErr result
             (RefusedFor (after_command (script_in self.old) (Command.Line unit change.entry))) }
     {
+        self.has_begun = true;
         let index = index_below(unit, self.dwarf.units.count(), Reason::NoSuchUnit)?;
         let unit = self.dwarf.units.get_mut(UnitId::new(index));
-        apply_line_change(alloc, unit, change)?;
-        self.has_begun = true;
-        Ok(())
+        apply_line_change(alloc, unit, change)
     }
 
     fn add_range_list(
@@ -242,11 +237,10 @@ impl Script {
         ensures err { IfErr result
             (RefusedFor (after_command (script_in self.old) (Command.RangeList unit ranges.now))) }
     {
+        self.has_begun = true;
         let index = index_below(unit, self.dwarf.units.count(), Reason::NoSuchUnit)?;
         let unit = self.dwarf.units.get_mut(UnitId::new(index));
-        add_range_list(alloc, unit, ranges)?;
-        self.has_begun = true;
-        Ok(())
+        add_range_list(alloc, unit, ranges)
     }
 
     fn add_location_list(
@@ -261,11 +255,10 @@ impl Script {
         ensures err { IfErr result (RefusedFor
             (after_command (script_in self.old) (Command.LocationList unit locations.now))) }
     {
+        self.has_begun = true;
         let index = index_below(unit, self.dwarf.units.count(), Reason::NoSuchUnit)?;
         let unit = self.dwarf.units.get_mut(UnitId::new(index));
-        add_location_list(alloc, unit, locations)?;
-        self.has_begun = true;
-        Ok(())
+        add_location_list(alloc, unit, locations)
     }
 }
 
