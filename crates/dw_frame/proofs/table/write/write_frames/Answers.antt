@@ -23,6 +23,11 @@ loop-fde-init g c =
       told = λ t. subst (λ p. AreTold c.args.kind c.args.cies.now p c.args.fdes.now m.size) none t;
     }
 
+pub returns-in_err-places-clause-part : goal.returns-in_err-places-clause-part
+returns-in_err-places-clause-part g c =
+    let p = err_from_is_err_and c.from_residual.result c.from_residual.ensures.1 in
+    rw (p.1, p.2, c.in_err-places.ensures.err) tt
+
 pub returns-in_err-write_frame-clause-part : goal.returns-in_err-write_frame-clause-part
 returns-in_err-write_frame-clause-part g c =
     let e = c.in_err-write_frame.field-0.0 in
