@@ -12,7 +12,7 @@ use std::alloc::Global;
 pub(crate) const CALLS: usize = 36;
 
 /// How the operation of each call is read.
-pub(crate) const READ: [Seen; CALLS] = [
+const READ: [Seen; CALLS] = [
     // Memory.
     (DW_OP_deref, 0, 0, 0),
     (DW_OP_xderef, 0, 0, 0),
@@ -57,8 +57,13 @@ pub(crate) const READ: [Seen; CALLS] = [
     (DW_OP_WASM_location, 2, 1000, 0),
 ];
 
+/// They, of which no other proof sees more.
+pub(crate) fn read() -> &'static [Seen] {
+    &READ
+}
+
 /// Operations without operands, which are added by their codes and read as these.
-pub(crate) const SIMPLE: [DwOp; 29] = [
+const SIMPLE: [DwOp; 29] = [
     DW_OP_drop,
     DW_OP_swap,
     DW_OP_rot,
@@ -89,6 +94,11 @@ pub(crate) const SIMPLE: [DwOp; 29] = [
     DW_OP_stack_value,
     DW_OP_GNU_uninit,
 ];
+
+/// They, of which no other proof sees more.
+pub(crate) fn simple() -> &'static [DwOp] {
+    &SIMPLE
+}
 
 fn add_memory(x: &mut Expression, number: usize) -> Result<()> {
     match number {

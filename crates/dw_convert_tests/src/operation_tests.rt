@@ -1,7 +1,7 @@
 //! Operations that are built by calls, written, read and converted back, in every version, format,
 //! size of addresses and order of bytes (DWARF 5, 2.5 and 7.7.1).
 
-use crate::calls::{CALLS, READ, SIMPLE, add};
+use crate::calls::{self, CALLS, add};
 use crate::entries::{Evens, fill, moved};
 use crate::layouts::{LAYOUTS, Layout, Slice, numbered, reader};
 use dw_base::constants::*;
@@ -109,8 +109,8 @@ fn add_all(alloc: Global, x: &mut Expression) -> Result<()> {
 }
 
 fn add_simple(x: &mut Expression) -> Result<()> {
-    for code in SIMPLE {
-        x.op(code)?;
+    for code in calls::simple() {
+        x.op(*code)?;
     }
     Ok(())
 }
@@ -149,14 +149,16 @@ fn write(
     w: &mut EndianVec<RunTimeEndian>,
 ) -> Result<()> {
     let mut fixups = FixupList::new(alloc);
-    built.write(w, Some(&mut fixups), layout.encoding, Some(&Evens))?;
-    fill(&fixups, w)
+    match built.write(w, Some(&mut fixups), layout.encoding, Some(&Evens)) {
+        Ok(()) => fill(&fixups, w),
+        Err(error) => Err(error),
+    }
 }
 
 /// Whether what the calls added is read next.
 fn reads_calls(read: &mut OperationIter<Slice<'_>>) -> bool {
-    for wanted in READ {
-        if next(read) != Ok(Some(wanted)) {
+    for wanted in calls::read() {
+        if next(read) != Ok(Some(*wanted)) {
             return false;
         }
     }
@@ -165,8 +167,8 @@ fn reads_calls(read: &mut OperationIter<Slice<'_>>) -> bool {
 
 /// Whether the operations without operands are read next.
 fn reads_simple(read: &mut OperationIter<Slice<'_>>) -> bool {
-    for code in SIMPLE {
-        if next(read) != Ok(Some((code, 0, 0, 0))) {
+    for code in calls::simple() {
+        if next(read) != Ok(Some((*code, 0, 0, 0))) {
             return false;
         }
     }
@@ -228,7 +230,7 @@ fn returns(alloc: Global, layout: Layout) -> [bool; 3] {
 fn every_operation_comes_back(rt: HostRuntime) {
     for number in 0..LAYOUTS {
         let answer = returns(rt.alloc(), numbered(number));
-        assert_eq!(rt; (number, answer), (number, [true; 3]));
+        assert!(rt; answer == [true; 3], "at {number}");
     }
 }
 
@@ -265,11 +267,9 @@ fn is_spelled(alloc: Global, layout: Layout) -> bool {
 fn raw_operations_are_read(rt: HostRuntime) {
     for number in 0..LAYOUTS {
         let layout = numbered(number);
-        let answer = [
-            is_raw(rt.alloc(), layout),
-            is_constant(layout),
-            is_spelled(rt.alloc(), layout),
-        ];
-        assert_eq!(rt; (number, answer), (number, [true; 3]));
+        let is_so = is_raw(rt.alloc(), layout)
+            && is_constant(layout)
+            && is_spelled(rt.alloc(), layout);
+        assert!(rt; is_so, "at {number}");
     }
 }

@@ -101,7 +101,7 @@ fn refuses_programs(rt: HostRuntime) {
     for (number, row) in refused().iter().enumerate() {
         let (endian, bytes, target, wanted) = *row;
         let answer = refusal(rt.alloc(), endian, bytes, target);
-        assert_eq!(rt; (number, answer), (number, wanted));
+        assert!(rt; answer == wanted, "at {number}");
     }
 }
 
@@ -218,7 +218,7 @@ fn rows() -> &'static [Row] {
 #[test]
 fn answers_each_cut(rt: HostRuntime) {
     for (number, row) in rows().iter().enumerate() {
-        assert_eq!(rt; (number, first_missed(rt.alloc(), row)), (number, None));
+        assert_eq!(rt; first_missed(rt.alloc(), row), None, "of program {number}");
     }
 }
 
@@ -257,6 +257,6 @@ fn told(row: &Row) -> u16 {
 #[test]
 fn refuses_turned_bytes_for_the_told_causes(rt: HostRuntime) {
     for (number, row) in rows().iter().enumerate() {
-        assert_eq!(rt; (number, causes(rt.alloc(), row)), (number, told(row)));
+        assert_eq!(rt; causes(rt.alloc(), row), told(row), "of program {number}");
     }
 }

@@ -198,6 +198,6 @@ fn first_missed(alloc: Global, number: usize) -> Option<usize> {
 fn values_come_back(rt: HostRuntime) {
     for number in 0..VALUES {
         let missed = first_missed(rt.alloc(), number);
-        assert_eq!(rt; (number, missed), (number, None));
+        assert_eq!(rt; missed, None, "of value {number}");
     }
 }

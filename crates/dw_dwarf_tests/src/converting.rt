@@ -1,7 +1,7 @@
 //! Files whose units are converted behind another unit, and written.
 
 use crate::plans::{ONE_ROOT, Told, add_units};
-use crate::writing::Written;
+use crate::writing::{Written, refusal};
 use dw_base::{Address, UnitEntryId};
 use dw_dwarf::{
     ConvertResult, ConvertUnit, ConvertUnitEntry, ConvertUnitSection, Dwarf, LittleEndian, Result,
@@ -91,7 +91,7 @@ const ONE_BEHIND: File = File {
     ..ONE_PROGRAM
 };
 
-pub(crate) const ROWS: &[(&str, Conversion)] = &[
+const ROWS: &[(&str, Conversion)] = &[
     ("two units at once", (Way::AtOnce, &TWO_UNITS, &TWO_BEHIND)),
     (
         "two units, one at a time",
@@ -114,6 +114,11 @@ pub(crate) const ROWS: &[(&str, Conversion)] = &[
         (Way::EntryByEntry, &ONE_PROGRAM, &ONE_BEHIND),
     ),
 ];
+
+/// The table, into which no other proof looks.
+pub(crate) fn rows() -> &'static [(&'static str, Conversion)] {
+    ROWS
+}
 
 /// What is wrong with a unit or its converter that isn't as it has to be.
 const WRONG: ConvertError = ConvertError::UnsupportedOperation;
@@ -306,7 +311,7 @@ fn holds(sections: &Written, file: &File) -> bool {
 }
 
 /// Converts a file behind another unit, and writes both.
-fn write_behind(
+pub(crate) fn write_converted(
     alloc: Global,
     job: Conversion,
     dwarf: &mut Dwarf,
@@ -315,16 +320,6 @@ fn write_behind(
     let (way, read, written) = job;
     add_units(alloc, &mut dwarf.units, ONE_ROOT)?;
     let is_converted = convert(alloc, way, read, dwarf).is_ok();
-    let refusal = dwarf.write(sections).err();
-    Ok((refusal, is_converted && holds(sections, written)))
-}
-
-/// Converts a file, and writes it.
-pub(crate) fn write_converted(
-    alloc: Global,
-    job: Conversion,
-    sections: &mut Written,
-) -> Result<Told> {
-    let mut dwarf = Dwarf::new(alloc);
-    write_behind(alloc, job, &mut dwarf, sections)
+    let refused = refusal(dwarf, sections);
+    Ok((refused, is_converted && holds(sections, written)))
 }

@@ -2,7 +2,7 @@
 
 use crate::building::{Call, How, Value};
 use crate::plans::{Plan, ROOT, Told, add_units, place_of};
-use crate::writing::Written;
+use crate::writing::{Written, refusal};
 use dw_base::constants::DW_AT_type;
 use dw_dwarf::{
     DebugInfoRef, Dwarf, Error, LineProgram, Result, Unit, UnitEntryId, UnitId, UnitTable,
@@ -95,16 +95,10 @@ fn name_freed(alloc: Global, dwarf: &mut Dwarf, sections: &mut Written) -> Resul
 }
 
 /// Goes on with one `Dwarf` from step to step. At last it has no line program, as one of no unit.
-fn go_on(alloc: Global, dwarf: &mut Dwarf, sections: &mut Written) -> Result<Told> {
+pub(crate) fn fill_in(alloc: Global, dwarf: &mut Dwarf, sections: &mut Written) -> Result<Told> {
     add_units(alloc, &mut dwarf.units, NAMES_FIRST_ROOT)?;
     let is_filled = fill_first(dwarf, sections)?;
     let is_named = name_freed(alloc, dwarf, sections)?;
     dwarf.line_programs.push(LineProgram::none())?;
-    Ok((dwarf.write(sections).err(), is_filled && is_named))
-}
-
-/// Goes through all steps.
-pub(crate) fn fill_in(alloc: Global, sections: &mut Written) -> Result<Told> {
-    let mut dwarf = Dwarf::new(alloc);
-    go_on(alloc, &mut dwarf, sections)
+    Ok((refusal(dwarf, sections), is_filled && is_named))
 }

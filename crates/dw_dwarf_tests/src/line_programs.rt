@@ -1,7 +1,7 @@
 //! Line programs that were read, converted over the strings of a `Dwarf`, and written by it.
 
 use crate::plans::{Told, VERSION_4};
-use crate::writing::Written;
+use crate::writing::{Written, refusal};
 use dw_base::DebugLineOffset;
 use dw_dwarf::{
     Address, ConvertLineProgram, ConvertResult, Dwarf, Encoding, LineString, LittleEndian, Result,
@@ -9,7 +9,6 @@ use dw_dwarf::{
 use dw_read::EndianSlice;
 use dw_read_lines::IncompleteLineProgram;
 use dw_read_units::Dwarf as ReadDwarf;
-use std::alloc::Global;
 
 type Slice = EndianSlice<'static, LittleEndian>;
 
@@ -27,7 +26,7 @@ const READ: &[u8] = &[
 /// What the program is converted to, the line program that is written, and the strings behind it.
 pub(crate) type Program = (Option<Encoding>, &'static [u8], &'static [u8]);
 
-pub(crate) const ROWS: &[(&str, Program)] = &[
+const ROWS: &[(&str, Program)] = &[
     // The `Dwarf` has the string `b` already, so that the directory stands at 2 and the file at 7;
     // the caller moves the address on by 0x200000.
     (
@@ -58,6 +57,11 @@ pub(crate) const ROWS: &[(&str, Program)] = &[
         ),
     ),
 ];
+
+/// The table, into which no other proof looks.
+pub(crate) fn rows() -> &'static [(&'static str, Program)] {
+    ROWS
+}
 
 /// A reader of these bytes.
 fn reader(bytes: &'static [u8]) -> Slice {
@@ -111,18 +115,16 @@ fn finds_added(dwarf: &mut Dwarf) -> Result<bool> {
 }
 
 /// Adds a string and the converted program, and writes them.
-fn write_both(job: Program, dwarf: &mut Dwarf, sections: &mut Written) -> Result<Told> {
+pub(crate) fn write_program(
+    job: Program,
+    dwarf: &mut Dwarf,
+    sections: &mut Written,
+) -> Result<Told> {
     let (target, line, line_strings) = job;
     let is_found = finds_added(dwarf)?;
     let is_converted = convert_into(dwarf, target).is_ok();
-    let refusal = dwarf.write(sections).err();
+    let refused = refusal(dwarf, sections);
     let is_written = sections.debug_line.0.slice() == line
         && sections.debug_line_str.0.slice() == line_strings;
-    Ok((refusal, is_found && is_converted && is_written))
-}
-
-/// Converts the program, and writes it.
-pub(crate) fn write_program(alloc: Global, job: Program, sections: &mut Written) -> Result<Told> {
-    let mut dwarf = Dwarf::new(alloc);
-    write_both(job, &mut dwarf, sections)
+    Ok((refused, is_found && is_converted && is_written))
 }

@@ -145,18 +145,12 @@ pub(crate) fn write_plans<W: Writer>(
     write_twice(alloc, &mut dwarf, plans, sections)
 }
 
-/// Adds a root to a `Dwarf`, and writes it.
-fn write_added<W: Writer>(
+/// Adds a root to a `Dwarf`, and writes it once.
+pub(crate) fn write_root<W: Writer>(
     alloc: Global,
     dwarf: &mut Dwarf,
     sections: &mut Sections<W>,
 ) -> Result<Told> {
     add_units(alloc, &mut dwarf.units, ONE_ROOT)?;
     Ok(write(dwarf, ONE_ROOT, sections))
-}
-
-/// Writes a new `Dwarf` of a root alone once.
-pub(crate) fn write_root<W: Writer>(alloc: Global, sections: &mut Sections<W>) -> Result<Told> {
-    let mut dwarf = Dwarf::new(alloc);
-    write_added(alloc, &mut dwarf, sections)
 }

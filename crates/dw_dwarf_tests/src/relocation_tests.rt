@@ -216,6 +216,11 @@ const ROWS: &[Row] = &[
     },
 ];
 
+/// The table, into which no other proof looks.
+fn rows() -> &'static [Row] {
+    ROWS
+}
+
 /// Tells whether the sections hold the bytes and the relocations that they are to.
 fn holds(row: &Row, sections: &Sections<RelocVec<LittleEndian>>) -> bool {
     let is_written = (
@@ -249,12 +254,8 @@ fn write_new(alloc: Global, row: &Row) -> Result<Told> {
 
 #[test]
 fn records_what_a_linker_puts_in(rt: HostRuntime) {
-    for row in ROWS {
-        assert_eq!(rt;
-            write_new(rt.alloc(), row),
-            Ok((row.refusal, true)),
-            "{}",
-            row.name
-        );
+    for row in rows() {
+        let told = write_new(rt.alloc(), row);
+        assert!(rt; told == Ok((row.refusal, true)), "{}", row.name);
     }
 }

@@ -3,7 +3,7 @@
 
 use crate::building::{Call, How, Value};
 use crate::plans::{Told, add_unit};
-use crate::writing::Written;
+use crate::writing::{Written, refusal};
 use crate::{finding, reading};
 use dw_base::constants::{DW_AT_name, DW_AT_producer, DW_TAG_compile_unit, DW_TAG_subprogram};
 use dw_base::{DwAt, DwTag};
@@ -114,13 +114,7 @@ fn write_built(
 ) -> Result<Told> {
     build(alloc, file, dwarf)?;
     let is_found = finding::are_found(file, dwarf);
-    Ok((dwarf.write(sections).err(), is_found))
-}
-
-/// The same of a new `Dwarf`.
-fn write_new(alloc: Global, file: usize, sections: &mut Written) -> Result<Told> {
-    let mut dwarf = Dwarf::new(alloc);
-    write_built(alloc, file, &mut dwarf, sections)
+    Ok((refusal(dwarf, sections), is_found))
 }
 
 /// What the sections of a file become.
@@ -144,11 +138,16 @@ fn are_read(alloc: Global, file: usize, sections: &Written) -> bool {
 }
 
 /// Builds the units of a file, writes, reads and converts them.
-pub(crate) fn write_file(alloc: Global, file: usize, sections: &mut Written) -> Result<Told> {
-    let (refusal, is_built) = write_new(alloc, file, sections)?;
+pub(crate) fn write_file(
+    alloc: Global,
+    file: usize,
+    dwarf: &mut Dwarf,
+    sections: &mut Written,
+) -> Result<Told> {
+    let (refused, is_built) = write_built(alloc, file, dwarf, sections)?;
     let is_read = are_read(alloc, file, sections);
     Ok((
-        refusal,
+        refused,
         is_built && is_read && come_back(alloc, file, sections),
     ))
 }

@@ -79,7 +79,7 @@ const FIRST_ROOT: DebugInfoRef = DebugInfoRef::Entry(UnitId(0), UnitEntryId(0));
 const NO_ENTRY: DebugInfoRef = DebugInfoRef::Entry(UnitId(1), UnitEntryId(1));
 
 /// Each with its name, and why the second `Dwarf` is refused.
-pub(crate) const ROWS: &[(&str, Units, Option<Error>)] = &[
+const ROWS: &[(&str, Units, Option<Error>)] = &[
     // No type of the unit, and the address size last (DWARF 4, 7.5.1.1). The second unit tells that
     // its table stands behind the first.
     (
@@ -227,6 +227,11 @@ pub(crate) const ROWS: &[(&str, Units, Option<Error>)] = &[
         Some(Error::InvalidReference),
     ),
 ];
+
+/// The table, into which no other proof looks.
+pub(crate) fn rows() -> &'static [(&'static str, Units, Option<Error>)] {
+    ROWS
+}
 
 /// Leaves room for an offset in each of the two sections of location lists, and a reference to be
 /// fixed up there.

@@ -1,4 +1,4 @@
-//! New sections, and what is written into them.
+//! New sections and a new `Dwarf`, and what jobs write of the one into the others.
 
 ghost use Rattle.dw_writer.specs.Sections.{NoFixups};
 
@@ -9,7 +9,7 @@ use crate::line_programs::{Program, write_program};
 use crate::plans::{Told, write_root};
 use crate::table_files::write_file;
 use crate::units::{Units, write_units};
-use dw_dwarf::{Result, RunTimeEndian, Sections};
+use dw_dwarf::{Dwarf, Error, Result, RunTimeEndian, Sections};
 use dw_writer::FaultVec;
 use std::alloc::Global;
 
@@ -31,18 +31,23 @@ pub(crate) enum Job {
     Filling,
 }
 
-/// Writes into sections without fixups.
-fn write_into(alloc: Global, job: Job, sections: &mut Written) -> Result<Told>
+/// Writes a `Dwarf`, and tells why it is refused.
+pub(crate) fn refusal(dwarf: &mut Dwarf, sections: &mut Written) -> Option<Error> {
+    dwarf.write(sections).err()
+}
+
+/// Writes a `Dwarf` that a job fills into sections without fixups.
+fn write_into(alloc: Global, job: Job, dwarf: &mut Dwarf, sections: &mut Written) -> Result<Told>
     requires { NoFixups sections.old }
 {
     match job {
-        Job::Root => write_root(alloc, sections),
+        Job::Root => write_root(alloc, dwarf, sections),
         Job::Units(units) => write_units(alloc, units, sections),
         Job::Alone(alone) => write_alone(alloc, alone, sections),
-        Job::Program(program) => write_program(alloc, program, sections),
-        Job::Conversion(conversion) => write_converted(alloc, conversion, sections),
-        Job::File(file) => write_file(alloc, file, sections),
-        Job::Filling => fill_in(alloc, sections),
+        Job::Program(program) => write_program(program, dwarf, sections),
+        Job::Conversion(conversion) => write_converted(alloc, conversion, dwarf, sections),
+        Job::File(file) => write_file(alloc, file, dwarf, sections),
+        Job::Filling => fill_in(alloc, dwarf, sections),
     }
 }
 
@@ -54,5 +59,5 @@ pub(crate) fn write(
     job: Job,
 ) -> Result<Told> {
     let mut sections = Sections::new(alloc, FaultVec::new(alloc, endian, failing))?;
-    write_into(alloc, job, &mut sections)
+    write_into(alloc, job, &mut Dwarf::new(alloc), &mut sections)
 }

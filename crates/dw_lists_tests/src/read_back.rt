@@ -52,7 +52,7 @@ fn first<'a>(alloc: Global, dwarf: &Dwarf<Little<'a>>) -> ReadResult<Unit<Little
 /// A unit, the items of its range list, and how many its location list has.
 type Row = (&'static [u8], [RawRngListEntry; 2], usize);
 
-const ROWS: [Row; 2] = [
+const ROWS: &[Row] = &[
     (
         FIVE,
         [
@@ -74,6 +74,11 @@ const ROWS: [Row; 2] = [
     ),
 ];
 
+/// The table, which no proof but this function's looks into.
+fn rows() -> &'static [Row] {
+    ROWS
+}
+
 /// Whether a unit has these ranges.
 fn has_ranges(
     alloc: Global,
@@ -90,7 +95,7 @@ fn locations_at(alloc: Global, unit: UnitRef<'_, Little<'_>>, offset: usize) -> 
 }
 
 /// Whether a row's lists are read, and what is answered past all sections.
-fn read_row(alloc: Global, row: Row) -> ReadResult<(ReadResult<bool>, [ReadResult<usize>; 2])> {
+fn read_row(alloc: Global, row: &Row) -> ReadResult<(ReadResult<bool>, [ReadResult<usize>; 2])> {
     let dwarf = sections(row.0);
     let unit = first(alloc, &dwarf)?;
     let both = UnitRef {
@@ -103,8 +108,9 @@ fn read_row(alloc: Global, row: Row) -> ReadResult<(ReadResult<bool>, [ReadResul
 
 #[test]
 fn reads_whole_lists(rt: HostRuntime) {
-    for row in ROWS {
+    for (i, row) in rows().iter().enumerate() {
         let locations = [Ok(row.2), Err(ReadError::UnexpectedEof)];
-        assert_eq!(rt; read_row(rt.alloc(), row), Ok((Ok(true), locations)));
+        let read = read_row(rt.alloc(), row);
+        assert!(rt; read == Ok((Ok(true), locations)), "at {i}");
     }
 }

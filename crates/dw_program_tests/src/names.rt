@@ -4,7 +4,6 @@
 use crate::circle::{converted, listing_of};
 use std::alloc::{AllocError, Global};
 use std::fmt::Write;
-use std::test::Fail;
 
 /// What values of a form may be under some names.
 #[derive(Clone, Copy, PartialEq, Eq)]
@@ -20,7 +19,7 @@ enum Kind {
 type Row = (Kind, &'static str, &'static str, &'static str, &'static str);
 
 /// The root is at 12, and the string at 0.
-const ROWS: [Row; 25] = [
+const ROWS: &[Row] = &[
     (Kind::Other, "01", "44332211", "01", "44332211"),
     (Kind::Bytes, "0a", "019c", "09", "019c"),
     (Kind::Bytes, "03", "01009c", "09", "019c"),
@@ -66,6 +65,10 @@ const ROWS: [Row; 25] = [
     ),
 ];
 
+fn rows() -> &'static [Row] {
+    ROWS
+}
+
 /// Names of the siblings and of what is told of other files, and views of locations.
 const DROPPED: [u16; 11] = [
     0x01, 0x72, 0x73, 0x74, 0x76, 0x8c, 0x2130, 0x2131, 0x2132, 0x2133, 0x2137,
@@ -90,8 +93,8 @@ fn has(names: &[u16], name: u16) -> bool {
 }
 
 /// The form and the operand that an attribute becomes, if it isn't left out.
-fn becomes(name: u16, row: Row) -> Option<(&'static str, &'static str)> {
-    let (kind, _, _, form, operand) = row;
+fn becomes(name: u16, row: &Row) -> Option<(&'static str, &'static str)> {
+    let (kind, _, _, form, operand) = *row;
     if has(&DROPPED, name) {
         None
     } else if kind == Kind::Number && has(&MEANINGS, name) {
@@ -106,13 +109,11 @@ fn becomes(name: u16, row: Row) -> Option<(&'static str, &'static str)> {
 /// Appends an attribute to a declaration.
 fn push(abbrev: &mut String, name: u16, form: &str) -> Result<(), AllocError> {
     if name < 0x80 {
-        write!(abbrev, "{name:02x}{form}")?;
-    } else {
-        let low = name % 0x80 + 0x80;
-        let high = name / 0x80;
-        write!(abbrev, "{low:02x}{high:02x}{form}")?;
+        return write!(abbrev, "{name:02x}{form}");
     }
-    Ok(())
+    let low = name % 0x80 + 0x80;
+    let high = name / 0x80;
+    write!(abbrev, "{low:02x}{high:02x}{form}")
 }
 
 /// The listing of a unit of version 5, whose root has these attributes.
@@ -131,67 +132,82 @@ fn listed(
     listing_of(alloc, "little", sections)
 }
 
-/// All names up to that of the last attribute, and those of GNU.
-fn names(alloc: Global) -> Result<Vec<u16>, AllocError> {
-    let mut names = Vec::new(alloc);
-    for name in 0x01..0x8d {
+/// Appends an attribute of a row to a declaration and its operand to a unit, as it is read, or as
+/// what it becomes.
+fn push_attribute(
+    (abbrev, info): (&mut String, &mut String),
+    name: u16,
+    row: &Row,
+    is_read: bool,
+) -> Result<(), AllocError> {
+    let told = if is_read {
+        Some((row.1, row.2))
+    } else {
+        becomes(name, row)
+    };
+    match told {
+        Some((form, operand)) => push_both((abbrev, info), name, form, operand),
+        None => Ok(()),
+    }
+}
+
+/// Appends an attribute to a declaration, and its operand to a unit.
+fn push_both(
+    (abbrev, info): (&mut String, &mut String),
+    name: u16,
+    form: &str,
+    operand: &str,
+) -> Result<(), AllocError> {
+    push(abbrev, name, form)?;
+    info.push_str(operand)
+}
+
+/// Appends the attributes of a row under names from one up to another.
+fn push_names(
+    (abbrev, info): (&mut String, &mut String),
+    (first, end): (u16, u16),
+    row: &Row,
+    is_read: bool,
+) -> Result<(), AllocError> {
+    for name in first..end {
         if !has(&LINES, name) {
-            names.push(name)?;
+            push_attribute((abbrev, info), name, row, is_read)?;
         }
     }
-    for name in 0x2101..0x2140 {
-        names.push(name)?;
-    }
-    Ok(names)
+    Ok(())
+}
+
+/// Appends the attributes of a row under all names up to that of the last attribute, and those of
+/// GNU.
+fn push_row(
+    (abbrev, info): (&mut String, &mut String),
+    row: &Row,
+    is_read: bool,
+) -> Result<(), AllocError> {
+    push_names((abbrev, info), (0x01, 0x8d), row, is_read)?;
+    push_names((abbrev, info), (0x2101, 0x2140), row, is_read)
 }
 
 /// The listing that is read of a row, or the one that it becomes.
-fn listing_of_row(alloc: Global, row: Row, is_read: bool) -> Result<String, AllocError> {
+fn listing_of_row(alloc: Global, row: &Row, is_read: bool) -> Result<String, AllocError> {
     let mut abbrev = String::new(alloc);
     let mut info = String::new(alloc);
-    push_row(
-        (&mut abbrev, &mut info),
-        names(alloc)?.as_slice(),
-        row,
-        is_read,
-    )?;
+    push_row((&mut abbrev, &mut info), row, is_read)?;
     let strings = if row.1 == "0e" { "6100" } else { "" };
     listed(alloc, abbrev.as_str(), info.as_str(), strings)
 }
 
-/// Appends the attributes of a row, as they are read, or as what they become.
-fn push_row(
-    (abbrev, info): (&mut String, &mut String),
-    names: &[u16],
-    row: Row,
-    is_read: bool,
-) -> Result<(), AllocError> {
-    for name in names {
-        let told = if is_read {
-            Some((row.1, row.2))
-        } else {
-            becomes(*name, row)
-        };
-        if let Some((form, operand)) = told {
-            push(abbrev, *name, form)?;
-            info.push_str(operand)?;
-        }
-    }
-    Ok(())
+/// Whether the listing that is read of a row is converted to the one that it becomes.
+fn is_converted(alloc: Global, row: &Row) -> Result<bool, AllocError> {
+    let read = listing_of_row(alloc, row, true)?;
+    let want = listing_of_row(alloc, row, false)?;
+    let text = converted(alloc, read.as_str())?;
+    Ok(text.as_str().strip_prefix("0 ") == Some(want.as_str()))
 }
 
 #[test]
-fn converts_forms_under_all_names(rt: HostRuntime) -> Result<(), Fail> {
-    for row in ROWS {
-        let read = listing_of_row(rt.alloc(), row, true)?;
-        let want = listing_of_row(rt.alloc(), row, false)?;
-        let text = converted(rt.alloc(), read.as_str())?;
-        assert_eq!(rt;
-            text.as_str().strip_prefix("0 "),
-            Some(want.as_str()),
-            "form {}",
-            row.1
-        );
+fn converts_forms_under_all_names(rt: HostRuntime) {
+    for row in rows() {
+        assert_eq!(rt; is_converted(rt.alloc(), row), Ok(true), "form {}", row.1);
     }
-    Ok(())
 }

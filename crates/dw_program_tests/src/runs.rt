@@ -1,7 +1,7 @@
 //! Runs whose source or sink fails, and those of `make N`, which read nothing.
 
 use dw_program::run::run;
-use dw_program::{FailingSink, FailingSource, SliceSource, StdoutSink, VecSink};
+use dw_program::{FailingSink, FailingSource, Sink, SliceSource, Source, StdoutSink, VecSink};
 use std::alloc::{AllocError, Global};
 use std::fmt::Write;
 use std::test::Fail;
@@ -125,6 +125,22 @@ pub fn words_of(alloc: Global, text: &str) -> Result<Vec<String>, AllocError> {
     Ok(words)
 }
 
+/// The status that a run ends with.
+fn status_of<S: Source, K: Sink>(
+    alloc: Global,
+    words: &Vec<String>,
+    source: &mut S,
+    sink: &mut K,
+) -> u8 {
+    run(alloc, words, source, sink)
+}
+
+/// A status and the text that was printed.
+fn told(alloc: Global, status: u8, text: &[u8]) -> Result<String, AllocError> {
+    let text = String::from_utf8_lossy(alloc, text)?;
+    format!(in alloc; "{status} {text}")
+}
+
 /// The status and the text of a run over an input, of which this read fails.
 pub fn shown(
     alloc: Global,
@@ -132,20 +148,21 @@ pub fn shown(
     input: &[u8],
     call: u64,
 ) -> Result<String, AllocError> {
-    let mut failing = Vec::new(alloc);
-    failing.push(call)?;
-    let mut source = FailingSource::new(input, failing);
+    let mut source = FailingSource::new(input, vec![in alloc; call]?);
     let mut sink = VecSink::new(alloc);
-    let status = run(alloc, words, &mut source, &mut sink);
-    let text = String::from_utf8_lossy(alloc, sink.slice())?;
-    format!(in alloc; "{status} {text}")
+    let status = status_of(alloc, words, &mut source, &mut sink);
+    told(alloc, status, sink.slice())
+}
+
+/// The status and the text of a run over a script of one unit.
+fn shown_of_unit(alloc: Global, words: &str, call: u64) -> Result<String, AllocError> {
+    shown(alloc, &words_of(alloc, words)?, b"unit 5 8 32", call)
 }
 
 #[test]
 fn reads_what_words_ask_for(rt: HostRuntime) -> Result<(), Fail> {
     for (words, call, want) in rows() {
-        let words_read = words_of(rt.alloc(), words)?;
-        let text = shown(rt.alloc(), &words_read, b"unit 5 8 32", *call)?;
+        let text = shown_of_unit(rt.alloc(), words, *call)?;
         assert_eq!(rt; text.as_str(), *want, "at {words}");
     }
     Ok(())
@@ -158,40 +175,65 @@ fn tells_the_usage_of_no_words(rt: HostRuntime) -> Result<(), Fail> {
     Ok(())
 }
 
+/// The status of a run whose sink fails at its first call, and how many bytes the sink has then.
+fn failed(alloc: Global, words: &str) -> Result<(u8, usize), AllocError> {
+    let words = words_of(alloc, words)?;
+    let mut sink = FailingSink::new(alloc, vec![in alloc; 0]?);
+    let status = status_of(
+        alloc,
+        &words,
+        &mut SliceSource::new(b"unit 5 8 32"),
+        &mut sink,
+    );
+    Ok((status, sink.slice().len()))
+}
+
 #[test]
-fn tells_a_failed_sink(rt: HostRuntime) -> Result<(), Fail> {
-    for text in ["build", "make,0"] {
-        let words = words_of(rt.alloc(), text)?;
-        let mut sink = FailingSink::new(rt.alloc(), vec![in rt.alloc(); 0]?);
-        let mut source = SliceSource::new(b"unit 5 8 32");
-        assert_eq!(rt; run(rt.alloc(), &words, &mut source, &mut sink), 5);
-        assert!(rt; sink.slice().is_empty());
+fn tells_a_failed_sink(rt: HostRuntime) {
+    for words in ["build", "make,0"] {
+        assert_eq!(rt; failed(rt.alloc(), words), Ok((5, 0)), "at {words}");
     }
-    Ok(())
+}
+
+/// The status of a run whose writer has this room.
+fn filled(alloc: Global, room: &mut [u8]) -> Result<u8, AllocError> {
+    let words = words_of(alloc, "build")?;
+    let mut sink = StdoutSink::new(room);
+    Ok(status_of(
+        alloc,
+        &words,
+        &mut SliceSource::new(b"unit 5 8 32"),
+        &mut sink,
+    ))
 }
 
 /// A writer that has room for a front of the text, and then takes nothing.
 #[test]
-fn tells_a_sink_that_is_full(rt: HostRuntime) -> Result<(), Fail> {
-    let words = words_of(rt.alloc(), "build")?;
+fn tells_a_sink_that_is_full(rt: HostRuntime) {
     let mut room = [0; 20];
-    let mut sink = StdoutSink::new(room.as_mut_slice());
-    let mut source = SliceSource::new(b"unit 5 8 32");
-    assert_eq!(rt; run(rt.alloc(), &words, &mut source, &mut sink), 5);
+    assert_eq!(rt; filled(rt.alloc(), room.as_mut_slice()), Ok(5));
     assert_eq!(rt; room.as_slice(), b"order little\n.debug_".as_slice());
-    Ok(())
+}
+
+/// The status and the text of `build` over so many empty lines.
+fn shown_of_lines(alloc: Global, count: usize) -> Result<String, AllocError> {
+    let lines = vec![in alloc; b'\n'; count]?;
+    shown(
+        alloc,
+        &words_of(alloc, "build")?,
+        lines.as_slice(),
+        u64::MAX,
+    )
 }
 
 /// Empty lines, as many as are read, and one more.
 #[test]
 fn reads_no_more_than_the_limit(rt: HostRuntime) -> Result<(), Fail> {
-    let words = words_of(rt.alloc(), "build")?;
     for (size, want) in [
         (16_777_216, "0 order little\n"),
         (16_777_217, "7 too long\n"),
     ] {
-        let lines = vec![in rt.alloc(); b'\n'; size]?;
-        let text = shown(rt.alloc(), &words, lines.as_slice(), u64::MAX)?;
+        let text = shown_of_lines(rt.alloc(), size)?;
         assert!(rt; text.as_str().starts_with(want), "of {size}");
     }
     Ok(())
