@@ -1,0 +1,5 @@
+mod AttributeLaws
+mod LookupLaws
+mod ListLaws
+mod LocationLaws
+mod Worked

@@ -1,0 +1,47 @@
+//! Addresses and ranges of them (DWARF 5, 2.17).
+
+ghost use Rattle.std.specs.Prelude.{◌≡◌};
+ghost use Rattle.dw_entry_ranges.specs.Bounds.{range_of};
+
+/// The addresses from a begin to before an end. Both are whole numbers: a sum of two numbers of 64
+/// bits doesn't wrap, so it can lie past every address. No address belongs to a range whose end
+/// isn't above its begin.
+///
+/// ```
+/// let range = AddressRange { begin: 0x1000, end: 0x1010 };
+/// ```
+#[derive(Clone, Copy, PartialEq, Eq)]
+pub struct AddressRange {
+    pub begin: u128,
+    pub end: u128,
+}
+
+/// What `DW_AT_low_pc` and `DW_AT_high_pc` say of an entry (2.17.1 and 2.17.2).
+///
+/// ```
+/// if let Some(CodeAddresses::Contiguous(range)) = low_high(unit, &entry.attrs)? {
+///     let length = range.end.saturating_sub(range.begin);
+/// }
+/// ```
+#[derive(Clone, Copy, PartialEq, Eq)]
+pub enum CodeAddresses {
+    /// A low address alone.
+    Single(u64),
+    /// The addresses from a low one to before a high one.
+    Contiguous(AddressRange),
+}
+
+impl CodeAddresses {
+    /// The addresses as a range, which for a single one ends behind it.
+    pub fn range(self) -> AddressRange
+        ensures { result ≡ range_of self }
+    {
+        match self {
+            CodeAddresses::Single(address) => AddressRange {
+                begin: address as u128,
+                end: address as u128 + 1,
+            },
+            CodeAddresses::Contiguous(range) => range,
+        }
+    }
+}
