@@ -29,14 +29,14 @@ unfolding operation_at operation_read number_read number_at bytes_at
 no_bytes big e [] h = refl
 no_bytes big e (b ∷ bytes) h = absurd (let k : length (b ∷ bytes) ≡ 0 = h in cc)
 
-module _ (address : ℕ → Result ℕ ReadError) (big : Bool) (e : Encoding) (bytes : List ℕ) where
-  pushes : (o : Operation) (rest : List ℕ) → operation_at big e bytes ≡ Some (o, rest) → first_address address big e bytes ≡ pushed address o
+module _ (address : ℕ → Result ℕ ReadError) (big : Bool) (e : Encoding) (bytes : List ℕ) (r : Result (Option ℕ) ReadError) where
+  pushes : (o : Operation) (rest : List ℕ) → operation_at big e bytes ≡ Some (o, rest) → r ≡ pushed address o → r ≡ first_address address big e bytes
   unfolding first_address
-  pushes o rest h = rw h refl
+  pushes o rest h k = rw h k
 
-  pushes_none : operation_at big e bytes ≡ None → first_address address big e bytes ≡ Ok None
+  pushes_none : operation_at big e bytes ≡ None → r ≡ Ok None → r ≡ first_address address big e bytes
   unfolding first_address
-  pushes_none h = rw h refl
+  pushes_none h k = rw h k
 
 module _ (R E : Type 0) (reading : R → Reading) (address : ℕ → Result ℕ ReadError) (e : Encoding) (x : Expression R E) where
   -- what the first step over the operations of the expression says of its address
@@ -44,23 +44,23 @@ module _ (R E : Type 0) (reading : R → Reading) (address : ℕ → Result ℕ 
     begun : old ≡ begins x e
     begun = from ∙ ap (begins x) same
 
-    pub first_pushed : (o : HeldOperation R E) → PassesOperation reading old new o → first_address address (reading x.0).is_big e (left (reading x.0)) ≡ pushed address (operation_of reading o)
-    first_pushed o h = pushes address (reading x.0).is_big e (left (reading x.0)) (operation_of reading o) (left (reading new.input))
-        (subst (λ (i : OperationIter R E). operation_at (reading i.input).is_big i.encoding (left (reading i.input)) ≡ Some (operation_of reading o, left (reading new.input))) begun h.operation.value)
+    pub first_pushed : (o : HeldOperation R E) (r : Result (Option ℕ) ReadError) → PassesOperation reading old new o → r ≡ pushed address (operation_of reading o) → r ≡ first_address address (reading x.0).is_big e (left (reading x.0))
+    first_pushed o r h k = pushes address (reading x.0).is_big e (left (reading x.0)) r (operation_of reading o) (left (reading new.input))
+        (subst (λ (i : OperationIter R E). operation_at (reading i.input).is_big i.encoding (left (reading i.input)) ≡ Some (operation_of reading o, left (reading new.input))) begun h.operation.value) k
 
-    pub first_over : IsOver reading old new → first_address address (reading x.0).is_big e (left (reading x.0)) ≡ Ok None
-    first_over h = pushes_none address (reading x.0).is_big e (left (reading x.0)) (no_bytes (reading x.0).is_big e (left (reading x.0)) (⊎_elim
+    pub first_over : IsOver reading old new → Ok None ≡ first_address address (reading x.0).is_big e (left (reading x.0))
+    first_over h = pushes_none address (reading x.0).is_big e (left (reading x.0)) (Ok None) (no_bytes (reading x.0).is_big e (left (reading x.0)) (⊎_elim
         (λ (f : old.has_failed ≡ true). absurd (let w : old.has_failed ≡ false = ap (λ (i : OperationIter R E). i.has_failed) begun in cc))
-        (λ (z : length (left (reading old.input)) ≡ 0). subst (λ (i : OperationIter R E). length (left (reading i.input)) ≡ 0) begun z) h))
+        (λ (z : length (left (reading old.input)) ≡ 0). subst (λ (i : OperationIter R E). length (left (reading i.input)) ≡ 0) begun z) h)) refl
 
-    pub first_refused : (why : ReadError) → RefusesOperation reading old new why → first_address address (reading x.0).is_big e (left (reading x.0)) ≡ Ok None
-    first_refused why h = pushes_none address (reading x.0).is_big e (left (reading x.0))
-        (subst (λ (i : OperationIter R E). operation_at (reading i.input).is_big i.encoding (left (reading i.input)) ≡ None) begun h.refused.none)
+    pub first_refused : (why : ReadError) → RefusesOperation reading old new why → Ok None ≡ first_address address (reading x.0).is_big e (left (reading x.0))
+    first_refused why h = pushes_none address (reading x.0).is_big e (left (reading x.0)) (Ok None)
+        (subst (λ (i : OperationIter R E). operation_at (reading i.input).is_big i.encoding (left (reading i.input)) ≡ None) begun h.refused.none) refl
 
-  pub located : (big : Bool) (xs : List (ℕ × Value)) (o : Option (AttributeValue R E)) → o ≡ Some (Exprloc x) → option_of (value_of reading) o ≡ last_value DW_AT_location.0 DW_AT_location.0 xs → IsInOrder big (order_of reading o)
-      → first_address address (reading x.0).is_big e (left (reading x.0)) ≡ location_address address big e xs
+  pub located : (big : Bool) (xs : List (ℕ × Value)) (o : Option (AttributeValue R E)) (r : Result (Option ℕ) ReadError) → o ≡ Some (Exprloc x) → option_of (value_of reading) o ≡ last_value DW_AT_location.0 DW_AT_location.0 xs → IsInOrder big (order_of reading o)
+      → r ≡ first_address address (reading x.0).is_big e (left (reading x.0)) → r ≡ location_address address big e xs
   unfolding location_address
-  located big xs o q v i =
+  located big xs o r q v i h =
       let same : (reading x.0).is_big ≡ big = subst (λ (p : Option (AttributeValue R E)). IsInOrder big (order_of reading p)) q i in
       let value : last_value DW_AT_location.0 DW_AT_location.0 xs ≡ Some (value_of reading (Exprloc x)) = sym v ∙ ap (option_of (value_of reading)) q in
-      ap (λ (b : Bool). first_address address b e (left (reading x.0))) same ∙ sym (ap (λ y. if_any y (address_in_location address big e)) value)
+      h ∙ ap (λ (b : Bool). first_address address b e (left (reading x.0))) same ∙ sym (ap (λ y. if_any y (address_in_location address big e)) value)

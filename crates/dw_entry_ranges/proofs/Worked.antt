@@ -11,9 +11,10 @@ use Rattle.dw_read.specs.declared.value.AttributeValue.TheVariants.{Addr, DebugA
 use Rattle.dw_read_units.specs.Roots.{last_value}
 use Rattle.dw_sources.specs.OperationTable.{plain_of, is_simple, literals, behind, operation_read, operation_at}
 use Rattle.dw_sources.specs.RawLists.{pair_read, range_row, range_behind, range_read}
-use Rattle.dw_entry_ranges.specs.Bounds.{from_to, low_high}
+use Rattle.dw_entry_ranges.specs.Bounds.{low_high}
 use Rattle.dw_entry_ranges.specs.Lists.{ranges_from}
 use Rattle.dw_entry_ranges.specs.Locations.{first_address, location_address}
+use Rattle.dw_entry_ranges.specs.Ranges.{from_to}
 use Rattle.dw_entry_ranges.specs.declared.range.CodeAddresses.TheVariants.{Single, Contiguous}
 
 abbrev four : Encoding

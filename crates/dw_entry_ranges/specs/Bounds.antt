@@ -1,27 +1,19 @@
 -- Low and high addresses (DWARF 5, 2.17.1 and 2.17.2).
-use Rattle.std.specs.Prelude.{ℕ, ◌+◌, List, Option, Some, None, Result, Ok}
+use Rattle.std.specs.Prelude.{ℕ, List, Option, Some, None, Result, Ok}
 use Rattle.dw_base.specs.declared.constants.TheConstants.{DW_AT_low_pc, DW_AT_high_pc}
 use Rattle.dw_read.specs.Reasons.{◌=>>◌}
 use Rattle.dw_read.specs.Values.{Value, constant_in}
 use Rattle.dw_read.specs.declared.error.ReadError.{ReadError}
 use Rattle.dw_read_units.specs.Roots.{last_value}
 use Rattle.dw_entry_ranges.specs.Addresses.{if_any, address_of}
-use Rattle.dw_entry_ranges.specs.declared.range.AddressRange.{AddressRange}
+use Rattle.dw_entry_ranges.specs.Ranges.{from_to, with_length}
 use Rattle.dw_entry_ranges.specs.declared.range.CodeAddresses.{CodeAddresses}
 use Rattle.dw_entry_ranges.specs.declared.range.CodeAddresses.TheVariants.{Single, Contiguous}
-
-abbrev pub from_to : ℕ → ℕ → AddressRange
-from_to m n = record { begin = m; end = n }
-
--- a single address is a range of one
-abbrev pub range_of : CodeAddresses → AddressRange
-range_of (Single a) = from_to a (a + 1)
-range_of (Contiguous r) = r
 
 -- an address with a constant that counts from it, or alone
 abbrev pub counted : ℕ → Option ℕ → CodeAddresses
 counted a None = Single a
-counted a (Some n) = Contiguous (from_to a (a + n))
+counted a (Some n) = Contiguous (with_length a n)
 
 -- with the address of the high value, or else with the constant that the high value is
 abbrev pub up_to : ℕ → Option ℕ → Option ℕ → CodeAddresses

@@ -7,9 +7,10 @@ use Rattle.dw_read.specs.declared.error.ReadError.{ReadError}
 use Rattle.dw_read_units.specs.declared.unit_ref.UnitRef.{UnitRef}
 use Rattle.dw_sources.specs.RawListIters.{encoding_in}
 use Rattle.dw_entry_ranges.specs.Addresses.{indexed_address}
-use Rattle.dw_entry_ranges.specs.Bounds.{range_of, low_high}
+use Rattle.dw_entry_ranges.specs.Bounds.{low_high}
 use Rattle.dw_entry_ranges.specs.Lists.{list_ranges}
 use Rattle.dw_entry_ranges.specs.Locations.{location_address}
+use Rattle.dw_entry_ranges.specs.Ranges.{range_of}
 use Rattle.dw_entry_ranges.specs.declared.range.AddressRange.{AddressRange}
 use Rattle.dw_entry_ranges.specs.declared.range.CodeAddresses.{CodeAddresses}
 use Rattle.dw_entry_ranges.specs.declared.range.CodeAddresses.TheVariants.{Single}

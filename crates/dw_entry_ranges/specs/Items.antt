@@ -3,7 +3,7 @@ use Rattle.std.specs.Prelude.{ℕ, ◌+◌, List, [], ◌∷◌, Result, Ok}
 use Rattle.dw_read.specs.Reasons.{◌=>>◌}
 use Rattle.dw_read.specs.declared.error.ReadError.{ReadError}
 use Rattle.dw_sources.specs.RawLists.{Span, BaseAddress, BaseAddressx, AddressOrOffsetPair, StartxEndx, StartxLength, OffsetPair, StartEnd, StartLength, DefaultLocation}
-use Rattle.dw_entry_ranges.specs.Bounds.{from_to}
+use Rattle.dw_entry_ranges.specs.Ranges.{from_to, with_length}
 use Rattle.dw_entry_ranges.specs.declared.item.Item.{Item}
 use Rattle.dw_entry_ranges.specs.declared.item.Item.TheVariants.{Base, Range}
 use Rattle.dw_entry_ranges.specs.declared.range.AddressRange.{AddressRange}
@@ -19,10 +19,10 @@ item_read address base (BaseAddress a) = Ok (Base a)
 item_read address base (BaseAddressx i) = address i =>> λ a. Ok (Base a)
 item_read address base (AddressOrOffsetPair m n) = Ok (offset_range base m n)
 item_read address base (OffsetPair m n) = Ok (offset_range base m n)
-item_read address base (StartxEndx i j) = address i =>> λ a. address j =>> λ b. Ok (offset_range 0 a b)
-item_read address base (StartxLength i n) = address i =>> λ a. Ok (offset_range a 0 n)
-item_read address base (StartEnd a b) = Ok (offset_range 0 a b)
-item_read address base (StartLength a n) = Ok (offset_range a 0 n)
+item_read address base (StartxEndx i j) = address i =>> λ a. address j =>> λ b. Ok (Range (from_to a b))
+item_read address base (StartxLength i n) = address i =>> λ a. Ok (Range (with_length a n))
+item_read address base (StartEnd a b) = Ok (Range (from_to a b))
+item_read address base (StartLength a n) = Ok (Range (with_length a n))
 item_read address base DefaultLocation = Ok (Base base)
 
 -- what offsets count from behind an item

@@ -1,3 +1,4 @@
+pub mod Ranges
 pub mod Attributes
 pub mod Addresses
 pub mod Bounds

@@ -72,10 +72,7 @@ fn with_high<R: Reader>(
         (value_of R.reading high.now) }
 {
     match address_of(unit, high)? {
-        Some(end) => Ok(CodeAddresses::Contiguous(AddressRange {
-            begin: begin as u128,
-            end: end as u128,
-        })),
+        Some(end) => Ok(CodeAddresses::Contiguous(AddressRange::new(begin, end))),
         None => Ok(counted(begin, constant_of(high))),
     }
 }
@@ -85,10 +82,7 @@ fn counted(begin: u64, length: Option<u64>) -> CodeAddresses
     ensures { result ≡ counted begin length }
 {
     match length {
-        Some(length) => CodeAddresses::Contiguous(AddressRange {
-            begin: begin as u128,
-            end: begin as u128 + length as u128,
-        }),
+        Some(length) => CodeAddresses::Contiguous(AddressRange::with_length(begin, length)),
         None => CodeAddresses::Single(begin),
     }
 }

@@ -11,11 +11,12 @@ use dw_read::{ReadResult, Reader};
 use dw_read_units::UnitRef;
 use dw_sources::RawRngListEntry;
 
-/// What an item says.
+/// What an item of a range list says.
 #[derive(Clone, Copy)]
 pub(crate) enum Item {
     /// The address from which offsets behind it count.
     Base(u64),
+    /// Addresses of the entry.
     Range(AddressRange),
 }
 
@@ -35,14 +36,16 @@ pub(crate) fn read_item<R: Reader>(
         RawRngListEntry::StartxEndx { begin, end } => {
             let begin = indexed_address(unit, begin)?;
             let end = indexed_address(unit, end)?;
-            Ok(offset_range(0, begin, end))
+            Ok(Item::Range(AddressRange::new(begin, end)))
         }
         RawRngListEntry::StartxLength { begin, length } => {
             let begin = indexed_address(unit, begin)?;
-            Ok(offset_range(begin, 0, length))
+            Ok(Item::Range(AddressRange::with_length(begin, length)))
         }
-        RawRngListEntry::StartEnd { begin, end } => Ok(offset_range(0, begin, end)),
-        RawRngListEntry::StartLength { begin, length } => Ok(offset_range(begin, 0, length)),
+        RawRngListEntry::StartEnd { begin, end } => Ok(Item::Range(AddressRange::new(begin, end))),
+        RawRngListEntry::StartLength { begin, length } => Ok(Item::Range(AddressRange::with_length(
+            begin, length,
+        ))),
     }
 }
 

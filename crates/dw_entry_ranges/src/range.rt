@@ -1,19 +1,42 @@
 //! Addresses and ranges of them (DWARF 5, 2.17).
 
 ghost use Rattle.std.specs.Prelude.{◌≡◌};
-ghost use Rattle.dw_entry_ranges.specs.Bounds.{range_of};
+ghost use Rattle.dw_entry_ranges.specs.Ranges.{from_to, with_length, range_of};
 
 /// The addresses from a begin to before an end. Both are whole numbers: a sum of two numbers of 64
 /// bits doesn't wrap, so it can lie past every address. No address belongs to a range whose end
 /// isn't above its begin.
 ///
 /// ```
-/// let range = AddressRange { begin: 0x1000, end: 0x1010 };
+/// let range = AddressRange::with_length(0x1000, 16);
+/// let last = range.end - 1; // 0x100f
 /// ```
 #[derive(Clone, Copy, PartialEq, Eq)]
 pub struct AddressRange {
     pub begin: u128,
     pub end: u128,
+}
+
+impl AddressRange {
+    /// From an address to before another.
+    pub fn new(begin: u64, end: u64) -> AddressRange
+        ensures { result ≡ from_to begin end }
+    {
+        AddressRange {
+            begin: begin as u128,
+            end: end as u128,
+        }
+    }
+
+    /// So many addresses from one on.
+    pub fn with_length(begin: u64, length: u64) -> AddressRange
+        ensures { result ≡ with_length begin length }
+    {
+        AddressRange {
+            begin: begin as u128,
+            end: begin as u128 + length as u128,
+        }
+    }
 }
 
 /// What `DW_AT_low_pc` and `DW_AT_high_pc` say of an entry (2.17.1 and 2.17.2).
@@ -37,10 +60,7 @@ impl CodeAddresses {
         ensures { result ≡ range_of self }
     {
         match self {
-            CodeAddresses::Single(address) => AddressRange {
-                begin: address as u128,
-                end: address as u128 + 1,
-            },
+            CodeAddresses::Single(address) => AddressRange::with_length(address, 1),
             CodeAddresses::Contiguous(range) => range,
         }
     }

@@ -7,5 +7,5 @@ use Rattle.dw_entry_ranges.proofs.location.location_address.Goals as goal
 
 pub returns-in-Some-Exprloc : goal.returns-in-Some-Exprloc
 returns-in-Some-Exprloc g c = λ big h.
-    let reading = g.R.Reader.reading in
-    c.first_address.ensures ∙ located _ _ reading (indexed_address reading c.args.unit) (encoding_in c.args.unit) c.in-Some-Exprloc.expression big (values_in reading c.args.attrs.now) c.last_value.result (c.in-Some-Exprloc.is ∙ ap Some c.in-Some-Exprloc.field-0-is) c.last_value.ensures.is (c.last_value.ensures.order big h)
+    located _ _ g.R.Reader.reading (indexed_address g.R.Reader.reading c.args.unit) (encoding_in c.args.unit) c.in-Some-Exprloc.expression big (values_in g.R.Reader.reading c.args.attrs.now) c.last_value.result c.first_address.result
+    (c.in-Some-Exprloc.is ∙ ap Some c.in-Some-Exprloc.field-0-is) c.last_value.ensures.is (c.last_value.ensures.order big h) c.first_address.ensures
