@@ -1,5 +1,5 @@
 -- Addresses and lists that indices lead to, from what the calls of a unit answer.
-use Rattle.std.proofs.Common.{◌≡◌, ◌∙◌, sym, ap, subst, ℕ, ◌+◌, ◌<◌, ◌^◌, List, Result, Ok, Err, IfOk, IfErr, ⊎_elim, nat_lt}
+use Rattle.std.proofs.Common.{◌≡◌, ◌∙◌, sym, ap, subst, ℕ, ◌+◌, ◌<◌, ◌^◌, List, Result, Ok, Err, IfOk, IfErr, ◌⊎◌, inr, ⊎_elim, nat_lt}
 use Rattle.std.proofs.lemmas.Bool.{lt-ltb, le-ltb}
 use Rattle.std.specs.Prelude.{IsErr}
 use Rattle.std.specs.Result.{IsErrAnd}
@@ -8,7 +8,7 @@ use Rattle.dw_base.specs.Numbers.{number_at}
 use Rattle.dw_read.specs.Reading.{Reading}
 use Rattle.dw_read.specs.Reasons.{◌=>>◌, if_so, number_read, address_at, address_read}
 use Rattle.dw_read.specs.declared.error.ReadError.{ReadError}
-use Rattle.dw_read.specs.declared.error.ReadError.TheVariants.{OffsetOutOfBounds}
+use Rattle.dw_read.specs.declared.error.ReadError.TheVariants.{OffsetOutOfBounds, NoMemory}
 use Rattle.dw_read.proofs.Laws.{read_is, number_law, address_law}
 use Rattle.dw_read_units.specs.Lookups.{bytes_from, indexed, StandsAt, IsMissing, FindsList, MissesList, LeadsPast}
 use Rattle.dw_read_units.specs.Units.{word_in, address_in}
@@ -20,6 +20,11 @@ use Rattle.dw_entry_ranges.specs.Lists.{indexed_list}
 pub is_err : {A : Type 0} (r : Result A ReadError) (e : ReadError) → IsErr r × IsErrAnd r (λ x. x ≡ e) → r ≡ Err e
 is_err (Ok x) e h = absurd h.1
 is_err (Err x) e h = ap Err h.1
+
+-- so the refusal of a part is that of the whole
+pub if_refused : {A B : Type 0} (whole : Result B ReadError) (r : Result A ReadError) (e : ReadError) → IsErr r × IsErrAnd r (λ x. x ≡ e) → whole ≡ Err e → IfErr r (λ y. (y ≡ NoMemory) ⊎ (whole ≡ Err y))
+if_refused whole (Ok x) e h k = tt
+if_refused whole (Err x) e h k = inr (k ∙ ap Err (sym h.1))
 
 module _ (R E : Type 0) (reading : R → Reading) (u : UnitRef R E) (i : ℕ) where
   pub found_address : (x : ℕ) → StandsAt ℕ (address_at (reading u.dwarf.now.debug_addr).is_big (address_in u)) (indexed u.unit.now.addr_base i (address_in u)) (reading u.dwarf.now.debug_addr) x → indexed_address reading u i ≡ Ok x

@@ -23,9 +23,13 @@ abbrev pub single : Option ℕ → Option CodeAddresses
 single None = None
 single (Some a) = Some (Single a)
 
+-- the ranges of a list, and behind them those of single addresses and of low and high ones
+abbrev pub gathered : Option (List AddressRange) → Option CodeAddresses → Option ℕ → List AddressRange
+gathered listed code location = unwrap_or listed [] ++ ranges_of code ++ ranges_of (single location)
+
 module _ {R E : Type 0} (reading : R → Reading) (u : UnitRef R E) (big : Bool) where
   -- those of its range list, of its low and high address, and of the address with which its location begins
   unfoldable pub entry_ranges : List (ℕ × Value) → Result (List AddressRange) ReadError
   entry_ranges xs =
       low_high (indexed_address reading u) xs =>> λ code. location_address (indexed_address reading u) big (encoding_in u) xs =>> λ location.
-      list_ranges reading u xs =>> λ listed. Ok (unwrap_or listed [] ++ ranges_of code ++ ranges_of (single location))
+      list_ranges reading u xs =>> λ listed. Ok (gathered listed code location)

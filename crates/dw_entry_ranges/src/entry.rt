@@ -1,9 +1,10 @@
 //! All ranges of an entry.
 
 ghost use Rattle.std.specs.Prelude.{◌≡◌, ◌⊎◌, ◌++◌, Bool, IfOk, IfErr, OnOk, Ok, Err};
+ghost use Rattle.dw_read.specs.Took.{option_of};
 ghost use Rattle.dw_read.specs.declared.error.ReadError.TheVariants.{NoMemory};
 ghost use Rattle.dw_entry_ranges.specs.Attributes.{values_in, AreInOrder};
-ghost use Rattle.dw_entry_ranges.specs.Entries.{entry_ranges, ranges_of};
+ghost use Rattle.dw_entry_ranges.specs.Entries.{entry_ranges, gathered, ranges_of};
 
 use crate::bounds::low_high;
 use crate::list::list_ranges;
@@ -16,8 +17,8 @@ use std::alloc::Global;
 /// The ranges of addresses of an entry: those of its range list, then that of its low and high
 /// address, then the address with which its location begins. An address alone is a range of one.
 ///
-/// Refused is what `list_ranges`, `low_high` and `location_address` are refused for, and want of
-/// memory (`NoMemory`).
+/// Refused is what `low_high`, `location_address` and `list_ranges` are refused for, in this order,
+/// and want of memory (`NoMemory`).
 ///
 /// ```
 /// for range in &entry_ranges(alloc, unit, &entry.attrs)? {
@@ -42,6 +43,21 @@ pub fn entry_ranges<R: Reader>(
     let code = low_high(unit, attrs)?;
     let location = location_address(unit, attrs)?;
     let listed = list_ranges(alloc, unit, attrs)?;
+    let ranges = gathered(alloc, listed, code, location)?;
+    Ok(ranges)
+}
+
+/// The ranges of a list, and behind them those of addresses that are there.
+fn gathered(
+    alloc: Global,
+    listed: Option<Vec<AddressRange>>,
+    code: Option<CodeAddresses>,
+    location: Option<u64>,
+) -> ReadResult<Vec<AddressRange>>
+    ensures ok { IfOk result (λ ranges. ranges.items
+        ≡ gathered (option_of (λ v. v.items) listed) code location) }
+    ensures err { IfErr result (λ e. e ≡ NoMemory) }
+{
     let mut ranges = listed.unwrap_or(Vec::new(alloc));
     add(&mut ranges, code)?;
     add(&mut ranges, location.map(CodeAddresses::Single))?;
