@@ -12,12 +12,13 @@ use dw_base::constants::{DW_AT_high_pc, DW_AT_low_pc};
 use dw_read::{Attribute, AttributeValue, ReadResult, Reader};
 use dw_read_units::UnitRef;
 
-/// What the `DW_AT_low_pc` and the `DW_AT_high_pc` of an entry say, of each name the last one. The
-/// low one is an address, perhaps by an index; where it is none, they say nothing. The high one is
-/// an address too, or a constant that counts from the low one. Where it is absent, negative or of
-/// another kind, a number of 16 bytes among them, the low address stands alone.
+/// What the `DW_AT_low_pc` and the `DW_AT_high_pc` of an entry say, of each name the last one
+/// (DWARF 5, 2.17.1 and 2.17.2). The low one is an address, perhaps by an index; where it is none,
+/// they say nothing. The high one is an address too, or a constant that counts from the low one.
+/// Where it is absent, below zero or of another kind, `DW_FORM_data16` among them, the low address
+/// stands alone. A high address may lie below the low one.
 ///
-/// Refused is an index that leads to no address, as `UnitRef::address` does: `UnexpectedEof`, or
+/// Refused is an index that leads to no address, as by `UnitRef::address`: `UnexpectedEof`, or
 /// `UnsupportedAddressSize`. The high one is looked at only where the low one is an address.
 #[tactic(auto, unfolding(crate::specs::Bounds::low_high))]
 pub fn low_high<R: Reader>(

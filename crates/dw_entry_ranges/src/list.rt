@@ -6,7 +6,8 @@ ghost use Rattle.dw_read.specs.Values.{value_of};
 ghost use Rattle.dw_read.specs.declared.error.ReadError.TheVariants.{NoMemory};
 ghost use Rattle.dw_entry_ranges.specs.Attributes.{values_in};
 ghost use Rattle.dw_entry_ranges.specs.Items.{range_in};
-ghost use Rattle.dw_entry_ranges.specs.Lists.{indexed_list, list_in, list_of, list_ranges, ranges_at};
+ghost use Rattle.dw_entry_ranges.specs.Lists.{indexed_list, list_in, list_of};
+ghost use Rattle.dw_entry_ranges.specs.Lists.{list_ranges, ranges_at};
 
 use crate::attribute::last_value;
 use crate::item::{Item, base_behind, read_item};
@@ -19,10 +20,10 @@ use dw_sources::raw_ranges;
 use std::alloc::Global;
 
 /// The ranges of the list to which the last `DW_AT_ranges` of an entry leads, by its offset or by
-/// an index in the unit's part of `.debug_rnglists`. None where there is no such attribute, or
-/// where its value leads to no list.
+/// an index in the unit's part of `.debug_rnglists` (DWARF 5, 2.17.3 and 7.28). None where there is
+/// no such attribute, or where its value leads to no list.
 ///
-/// Refused is an index that leads to no list, as `UnitRef::ranges_offset` does (`UnexpectedEof`,
+/// Refused is an index that leads to no list, as by `UnitRef::ranges_offset` (`UnexpectedEof`,
 /// `OffsetOutOfBounds`), and what `ranges_at` is refused for.
 #[tactic(auto, unfolding(crate::specs::Lists::list_ranges))]
 pub fn list_ranges<R: Reader>(
@@ -83,13 +84,15 @@ fn indexed_list<R: Reader>(unit: UnitRef<'_, R>, index: u64) -> ReadResult<Range
 }
 
 /// The ranges of the list at an offset of `.debug_rnglists`, or up to version 4 of
-/// `.debug_ranges`, in its order, empty ones too. Offsets count from the unit's low address at
-/// first, and from the last base before them; the two numbers of an item up to version 4 are
-/// offsets. Addresses are as wide as the unit's encoding says, in the section's byte order.
+/// `.debug_ranges`, in the order of its items, empty ones too (DWARF 5, 2.17.3 and 7.25). Offsets
+/// count from the unit's low address at first, and from the last base before them; the two numbers
+/// of an item up to version 4 are offsets. Addresses are as wide as those of the unit, numbers in
+/// the byte order of the section.
 ///
-/// Refused is an offset past the section's end (`UnexpectedEof`), an item that can't be read, as
-/// `RawRngListIter::next` does (`UnexpectedEof`, `BadLeb128`, `UnsupportedAddressSize`,
-/// `UnknownRangeListsEntry`), an index that leads to no address, and want of memory (`NoMemory`).
+/// Refused is an offset past the section's end (`UnexpectedEof`), an item that can't be read, as by
+/// `RawRngListIter::next` (`UnexpectedEof`, `BadLeb128`, `UnsupportedAddressSize`,
+/// `UnknownRangeListsEntry`), an index that leads to no address, as by `UnitRef::address`, and want
+/// of memory (`NoMemory`). It allocates as much as was read.
 pub fn ranges_at<R: Reader>(
     alloc: Global,
     unit: UnitRef<'_, R>,

@@ -15,11 +15,12 @@ use dw_read_units::UnitRef;
 use dw_sources::{Operation, OperationIter};
 
 /// The address that the first operation of the last `DW_AT_location` of an entry pushes, as that
-/// of a variable in static memory does: `DW_OP_addr`, or `DW_OP_addrx`, whose index leads to it.
-/// None where the location is absent or no expression, and where its first operation is another
-/// one or can't be read.
+/// of a variable in static memory does: `DW_OP_addr`, or `DW_OP_addrx`, whose index leads to it
+/// (DWARF 5, 2.6.1.1.2 and 2.5.1.1). None where the location is absent or no expression, and where
+/// its first operation is another one or can't be read. The address is as wide as those of the
+/// unit, in the byte order of the attribute's bytes.
 ///
-/// Refused is an index that leads to no address, as `UnitRef::address` does: `UnexpectedEof`, or
+/// Refused is an index that leads to no address, as by `UnitRef::address`: `UnexpectedEof`, or
 /// `UnsupportedAddressSize`.
 #[tactic(auto, unfolding(crate::specs::Locations::location_address))]
 pub fn location_address<R: Reader>(

@@ -3,9 +3,9 @@
 ghost use Rattle.std.specs.Prelude.{◌≡◌};
 ghost use Rattle.dw_entry_ranges.specs.Ranges.{from_to, with_length, range_of};
 
-/// The addresses from a begin to before an end. Both are whole numbers: a sum of two numbers of 64
-/// bits doesn't wrap, so it can lie past every address. No address belongs to a range whose end
-/// isn't above its begin.
+/// The addresses from a begin to before an end (DWARF 5, 2.17). Both are whole numbers: a sum of
+/// two numbers of 64 bits doesn't wrap, so it may lie past every address. No address belongs to a
+/// range whose end isn't above its begin.
 ///
 /// ```
 /// let range = AddressRange::with_length(0x1000, 16);
