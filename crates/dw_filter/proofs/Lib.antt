@@ -1,0 +1,6 @@
+pub mod Kept
+pub mod Edges
+pub mod Views
+pub mod Search
+mod Ordered
+mod Weights
