@@ -4,3 +4,5 @@ pub mod Views
 pub mod Search
 mod Ordered
 mod Weights
+mod Within
+mod Pending

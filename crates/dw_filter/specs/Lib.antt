@@ -1,2 +1,4 @@
 pub mod Dependencies
 pub mod Kept
+pub mod PlaceViews
+pub mod Places
