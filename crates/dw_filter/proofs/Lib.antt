@@ -6,3 +6,4 @@ mod Ordered
 mod Weights
 mod Within
 mod Pending
+mod ListSteps
