@@ -5,5 +5,6 @@ pub mod Search
 mod Ordered
 mod Weights
 mod Within
+mod Worked
 mod Pending
 mod ListSteps
