@@ -1,0 +1,7 @@
+pub mod ReadSteps
+pub mod Reasons
+pub mod WriteSteps
+pub mod TextSteps
+pub mod FindSteps
+pub mod Again
+mod Worked

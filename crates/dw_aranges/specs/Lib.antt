@@ -1,0 +1,6 @@
+pub mod Sets
+pub mod Bytes
+pub mod Causes
+pub mod Texts
+pub mod Reading
+pub mod Find

@@ -1,0 +1,13 @@
+//! `.debug_aranges`: which units have code or data at an address (DWARF 5, 6.1.2). The section is
+//! built as a table, written, read and searched.
+#![tactic(auto)]
+
+mod range;
+mod read;
+mod set;
+mod table;
+mod write;
+
+pub use range::AddressRange;
+pub use set::ArangeSet;
+pub use table::ArangeTable;
