@@ -16,7 +16,7 @@ use Rattle.dw_writer.specs.Resolved.{resolved}
 use Rattle.dw_writer.specs.Meaning.{Meaning, Layout, Model, AllInside, IsTidy, IsSameWriter, Appends}
 use Rattle.dw_writer.specs.New.{IsEmptyPlainWriter}
 use Rattle.dw_writer.proofs.Steps.{shown, resolved-same}
-use Rattle.dw_aranges.specs.declared.range.AddressRange.{AddressRange}
+use Rattle.dw_aranges.specs.declared.range.RangeDescriptor.{RangeDescriptor}
 use Rattle.dw_aranges.specs.Sets.{RangeSet, is_range, is_set}
 use Rattle.dw_aranges.specs.Bytes.{padding, range_bytes, rest_bytes, content_bytes, set_bytes, aranges_bytes}
 use Rattle.dw_aranges.specs.Causes.{sets_fail, IsNone}
@@ -39,7 +39,7 @@ not_true true h = absurd (let e : false ≡ true = h in cc)
 not_true false h = refl
 
 -- a range, whatever follows it
-range-again : (big : Bool) (w : ℕ) (r : AddressRange) (rest : List ℕ) → IsTrue (is_range w r) → range_at big w (range_bytes big w r ++ rest) ≡ Some (r, rest)
+range-again : (big : Bool) (w : ℕ) (r : RangeDescriptor) (rest : List ℕ) → IsTrue (is_range w r) → range_at big w (range_bytes big w r ++ rest) ≡ Some (r, rest)
 range-again big w r rest h =
     let fit = and_left _ _ h in
     let first = number-fits-again big w r.address (num big w r.length ++ rest) (and_left _ _ fit) in
@@ -68,7 +68,7 @@ end-again big w rest =
     ∙ two_zeros big w 0 0 _ _ _ (zero-again big w (zeros w ++ rest)) (zero-again big w rest) refl
 
 -- ranges up to two zeros
-ranges-again : (most : ℕ) (big : Bool) (w : ℕ) (rs : List AddressRange) (rest : List ℕ) → IsTrue (list_all (is_range w) rs) → length rs ≤ most → ranges_up_to most big w (flat_map (range_bytes big w) rs ++ (zeros (2 * w) ++ rest)) ≡ rs
+ranges-again : (most : ℕ) (big : Bool) (w : ℕ) (rs : List RangeDescriptor) (rest : List ℕ) → IsTrue (list_all (is_range w) rs) → length rs ≤ most → ranges_up_to most big w (flat_map (range_bytes big w) rs ++ (zeros (2 * w) ++ rest)) ≡ rs
 unfolding ranges_up_to
 ranges-again most big w [] rest h m = ranges_end most big w (zeros (2 * w) ++ rest) (end-again big w rest)
 ranges-again zero big w (r ∷ rs) rest h m = absurd (omega arith)
@@ -78,11 +78,11 @@ ranges-again (suc most) big w (r ∷ rs) rest h m =
     ∙ ap (ranges_after (ranges_up_to most big w)) (range-again big w r tail (and_left _ _ h))
     ∙ ap (λ l. r ∷ l) (ranges-again most big w rs rest (and_right _ _ h) (omega arith))
 
-fewer_ranges : (big : Bool) (w : ℕ) (rs : List AddressRange) → 0 < w → length rs ≤ length (flat_map (range_bytes big w) rs)
+fewer_ranges : (big : Bool) (w : ℕ) (rs : List RangeDescriptor) → 0 < w → length rs ≤ length (flat_map (range_bytes big w) rs)
 fewer_ranges big w [] h = omega arith
 fewer_ranges big w (r ∷ rs) h = omega (arith, length-append (range_bytes big w r) (flat_map (range_bytes big w) rs), length-range big w r, fewer_ranges big w rs h)
 
-all_ranges : (big : Bool) (w : ℕ) (rs : List AddressRange) → IsTrue (is_width w) → IsTrue (list_all (is_range w) rs) → ranges_in big w (flat_map (range_bytes big w) rs ++ zeros (2 * w)) ≡ rs
+all_ranges : (big : Bool) (w : ℕ) (rs : List RangeDescriptor) → IsTrue (is_width w) → IsTrue (list_all (is_range w) rs) → ranges_in big w (flat_map (range_bytes big w) rs ++ zeros (2 * w)) ≡ rs
 all_ranges big w rs width h =
     let ranges = flat_map (range_bytes big w) rs in
     let enough : length rs ≤ length (ranges ++ zeros (2 * w)) = omega (arith, length-append ranges (zeros (2 * w)), fewer_ranges big w rs (width_positive w width)) in

@@ -10,7 +10,7 @@ use Rattle.dw_read.specs.Reasons.{◌=>>◌, bytes_read, number_read, initial_le
 use Rattle.dw_read.specs.declared.error.ReadError.{ReadError}
 use Rattle.dw_read.specs.declared.error.ReadError.TheVariants.{UnknownVersion, UnsupportedAddressSize, UnsupportedSegmentSize}
 use Rattle.dw_read.proofs.Laws.{read_is, initial_length_law}
-use Rattle.dw_aranges.specs.declared.range.AddressRange.{AddressRange}
+use Rattle.dw_aranges.specs.declared.range.RangeDescriptor.{RangeDescriptor}
 use Rattle.dw_aranges.specs.Sets.{RangeSet, is_end}
 use Rattle.dw_aranges.specs.Bytes.{padding}
 use Rattle.dw_aranges.specs.Reading.{range_of, range_at, ranges_up_to, ranges_in, fields_read, set_read, sets_up_to, sets_read}
@@ -51,14 +51,14 @@ number_shorter big w bs x e =
     omega (arith, length-drop w bs, ap length a, ap length b)
 
 -- a range takes a byte at least
-pub range_shorter : (big : Bool) (w : ℕ) (bs : List ℕ) (x : AddressRange × List ℕ) → 0 < w → range_at big w bs ≡ Some x → length x.1 < length bs
+pub range_shorter : (big : Bool) (w : ℕ) (bs : List ℕ) (x : RangeDescriptor × List ℕ) → 0 < w → range_at big w bs ≡ Some x → length x.1 < length bs
 unfolding range_at
 range_shorter big w bs x positive e =
     let p = bind_parts (number_at big w bs) (λ (y : ℕ × List ℕ). number_at big w y.1 >>= λ size. when (not (is_end (range_of y.0 size.0))) (Some (range_of y.0 size.0, size.1))) x e in
     let q = bind_parts (number_at big w p.0.1) (λ (size : ℕ × List ℕ). when (not (is_end (range_of p.0.0 size.0))) (Some (range_of p.0.0 size.0, size.1))) x p.2 in
     let s : Some (range_of p.0.0 q.0.0, q.0.1) ≡ Some x = when_same _ (Some (range_of p.0.0 q.0.0, q.0.1)) x q.2 in
     let r : (range_of p.0.0 q.0.0, q.0.1) ≡ x = cc s in
-    let b : q.0.1 ≡ x.1 = ap (λ (y : AddressRange × List ℕ). y.1) r in
+    let b : q.0.1 ≡ x.1 = ap (λ (y : RangeDescriptor × List ℕ). y.1) r in
     omega (arith, number_shorter big w bs p.0 p.1, number_shorter big w p.0.1 q.0 q.1, ap length b)
 
 pub width_positive : (w : ℕ) → IsTrue (is_width w) → 0 < w
@@ -71,7 +71,7 @@ ranges_end zero big w bs h = refl
 ranges_end (suc most) big w bs h = rw h refl
 
 -- the ranges so far, and those of what is left, are all
-pub record Ranges (big : Bool) (w : ℕ) (bytes : List ℕ) (front : List AddressRange) (rest : List ℕ) : Type 0 where
+pub record Ranges (big : Bool) (w : ℕ) (bytes : List ℕ) (front : List RangeDescriptor) (rest : List ℕ) : Type 0 where
   pub most : ℕ
   pub enough : length rest ≤ most
   pub is : front ++ ranges_up_to most big w rest ≡ ranges_in big w bytes
@@ -79,14 +79,14 @@ pub record Ranges (big : Bool) (w : ℕ) (bytes : List ℕ) (front : List Addres
 pub ranges_none : (big : Bool) (w : ℕ) (bytes : List ℕ) → Ranges big w bytes [] bytes
 ranges_none big w bytes = record { most = length bytes; enough = omega arith; is = refl }
 
-append-nothing : (xs : List AddressRange) → xs ++ [] ≡ xs
+append-nothing : (xs : List RangeDescriptor) → xs ++ [] ≡ xs
 append-nothing [] = refl
 append-nothing (x ∷ xs) = ap (λ l. x ∷ l) (append-nothing xs)
 
-pub ranges_all : (big : Bool) (w : ℕ) (bytes : List ℕ) (front : List AddressRange) (rest : List ℕ) → Ranges big w bytes front rest → range_at big w rest ≡ None → front ≡ ranges_in big w bytes
+pub ranges_all : (big : Bool) (w : ℕ) (bytes : List ℕ) (front : List RangeDescriptor) (rest : List ℕ) → Ranges big w bytes front rest → range_at big w rest ≡ None → front ≡ ranges_in big w bytes
 ranges_all big w bytes front rest c h = sym (append-nothing front) ∙ sym (ap (λ l. front ++ l) (ranges_end c.most big w rest h)) ∙ c.is
 
-ranges_step : (most : ℕ) (big : Bool) (w : ℕ) (bytes : List ℕ) (front : List AddressRange) (r : AddressRange) (rest more : List ℕ) → length rest ≤ most → front ++ ranges_up_to most big w rest ≡ ranges_in big w bytes → range_at big w rest ≡ Some (r, more) → length more < length rest →
+ranges_step : (most : ℕ) (big : Bool) (w : ℕ) (bytes : List ℕ) (front : List RangeDescriptor) (r : RangeDescriptor) (rest more : List ℕ) → length rest ≤ most → front ++ ranges_up_to most big w rest ≡ ranges_in big w bytes → range_at big w rest ≡ Some (r, more) → length more < length rest →
     Ranges big w bytes (front ++ r ∷ []) more
 unfolding ranges_up_to
 ranges_step zero big w bytes front r rest more h is e s = absurd (omega arith)
@@ -96,7 +96,7 @@ ranges_step (suc most) big w bytes front r rest more h is e s = record {
   is = append_assoc front (r ∷ []) (ranges_up_to most big w more) ∙ (let k = rw e at is in k);
 }
 
-pub ranges_more : (big : Bool) (w : ℕ) (bytes : List ℕ) (front next : List AddressRange) (r : AddressRange) (rest more : List ℕ) → Ranges big w bytes front rest → range_at big w rest ≡ Some (r, more) → length more < length rest → next ≡ front ++ r ∷ [] →
+pub ranges_more : (big : Bool) (w : ℕ) (bytes : List ℕ) (front next : List RangeDescriptor) (r : RangeDescriptor) (rest more : List ℕ) → Ranges big w bytes front rest → range_at big w rest ≡ Some (r, more) → length more < length rest → next ≡ front ++ r ∷ [] →
     Ranges big w bytes next more
 ranges_more big w bytes front next r rest more c e s q =
     subst (λ l. Ranges big w bytes l more) (sym q) (ranges_step c.most big w bytes front r rest more c.enough c.is e s)

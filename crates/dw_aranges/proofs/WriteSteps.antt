@@ -12,7 +12,7 @@ use Rattle.dw_writer.specs.Meaning.{Meaning, IsSameWriter, Adds}
 use Rattle.dw_writer.specs.Causes.{BytesRefused}
 use Rattle.dw_writer.proofs.FaultLaws.{HasRisen-from}
 use Rattle.dw_writer.proofs.Steps.{Adds-then}
-use Rattle.dw_aranges.specs.declared.range.AddressRange.{AddressRange}
+use Rattle.dw_aranges.specs.declared.range.RangeDescriptor.{RangeDescriptor}
 use Rattle.dw_aranges.specs.Sets.{RangeSet}
 use Rattle.dw_aranges.specs.Bytes.{padding, range_bytes, rest_bytes, content_bytes}
 
@@ -66,13 +66,13 @@ pub length-zeros : (n : ℕ) → length (zeros n) ≡ n
 length-zeros zero = refl
 length-zeros (suc n) = ap suc (length-zeros n)
 
-pub length-range : (big : Bool) (w : ℕ) (r : AddressRange) → length (range_bytes big w r) ≡ w + w
+pub length-range : (big : Bool) (w : ℕ) (r : RangeDescriptor) → length (range_bytes big w r) ≡ w + w
 length-range big w r = omega (arith, length-append (num big w r.address) (num big w r.length), length-num big w r.address, length-num big w r.length)
 
 double : (w n : ℕ) → 2 * w * (n + 1) ≡ 2 * w * n + (w + w)
 double w n = mul-add (2 * w) n 1 ∙ omega arith
 
-length-ranges : (big : Bool) (w : ℕ) (rs : List AddressRange) → length (flat_map (range_bytes big w) rs) ≡ 2 * w * length rs
+length-ranges : (big : Bool) (w : ℕ) (rs : List RangeDescriptor) → length (flat_map (range_bytes big w) rs) ≡ 2 * w * length rs
 length-ranges big w [] = omega arith
 length-ranges big w (r ∷ rs) =
     omega (arith, length-append (range_bytes big w r) (flat_map (range_bytes big w) rs), length-range big w r, length-ranges big w rs, double w (length rs))

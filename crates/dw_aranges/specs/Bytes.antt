@@ -4,7 +4,7 @@ use Rattle.std.specs.List.{flat_map}
 use Rattle.dw_base.specs.Numbers.{num, word_of, escape_of, length_size}
 use Rattle.dw_base.specs.declared.common.Format.{Format}
 use Rattle.dw_writer.specs.Texts.{zeros}
-use Rattle.dw_aranges.specs.declared.range.AddressRange.{AddressRange}
+use Rattle.dw_aranges.specs.declared.range.RangeDescriptor.{RangeDescriptor}
 use Rattle.dw_aranges.specs.Sets.{RangeSet}
 
 -- the bytes of a set's header: the length, two bytes for the version, the unit's place, and a byte for each of two sizes
@@ -16,7 +16,7 @@ abbrev pub padding : Format → ℕ → ℕ
 padding format w = (2 * w - header_size format % (2 * w)) % (2 * w)
 
 -- a range: its address and its length, each as wide as an address
-abbrev pub range_bytes : Bool → ℕ → AddressRange → List ℕ
+abbrev pub range_bytes : Bool → ℕ → RangeDescriptor → List ℕ
 range_bytes big w r = num big w r.address ++ num big w r.length
 
 -- what follows the unit's place: the size of an address, the size of a segment selector, which is 0, zeros up to the first

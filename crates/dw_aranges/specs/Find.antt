@@ -1,11 +1,11 @@
 -- Which units have an address (DWARF 5, 6.1.2).
 use Rattle.std.specs.Prelude.{ℕ, ◌+◌, Bool, not, ◌&&◌, ◌==◌, nat_le, nat_lt, List, [], ◌∷◌, filter, if◌then◌else◌}
 use Rattle.std.specs.List.{list_any}
-use Rattle.dw_aranges.specs.declared.range.AddressRange.{AddressRange}
+use Rattle.dw_aranges.specs.declared.range.RangeDescriptor.{RangeDescriptor}
 use Rattle.dw_aranges.specs.Sets.{RangeSet}
 
 -- a range has an address that isn't before its first, and is before its end
-abbrev pub range_has : ℕ → AddressRange → Bool
+abbrev pub range_has : ℕ → RangeDescriptor → Bool
 range_has a r = nat_le r.address a && nat_lt a (r.address + r.length)
 
 -- a set has an address where one of its ranges has

@@ -6,31 +6,31 @@ use Rattle.dw_read.specs.Reading.{Reading, Read, Reads, left}
 use Rattle.dw_read.specs.Reasons.{◌=>>◌, if_so, bytes_read, number_read, initial_length_read}
 use Rattle.dw_read.specs.declared.error.ReadError.{ReadError}
 use Rattle.dw_read.specs.declared.error.ReadError.TheVariants.{UnexpectedEof, UnknownReservedLength, UnknownVersion, UnsupportedAddressSize, UnsupportedSegmentSize, NoMemory}
-use Rattle.dw_aranges.specs.declared.range.AddressRange.{AddressRange}
+use Rattle.dw_aranges.specs.declared.range.RangeDescriptor.{RangeDescriptor}
 use Rattle.dw_aranges.specs.Sets.{RangeSet, is_end}
 use Rattle.dw_aranges.specs.Bytes.{padding}
 
-abbrev pub range_of : ℕ → ℕ → AddressRange
+abbrev pub range_of : ℕ → ℕ → RangeDescriptor
 range_of address size = record { address = address; length = size }
 
 -- a range; none where less than a pair of numbers is left, or where both are zero
-unfoldable pub range_at : Bool → ℕ → Parser AddressRange
+unfoldable pub range_at : Bool → ℕ → Parser RangeDescriptor
 range_at big w bytes =
     number_at big w bytes >>= λ address. number_at big w address.1 >>= λ size.
     when (not (is_end (range_of address.0 size.0))) (Some (range_of address.0 size.0, size.1))
 
 -- after a range there may be more
-abbrev pub ranges_after : (List ℕ → List AddressRange) → Option (AddressRange × List ℕ) → List AddressRange
+abbrev pub ranges_after : (List ℕ → List RangeDescriptor) → Option (RangeDescriptor × List ℕ) → List RangeDescriptor
 ranges_after more None = []
 ranges_after more (Some (r, rest)) = r ∷ more rest
 
 -- the ranges in front of bytes, up to the first place where none is, at most so many
-unfoldable pub ranges_up_to : ℕ → Bool → ℕ → List ℕ → List AddressRange
+unfoldable pub ranges_up_to : ℕ → Bool → ℕ → List ℕ → List RangeDescriptor
 ranges_up_to zero big w bytes = []
 ranges_up_to (suc most) big w bytes = ranges_after (ranges_up_to most big w) (range_at big w bytes)
 
 -- all of them: each has a byte at least
-abbrev pub ranges_in : Bool → ℕ → List ℕ → List AddressRange
+abbrev pub ranges_in : Bool → ℕ → List ℕ → List RangeDescriptor
 ranges_in big w bytes = ranges_up_to (length bytes) big w bytes
 
 -- what follows the length, up to the first range: the version, the unit's place, the size of an address, the size of a segment
@@ -76,6 +76,6 @@ IsReason NoMemory = Unit {0}
 IsReason e = ⊥
 
 -- what a call that reads a range answers: the range, which it passes, or that none is there
-abbrev pub FindsRange : ℕ → Reading → Reading → Option AddressRange → Type 0
+abbrev pub FindsRange : ℕ → Reading → Reading → Option RangeDescriptor → Type 0
 FindsRange w old new None = range_at old.is_big w (left old) ≡ None
-FindsRange w old new (Some r) = Reads AddressRange (range_at old.is_big w) old new r
+FindsRange w old new (Some r) = Reads RangeDescriptor (range_at old.is_big w) old new r

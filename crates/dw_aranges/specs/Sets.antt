@@ -5,7 +5,7 @@ use Rattle.dw_base.specs.Numbers.{is_width, fits}
 use Rattle.dw_base.specs.declared.common.Format.{Format}
 use Rattle.dw_base.specs.declared.error.Error.{Error}
 use Rattle.dw_base.specs.declared.error.Error.TheVariants as errors
-use Rattle.dw_aranges.specs.declared.range.AddressRange.{AddressRange}
+use Rattle.dw_aranges.specs.declared.range.RangeDescriptor.{RangeDescriptor}
 
 pub record RangeSet : Type 0 where
   pub format : Format
@@ -13,18 +13,18 @@ pub record RangeSet : Type 0 where
   pub address_size : ℕ
   -- where the unit's header stands in .debug_info
   pub unit : ℕ
-  pub ranges : List AddressRange
+  pub ranges : List RangeDescriptor
 
 -- both numbers fit an address
-abbrev pub range_fits : ℕ → AddressRange → Bool
+abbrev pub range_fits : ℕ → RangeDescriptor → Bool
 range_fits w r = fits w r.address && fits w r.length
 
 -- the pair of zeros that ends a set
-abbrev pub is_end : AddressRange → Bool
+abbrev pub is_end : RangeDescriptor → Bool
 is_end r = r.address == 0 && r.length == 0
 
 -- a range that a set of such addresses can hold
-abbrev pub is_range : ℕ → AddressRange → Bool
+abbrev pub is_range : ℕ → RangeDescriptor → Bool
 is_range w r = range_fits w r && not (is_end r)
 
 -- what holds of each set: its addresses have a size that addresses may have, and it can hold its ranges
@@ -35,11 +35,11 @@ abbrev pub empty_set : Format → ℕ → ℕ → RangeSet
 empty_set format w unit = record { format = format; address_size = w; unit = unit; ranges = [] }
 
 -- a set with a range more, unless that holds no address
-abbrev pub with_range : RangeSet → AddressRange → RangeSet
+abbrev pub with_range : RangeSet → RangeDescriptor → RangeSet
 with_range s r = if r.length == 0 then s else (record s { ranges = s.ranges ++ r ∷ [] })
 
 -- a range is refused where it doesn't fit, or for want of memory
-abbrev pub RangeRefused : RangeSet → AddressRange → Error → Type 0
+abbrev pub RangeRefused : RangeSet → RangeDescriptor → Error → Type 0
 RangeRefused s r errors.ValueTooLarge = IsFalse (range_fits s.address_size r)
 RangeRefused s r errors.NoMemory = Unit {0}
 RangeRefused s r e = ⊥

@@ -8,6 +8,6 @@ mod set;
 mod table;
 mod write;
 
-pub use range::AddressRange;
+pub use range::RangeDescriptor;
 pub use set::ArangeSet;
 pub use table::ArangeTable;

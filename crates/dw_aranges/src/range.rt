@@ -1,22 +1,23 @@
-//! Ranges of addresses.
+//! Address range descriptors.
 
 ghost use Rattle.std.specs.Prelude.{◌≡◌};
 ghost use Rattle.dw_aranges.specs.Sets.{is_end};
 ghost use Rattle.dw_aranges.specs.Find.{range_has};
 
-/// Addresses of the target that stand one behind another: the first, and how many bytes there are.
+/// An address range descriptor: the first of some addresses of the target that stand one behind
+/// another, and how many there are, in bytes (DWARF 5, 6.1.2).
 ///
 /// ```
-/// let range = AddressRange { address: 0x1000, length: 16 };
+/// let range = RangeDescriptor { address: 0x1000, length: 16 };
 /// let last = range.contains(0x100f); // true, and false at 0x1010
 /// ```
 #[derive(Clone, Copy, PartialEq, Eq)]
-pub struct AddressRange {
+pub struct RangeDescriptor {
     pub address: u64,
     pub length: u64,
 }
 
-impl AddressRange {
+impl RangeDescriptor {
     /// Whether an address is in it: not before the first, and before the end, which may lie past
     /// the last address of 64 bits.
     pub fn contains(&self, address: u64) -> bool

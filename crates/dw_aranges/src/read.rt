@@ -1,6 +1,7 @@
 //! How sets of address ranges are read (DWARF 5, 6.1.2).
 
-ghost use Rattle.std.specs.Prelude.{◌≡◌, ◌⊎◌, ◌<◌, length, IsTrue, IfSome, OnOk, IfOk, IfErr, Ok, Err};
+ghost use Rattle.std.specs.Prelude.{◌≡◌, ◌⊎◌, ◌<◌, length, IsTrue};
+ghost use Rattle.std.specs.Prelude.{IfSome, OnOk, IfOk, IfErr, Ok, Err};
 ghost use Rattle.std.specs.List.{list_all};
 ghost use Rattle.dw_base.specs.Numbers.{is_width};
 ghost use Rattle.dw_read.specs.Reading.{left};
@@ -10,7 +11,7 @@ ghost use Rattle.dw_aranges.specs.Sets.{is_range};
 ghost use Rattle.dw_aranges.specs.Reading.{FindsRange, ranges_in, fields_read, set_read};
 ghost use Rattle.dw_aranges.specs.Reading.{sets_read, SetsRefused, IsReason};
 
-use crate::range::AddressRange;
+use crate::range::RangeDescriptor;
 use crate::set::{ArangeSet, is_width};
 use crate::table::ArangeTable;
 use crate::write::padding;
@@ -102,7 +103,11 @@ fn read_fields<R: Reader>(input: &mut R, format: Format) -> ReadResult<(usize, u
 }
 
 /// Reads ranges up to a pair of zeros, or to where less than a pair is left.
-fn read_ranges<R: Reader>(alloc: Global, input: &mut R, size: u8) -> ReadResult<Vec<AddressRange>>
+fn read_ranges<R: Reader>(
+    alloc: Global,
+    input: &mut R,
+    size: u8,
+) -> ReadResult<Vec<RangeDescriptor>>
     requires { IsTrue (is_width size) }
     ensures ok { IfOk result (λ ranges. ranges.items
         ≡ ranges_in (R.reading input.old).is_big size (left (R.reading input.old))) }
@@ -119,7 +124,7 @@ fn read_ranges<R: Reader>(alloc: Global, input: &mut R, size: u8) -> ReadResult<
 }
 
 /// Reads a range. None comes where less than a pair is left, and at a pair of zeros.
-fn read_range<R: Reader>(input: &mut R, size: u8) -> Option<AddressRange>
+fn read_range<R: Reader>(input: &mut R, size: u8) -> Option<RangeDescriptor>
     requires { IsTrue (is_width size) }
     ensures found { FindsRange size (R.reading input.old) (R.reading input.new) result }
     ensures fits { IfSome result (λ r. IsTrue (is_range size r)) }
@@ -130,7 +135,7 @@ fn read_range<R: Reader>(input: &mut R, size: u8) -> Option<AddressRange>
     let Ok(length) = input.read_uint(size as usize) else {
         return None;
     };
-    let range = AddressRange { address, length };
+    let range = RangeDescriptor { address, length };
     if range.is_end() {
         return None;
     }

@@ -1,13 +1,14 @@
 //! The address ranges of one unit.
 
 ghost use Rattle.std.specs.Prelude.{◌≡◌, IsTrue, IsFalse, OnOk, OnErr, IfOk, IfErr};
-ghost use Rattle.std.specs.List.{list_any};
+ghost use Rattle.std.specs.List.{list_any, list_all};
 ghost use Rattle.dw_base.specs.Numbers.{is_width, fits};
 ghost use Rattle.dw_base.specs.declared.error.Error.TheVariants.{UnsupportedWordSize};
-ghost use Rattle.dw_aranges.specs.Sets.{empty_set, range_fits, with_range, RangeRefused};
+ghost use Rattle.dw_aranges.specs.Sets.{empty_set, is_range, range_fits, with_range};
+ghost use Rattle.dw_aranges.specs.Sets.{RangeRefused};
 ghost use Rattle.dw_aranges.specs.Find.{range_has, set_has};
 
-use crate::range::AddressRange;
+use crate::range::RangeDescriptor;
 use dw_base::{DebugInfoOffset, Error, Format, Result};
 use std::alloc::Global;
 use std::marker::Model;
@@ -16,14 +17,14 @@ use std::marker::Model;
 ///
 /// ```
 /// let mut set = ArangeSet::new(alloc, Format::Dwarf32, 8, DebugInfoOffset(0))?;
-/// set.add(AddressRange { address: 0x1000, length: 16 })?;
+/// set.add(RangeDescriptor { address: 0x1000, length: 16 })?;
 /// ```
 #[derive(Drop)]
 pub struct ArangeSet {
     pub(crate) format: Format,
     pub(crate) address_size: u8,
     pub(crate) unit: DebugInfoOffset,
-    pub(crate) ranges: Vec<AddressRange>,
+    pub(crate) ranges: Vec<RangeDescriptor>,
 }
 
 impl Model for ArangeSet {
@@ -73,7 +74,7 @@ impl ArangeSet {
 
     /// Adds a range behind the others. One of length 0 has no address, and isn't kept. Refused as
     /// `ValueTooLarge` where its address or its length has more bytes than the set's addresses.
-    pub fn add(&mut self, range: AddressRange) -> Result<()>
+    pub fn add(&mut self, range: RangeDescriptor) -> Result<()>
         ensures fits { OnOk result (IsTrue (range_fits self.old.address_size range)) }
         ensures ok { OnOk result (self.new ≡ with_range self.old range) }
         ensures err { IfErr result (RangeRefused self.old range) }
@@ -97,7 +98,8 @@ impl ArangeSet {
 
     /// The bytes of an address: 1, 2, 4 or 8.
     pub fn address_size(&self) -> u8
-        ensures { result ≡ self.now.address_size }
+        ensures is { result ≡ self.now.address_size }
+        ensures width { IsTrue (is_width result) }
     {
         self.address_size
     }
@@ -109,9 +111,11 @@ impl ArangeSet {
         self.unit
     }
 
-    /// The ranges, in the order in which they stand in the section.
-    pub fn ranges(&self) -> &[AddressRange]
-        ensures { result.now ≡ self.now.ranges }
+    /// The ranges, in the order in which they stand in the section. The numbers of each fit the
+    /// set's addresses, and none is the pair of zeros that ends a set.
+    pub fn ranges(&self) -> &[RangeDescriptor]
+        ensures are { result.now ≡ self.now.ranges }
+        ensures fit { IsTrue (list_all (is_range self.now.address_size) result.now) }
     {
         self.ranges.as_slice()
     }

@@ -1,19 +1,21 @@
 //! How sets of address ranges are written (DWARF 5, 6.1.2).
 
-ghost use Rattle.std.specs.Prelude.{◌≡◌, ◌<◌, ◌≤◌, ◌*◌, ◌++◌, Bool, length, IsTrue, OnOk, IfOk, IfErr, Ok};
+ghost use Rattle.std.specs.Prelude.{◌≡◌, ◌<◌, ◌≤◌, ◌++◌, Bool, length, IsTrue};
+ghost use Rattle.std.specs.Prelude.{OnOk, IfOk, IfErr, Ok};
 ghost use Rattle.std.specs.List.{list_all, flat_map};
 ghost use Rattle.dw_base.specs.Numbers.{num, is_width, word_of, escape_of, length_fits};
 ghost use Rattle.dw_writer.specs.Texts.{zeros};
-ghost use Rattle.dw_writer.specs.Meaning.{IsSameWriter, Adds, Appends};
+ghost use Rattle.dw_writer.specs.Meaning.{Adds, Appends};
 ghost use Rattle.dw_writer.specs.Causes.{BytesRefused, LengthRefused};
 ghost use Rattle.dw_aranges.specs.Sets.{is_range, is_set};
 ghost use Rattle.dw_aranges.specs.Bytes.{padding, range_bytes, rest_bytes, content_bytes};
 ghost use Rattle.dw_aranges.specs.Bytes.{aranges_bytes};
 ghost use Rattle.dw_aranges.specs.Causes.{IsNone, Refused, set_fails, sets_fail};
-ghost use Rattle.dw_aranges.specs.Texts.{set_text, set_size, sets_text, sets_size, Writes, HoldsAlone};
+ghost use Rattle.dw_aranges.specs.Texts.{set_text, set_size, sets_text, sets_size};
+ghost use Rattle.dw_aranges.specs.Texts.{Writes, HoldsAlone};
 ghost use Rattle.dw_aranges.specs.Reading.{sets_read};
 
-use crate::range::AddressRange;
+use crate::range::RangeDescriptor;
 use crate::set::ArangeSet;
 use crate::table::ArangeTable;
 use dw_base::{Error, Format, Result, SectionId};
@@ -122,7 +124,7 @@ fn write_length<W: Writer>(w: &mut W, format: Format, length: u128) -> Result<()
 }
 
 /// Writes ranges, without the pair of zeros that ends them.
-fn write_ranges<W: Writer>(ranges: &[AddressRange], w: &mut W, size: u8) -> Result<()>
+fn write_ranges<W: Writer>(ranges: &[RangeDescriptor], w: &mut W, size: u8) -> Result<()>
     requires wide { IsTrue (is_width size) }
     requires fit { IsTrue (list_all (is_range size) ranges.now) }
     ensures ok { OnOk result (Adds (W.meaning w.old) (W.meaning w.new)
@@ -136,7 +138,7 @@ fn write_ranges<W: Writer>(ranges: &[AddressRange], w: &mut W, size: u8) -> Resu
 }
 
 /// Writes a range.
-fn write_range<W: Writer>(range: &AddressRange, w: &mut W, size: u8) -> Result<()>
+fn write_range<W: Writer>(range: &RangeDescriptor, w: &mut W, size: u8) -> Result<()>
     requires wide { IsTrue (is_width size) }
     requires fits { IsTrue (is_range size range.now) }
     ensures ok { OnOk result (Adds (W.meaning w.old) (W.meaning w.new)
