@@ -4,4 +4,5 @@ pub mod WriteSteps
 pub mod TextSteps
 pub mod FindSteps
 pub mod Again
+pub mod UnitSteps
 mod Worked

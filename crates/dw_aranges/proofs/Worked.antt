@@ -8,6 +8,8 @@ use Rattle.dw_writer.specs.Texts.{zeros}
 use Rattle.dw_aranges.specs.Sets.{RangeSet}
 use Rattle.dw_aranges.specs.Bytes.{padding, rest_bytes, content_bytes, set_bytes, aranges_bytes}
 use Rattle.dw_aranges.specs.Reading.{range_of, range_at, ranges_up_to, fields_read, set_read, sets_up_to, sets_read}
+use Rattle.dw_entry_ranges.specs.declared.range.AddressRange.{AddressRange}
+use Rattle.dw_aranges.specs.Covers.{is_addressed, descriptors_of}
 use Rattle.dw_aranges.specs.Find.{units_at}
 
 -- a unit at 0 with sixteen bytes at 0x1000, in addresses of 8 bytes
@@ -65,3 +67,11 @@ again = record one { ranges = range_of 0x100f 2 ∷ [] }
 
 found : (units_at 0x100f (one ∷ wide ∷ again ∷ []) ≡ 0 ∷ []) × (units_at 0x1003 (one ∷ wide ∷ again ∷ []) ≡ 0 ∷ 0x20 ∷ []) × (units_at 0x1010 (one ∷ wide ∷ []) ≡ [])
 found = (refl, refl, refl)
+
+-- a list's ranges: one of length 0 is left out, one whose end is below its begin isn't addressed, nor is one that ends past
+-- the last address
+abbrev range : ℕ → ℕ → AddressRange
+range begin end = record { begin = begin; end = end }
+
+covers : (descriptors_of (range 0x1010 0x1020 ∷ range 8 8 ∷ range 0 1 ∷ []) ≡ range_of 0x1010 0x10 ∷ range_of 0 1 ∷ []) × (is_addressed 8 (range 16 8) ≡ false) × (is_addressed 1 (range 16 0x100) ≡ false) × (is_addressed 1 (range 16 0xff) ≡ true)
+covers = (refl, refl, refl, refl)

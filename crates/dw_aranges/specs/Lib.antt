@@ -4,3 +4,5 @@ pub mod Causes
 pub mod Texts
 pub mod Reading
 pub mod Find
+pub mod Covers
+pub mod Found

@@ -6,6 +6,7 @@ mod range;
 mod read;
 mod set;
 mod table;
+mod units;
 mod write;
 
 pub use range::RangeDescriptor;

@@ -80,7 +80,8 @@ impl ArangeSet {
         ensures err { IfErr result (RangeRefused self.old range) }
         ensures kept { OnErr result (self.new ≡ self.old) }
     {
-        if !fits(self.address_size, range.address) || !fits(self.address_size, range.length) {
+        let size = self.address_size;
+        if !fits(size, range.address as u128) || !fits(size, range.length as u128) {
             return Err(Error::ValueTooLarge);
         }
         if range.length != 0 {
@@ -136,7 +137,7 @@ pub(crate) fn is_width(size: u8) -> bool
 }
 
 /// Whether a number fits so many bytes.
-fn fits(size: u8, number: u64) -> bool
+pub(crate) fn fits(size: u8, number: u128) -> bool
     requires { IsTrue (is_width size) }
     ensures { result ≡ fits size number }
 {
@@ -144,6 +145,6 @@ fn fits(size: u8, number: u64) -> bool
         1 => number <= 0xff,
         2 => number <= 0xffff,
         4 => number <= 0xffff_ffff,
-        _ => true,
+        _ => number <= 0xffff_ffff_ffff_ffff,
     }
 }
