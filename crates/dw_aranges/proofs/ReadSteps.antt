@@ -2,8 +2,9 @@
 use Rattle.std.proofs.Common.{◌≡◌, ◌∙◌, sym, ap, subst, ℕ, zero, suc, ◌+◌, ◌<◌, ◌≤◌, List, [], ◌∷◌, ◌++◌, length, take, drop, Option, Some, None, Bool, true, false, not, Result, Ok, Err, IsTrue, refl, arith, append_assoc, length-drop, nat_le}
 use Rattle.std.proofs.lemmas.Bool.{leb-true}
 use borrow.Author.Tests.{ne_eqb, eq-eqb}
-use Rattle.dw_base.specs.Numbers.{◌>>=◌, when, bytes_at, number_at, value_of, word_of, is_width, initial_length_at}
+use Rattle.dw_base.specs.Numbers.{◌>>=◌, when, bytes_at, number_at, value_of, word_of, is_width, initial_length_at, length_size}
 use Rattle.dw_base.specs.declared.common.Format.{Format}
+use Rattle.dw_base.specs.declared.common.Format.TheVariants.{Dwarf32, Dwarf64}
 use Rattle.dw_base.proofs.NumberLaws.{bind_parts, when_same}
 use Rattle.dw_read.specs.Reading.{Reading, Reads, left}
 use Rattle.dw_read.specs.Reasons.{◌=>>◌, bytes_read, number_read, initial_length_read}
@@ -143,6 +144,10 @@ unfolding fields_read
 whole_fields big f v u n g bs r s t x q rest h z k l w m y p = rw (h, eq-eqb v 2 z, k, l, w, m, eq-eqb g 0 y, p) refl
 
 -- Sets
+
+pub length_positive : (f : Format) → 0 < length_size f
+length_positive Dwarf32 = omega arith
+length_positive Dwarf64 = omega arith
 
 pub length_took : (old mid : Reading) (f : Format) (n : ℕ) → Reads (Format × ℕ) (initial_length_at old.is_big) old mid (f, n) → initial_length_read old.is_big (left old) ≡ Ok ((f, n), left mid)
 length_took old mid f n h = read_is (Format × ℕ) (initial_length_at old.is_big) (initial_length_read old.is_big) (left old) ((f, n), left mid) (initial_length_law old.is_big) h.value

@@ -11,7 +11,7 @@ use Rattle.dw_base.proofs.NumberLaws.{length-num}
 use Rattle.dw_writer.specs.Texts.{Text, followed, num_text}
 use Rattle.dw_writer.specs.SectionTexts.{offset_text}
 use Rattle.dw_writer.specs.Meaning.{Meaning, Layout, IsSameWriter, Adds, Appends, start_of}
-use Rattle.dw_writer.specs.Causes.{BytesRefused, offset_fits}
+use Rattle.dw_writer.specs.Causes.{BytesRefused, offset_fits, LengthRefused, NumberRefused}
 use Rattle.dw_writer.proofs.FaultLaws.{HasRisen-from}
 use Rattle.dw_writer.proofs.Steps.{IsSameWriter-trans, Adds-appends, Appends-then, Appends-by, Appends-as}
 use Rattle.dw_writer.proofs.Parts.{Adds-none}
@@ -92,6 +92,21 @@ pub bytes_refused : (a b c : Meaning) (f : Error → Bool) (e : Error) → IsSam
 bytes_refused a b c f errors.NoMemory same h = tt
 bytes_refused a b c f errors.WriteFault same h = HasRisen-from a b c same.faults h
 bytes_refused a b c f e same h = absurd h
+
+-- a set is refused for its length
+pub length_refused : (a b : Meaning) (plain : Bool) (s : RangeSet) (n : ℕ) (e : Error) → n ≡ length (content_bytes false s) → LengthRefused s.format n (BytesRefused a b) e → Refused a b (set_fails plain s) e
+length_refused a b plain s n errors.InitialLengthOverflow size h = ap not (subst (λ k. IsFalse (length_fits s.format k)) size h)
+length_refused a b plain s n errors.NoMemory size h = tt
+length_refused a b plain s n errors.WriteFault size h = h.1
+length_refused a b plain s n e size h = absurd h.1
+
+-- and for its unit's place
+pub place_refused : (a c d : Meaning) (s : RangeSet) (e : Error) → IsSameWriter a c → NumberRefused (word_of s.format) (offset_fits c.is_plain (word_of s.format) s.unit) (BytesRefused c d) e → Refused a d (set_fails a.is_plain s) e
+place_refused a c d s (errors.UnsupportedWordSize n) same h = absurd (let x : true ≡ false = sym (word_is_width s.format) ∙ h.1 in cc)
+place_refused a c d s errors.ValueTooLarge same h = ap not (subst (λ k. IsFalse (offset_fits k (word_of s.format) s.unit)) same.kind h.1)
+place_refused a c d s errors.NoMemory same h = tt
+place_refused a c d s errors.WriteFault same h = HasRisen-from a c d same.faults h.2
+place_refused a c d s e same h = absurd h.2
 
 -- the last call of a set's writes
 pub set_writes : (r : Result (Unit {0}) Error) (a b c d e : Meaning) (s : RangeSet) (n : ℕ) → n ≡ length (content_bytes false s) → Adds a b (escape_of s.format ++ num a.is_big (word_of s.format) n) → IsTrue (length_fits s.format n) → Adds b c (num b.is_big 2 2) →

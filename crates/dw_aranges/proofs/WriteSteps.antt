@@ -1,19 +1,19 @@
 -- What writes of the parts of sets come to.
-use Rattle.std.proofs.Common.{◌≡◌, ◌∙◌, sym, ap, subst, ℕ, zero, suc, ◌+◌, ◌*◌, ◌<◌, ◌≤◌, Bool, List, [], ◌∷◌, ◌++◌, length, take, drop, get_or, refl, arith, IsTrue, length-append}
+use Rattle.std.proofs.Common.{◌≡◌, ◌∙◌, sym, ap, subst, ℕ, zero, suc, ◌+◌, ◌*◌, ◌<◌, ◌≤◌, Bool, List, [], ◌∷◌, ◌++◌, length, take, drop, get_or, refl, arith, IsTrue, length-append, true, false, ◌&&◌}
 use Rattle.std.specs.List.{flat_map, list_all}
 use Rattle.std.proofs.lemmas.List.{take_more, flat_map_more, at_drop_more, at_drop_all}
 use Rattle.std.proofs.Math.Nat.{mul-add}
-use Rattle.dw_base.specs.Numbers.{num, word_of}
+use Rattle.dw_base.specs.Numbers.{num, word_of, is_width, fits}
 use Rattle.dw_base.specs.declared.error.Error.{Error}
 use Rattle.dw_base.specs.declared.error.Error.TheVariants as errors
 use Rattle.dw_base.proofs.NumberLaws.{length-num}
 use Rattle.dw_writer.specs.Texts.{zeros}
 use Rattle.dw_writer.specs.Meaning.{Meaning, IsSameWriter, Adds}
-use Rattle.dw_writer.specs.Causes.{BytesRefused}
+use Rattle.dw_writer.specs.Causes.{BytesRefused, NumberRefused}
 use Rattle.dw_writer.proofs.FaultLaws.{HasRisen-from}
 use Rattle.dw_writer.proofs.Steps.{Adds-then}
 use Rattle.dw_aranges.specs.declared.range.RangeDescriptor.{RangeDescriptor}
-use Rattle.dw_aranges.specs.Sets.{RangeSet}
+use Rattle.dw_aranges.specs.Sets.{RangeSet, range_fits, is_range}
 use Rattle.dw_aranges.specs.Bytes.{padding, range_bytes, rest_bytes, content_bytes}
 
 pub take-zeros : (n m : ℕ) → n ≤ m → take n (zeros m) ≡ zeros n
@@ -30,6 +30,27 @@ pub refused_later : (a b c : Meaning) → IsSameWriter a b → (e : Error) → B
 refused_later a b c same errors.NoMemory h = h
 refused_later a b c same errors.WriteFault h = HasRisen-from a b c same.faults h
 refused_later a b c same e h = absurd h
+
+-- a number that fits is refused as its bytes are
+pub number_refused : (a b : Meaning) (w : ℕ) (fit : Bool) → IsTrue (is_width w) → IsTrue fit → (e : Error) → NumberRefused w fit (BytesRefused a b) e → BytesRefused a b e
+number_refused a b w fit width fits (errors.UnsupportedWordSize n) h = absurd (let x : true ≡ false = sym width ∙ h.1 in cc)
+number_refused a b w fit width fits errors.ValueTooLarge h = absurd (let x : true ≡ false = sym fits ∙ h.1 in cc)
+number_refused a b w fit width fits e h = h.2
+
+and_left : (a b : Bool) → IsTrue (a && b) → IsTrue a
+and_left true b h = refl
+and_left false b h = h
+
+and_right : (a b : Bool) → IsTrue (a && b) → IsTrue b
+and_right true b h = h
+and_right false b h = absurd (let e : false ≡ true = h in cc)
+
+-- both numbers of a range fit
+pub address_fits : (w : ℕ) (r : RangeDescriptor) → IsTrue (is_range w r) → IsTrue (fits w r.address)
+address_fits w r h = and_left (fits w r.address) (fits w r.length) (and_left (range_fits w r) _ h)
+
+pub length_fits : (w : ℕ) (r : RangeDescriptor) → IsTrue (is_range w r) → IsTrue (fits w r.length)
+length_fits w r h = and_right (fits w r.address) (fits w r.length) (and_left (range_fits w r) _ h)
 
 -- what holds of all holds of each
 pub each_of : {A : Type 0} (p : A → Bool) (xs : List A) (i : ℕ) (x : A) → IsTrue (list_all p xs) → i < length xs → x ≡ get_or xs i x → IsTrue (p x)

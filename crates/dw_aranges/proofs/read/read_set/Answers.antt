@@ -1,10 +1,11 @@
-use Rattle.std.proofs.Common.{◌≡◌, ◌∙◌, ap, subst, Bool, Ok, Err, inr}
+use Rattle.dw_base.specs.Numbers.{length_size}
+use Rattle.std.proofs.Common.{◌≡◌, ◌∙◌, ap, subst, Bool, Ok, Err, inr, inl, ◌+◌, arith}
 use Rattle.std.proofs.lemmas.Result.{err_from_is_err_and}
 use Rattle.dw_read.specs.Reading.{Reading, left}
-use Rattle.dw_read.proofs.Lefts.{same_order, passes_then}
+use Rattle.dw_read.proofs.Lefts.{same_order, passes_then, shorter}
 use Rattle.dw_read.proofs.HeaderParts.{bytes_took}
 use Rattle.dw_aranges.specs.Reading.{fields_read, ranges_in}
-use Rattle.dw_aranges.proofs.ReadSteps.{length_took, set_no_length, set_cut, set_no_fields, whole_set}
+use Rattle.dw_aranges.proofs.ReadSteps.{length_positive, length_took, set_no_length, set_cut, set_no_fields, whole_set}
 use Rattle.dw_aranges.proofs.read.read_set.Goals as goal
 
 pub returns-in_err-length-clause-err : goal.returns-in_err-length-clause-err
@@ -45,3 +46,17 @@ returns-clause-ok g c =
       passes = passes_then _ _ _ _ _ c.in_ok-length.ensures.passes c.in_ok-content.ensures.ok;
       value = rw ranges (whole_set _ _ _ _ _ _ _ _ _ _ start content fields);
     }
+
+pub returns-in_err-ranges-clause-err : goal.returns-in_err-ranges-clause-err
+returns-in_err-ranges-clause-err g c =
+    let p = err_from_is_err_and c.from_residual-in_err-ranges.result c.from_residual-in_err-ranges.ensures.1 in
+    rw (p.1, p.2) (inl c.in_err-ranges.ensures.err)
+
+pub returns-clause-shorter : goal.returns-clause-shorter
+returns-clause-shorter g c =
+    let reading = g.R.Reader.reading in
+    let is = g.met.R.Reader.is_reading in
+    let passes = passes_then _ _ _ _ _ c.in_ok-length.ensures.passes c.in_ok-content.ensures.ok in
+    let fewer = shorter (length_size c.in_ok-length.format + c.in_ok-length.length) (reading c.args.input.now) (reading c.split.new.self) (is c.args.input.now) (is c.split.new.self) passes in
+    let some = length_positive c.in_ok-length.format in
+    omega arith
