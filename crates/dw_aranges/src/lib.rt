@@ -1,5 +1,5 @@
-//! `.debug_aranges`: which units have code or data at an address (DWARF 5, 6.1.2). The section is
-//! built as a table, written, read and searched.
+//! `.debug_aranges`: which units have code or data at an address (DWARF 5, 6.1.2). The section is a
+//! table, which is built by hand or from the units of a file, written, read and searched.
 #![tactic(auto)]
 
 mod range;
