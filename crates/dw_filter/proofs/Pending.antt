@@ -1,5 +1,5 @@
 -- Expressions that are read side by side: one within an operation is read to its end before what follows the operation.
-use Rattle.std.proofs.Common.{◌≡◌, ◌∙◌, sym, ap, subst, ℕ, zero, suc, ◌+◌, ◌<◌, ◌≤◌, List, [], ◌∷◌, ◌++◌, length, Bool, true, false, Option, Some, None, Ok, ◌⊎◌, inl, inr, ⊎_elim, refl, append_assoc, append-nil, arith}
+use Rattle.std.proofs.Common.{◌≡◌, ◌∙◌, sym, ap, subst, ℕ, zero, suc, ◌+◌, ◌<◌, ◌≤◌, List, [], ◌∷◌, ◌++◌, length, Bool, true, false, Option, Some, None, Result, Ok, Err, OnOk, ◌⊎◌, inl, inr, ⊎_elim, refl, append_assoc, append-nil, arith}
 use Rattle.std.specs.List.{sum_by}
 use Rattle.std.proofs.lemmas.List.Sums.{sum_by-append}
 use Rattle.dw_base.specs.declared.common.Encoding.{Encoding}
@@ -7,16 +7,21 @@ use Rattle.dw_base.specs.declared.offsets.UnitSectionOffset.{UnitSectionOffset}
 use Rattle.dw_read.specs.Reading.{Reading, IsReading, left}
 use Rattle.dw_read.specs.declared.value.Expression.{Expression}
 use Rattle.dw_read.proofs.Lefts.{same_order}
+use Rattle.dw_read_units.specs.declared.unit_ref.UnitRef.{UnitRef}
 use Rattle.dw_sources.specs.OperationIters.{PassesOperation, ReadsOperation, begins}
 use Rattle.dw_sources.specs.OperationTable.{operation_at}
 use Rattle.dw_sources.specs.OperationViews.{operation_of, HoldsParts, IsWithin}
 use Rattle.dw_sources.specs.Operations.{Operation, EntryValue}
+use Rattle.dw_sources.specs.RawListIters.{encoding_in}
+use Rattle.dw_sources.specs.declared.convert_error.ConvertError.{ConvertError}
 use Rattle.dw_sources.specs.declared.operation.Operation.{Operation as HeldOperation}
 use Rattle.dw_sources.specs.declared.operation.Operation.TheVariants as held
 use Rattle.dw_sources.specs.declared.operation_iter.OperationIter.{OperationIter}
 use Rattle.dw_sources.proofs.Progress.{fewer_left}
-use Rattle.dw_filter.specs.PlaceViews.{NextOperation, held_within, begun_in}
+use Rattle.dw_filter.specs.NextNames.{Names, IsStuck, ReadsNext, begun_in}
+use Rattle.dw_filter.specs.PlaceViews.{bounds_of, held_within}
 use Rattle.dw_filter.specs.Places.{UnitBounds, place_named, expression_within, if_any, places_of, places_from, places_up_to, expression_places}
+use Rattle.dw_filter.specs.declared.expression_places.Named.{Named}
 use Rattle.dw_filter.proofs.Within.{operation_leaves, no_operation}
 
 nothing_left : (bytes : List ℕ) → length bytes ≡ 0 → bytes ≡ []
@@ -34,15 +39,6 @@ module _ (u : UnitBounds) (big : Bool) (e : Encoding) where
   unfolding places_up_to
   named_none zero bytes h = refl
   named_none (suc n) bytes h = ap (places_from u big e (places_up_to u big e n)) h
-
-module _ (R E : Type 0) (reading : R → Reading) where
-  -- the next operation, by what reading it answered
-  pub next_of : (old new : OperationIter R E) (o : Option (HeldOperation R E)) → ReadsOperation reading old new (Ok o) → NextOperation reading old new o
-  next_of old new None h = λ working. ⊎_elim
-      (λ (f : old.has_failed ≡ true). absurd (cc))
-      (λ (z : length (left (reading old.input)) ≡ 0). ap (operation_at (reading old.input).is_big old.encoding) (nothing_left (left (reading old.input)) z) ∙ no_operation (reading old.input).is_big old.encoding)
-      h.1
-  next_of old new (Some x) h = h
 
 module _ (R E : Type 0) (reading : R → Reading) (e : Encoding) where
   -- an operation has an expression within it, or none
@@ -141,7 +137,7 @@ module _ (R E : Type 0) (reading : R → Reading) (e : Encoding) where
           }
 
       -- no operation can be read
-      pub stopped : NextOperation reading old new None → Progress rest before found whole
+      stopped : (old.has_failed ≡ false → operation_at (reading old.input).is_big old.encoding (left (reading old.input)) ≡ None) → Progress rest before found whole
       stopped h = dropped
           (subst (λ (c : Encoding). operation_at big c (left (reading old.input)) ≡ None) taken.stands.encoding
           (subst (λ (b : Bool). operation_at b old.encoding (left (reading old.input)) ≡ None) taken.stands.order (h taken.stands.working)))
@@ -161,7 +157,7 @@ module _ (R E : Type 0) (reading : R → Reading) (e : Encoding) where
         inner_leaves w = operation_leaves big e (left (reading old.input)) (left (reading w.inner.0)) (left (reading new.input)) (value ∙ ap (λ (x : Operation). Some (x, left (reading new.input))) w.is)
 
         -- less is left to be read
-        pub lighter : (pushed pending' : List (OperationIter R E)) → pushed ≡ rest ++ new ∷ [] → pending' ≡ pushed ++ begun_in e (held_within o) → weight pending' < weight pending
+        lighter : (pushed pending' : List (OperationIter R E)) → pushed ≡ rest ++ new ∷ [] → pending' ≡ pushed ++ begun_in e (held_within o) → weight pending' < weight pending
         lighter pushed pending' k h =
             let f : OperationIter R E → ℕ = λ i. length (left (reading i.input)) + 1 in
             let a : weight pending ≡ weight rest + weight (old ∷ []) = ap weight last ∙ sum_by-append f rest (old ∷ []) in
@@ -220,5 +216,57 @@ module _ (R E : Type 0) (reading : R → Reading) (e : Encoding) where
                   ∙ p.together;
             }
 
-        pub went_on : (pushed pending' : List (OperationIter R E)) (found' : List UnitSectionOffset) → pushed ≡ rest ++ new ∷ [] → pending' ≡ pushed ++ begun_in e (held_within o) → found' ≡ found ++ if_any (place_named u (operation_of reading o)) → Progress pending' before found' whole
+        went_on : (pushed pending' : List (OperationIter R E)) (found' : List UnitSectionOffset) → pushed ≡ rest ++ new ∷ [] → pending' ≡ pushed ++ begun_in e (held_within o) → found' ≡ found ++ if_any (place_named u (operation_of reading o)) → Progress pending' before found' whole
         went_on pushed pending' found' k h f = passed taken.n refl pending' found' (h ∙ ap (λ (xs : List (OperationIter R E)). xs ++ begun_in e (held_within o)) k) f
+
+module _ (R E : Type 0) (reading : R → Reading) (unit : UnitRef R E) (big : Bool) (pending rest pending' : List (OperationIter R E)) (old : OperationIter R E) (before found found' whole : List UnitSectionOffset) where
+  abbrev Known : List (OperationIter R E) → List UnitSectionOffset → Type 0
+  Known xs ys = Progress R E reading (encoding_in unit) big (bounds_of reading unit) xs before ys whole
+
+  -- what is known once the next operation was read
+  pub known_next : ((r : R) → IsReading (reading r)) → pending ≡ rest ++ old ∷ [] → Known pending found → ReadsNext reading unit old rest pending' found found' → Known pending' found'
+  known_next is last p (inl n) =
+      went_on R E reading (encoding_in unit) big (bounds_of reading unit) pending rest old n.new last before found whole p n.o n.passes (is old.input) (is n.new.input) n.again pending' found' n.behind n.pends n.adds
+  known_next is last p (inr n) =
+      subst (λ (xs : List (OperationIter R E)). Known xs found') (sym n.pends)
+      (subst (λ (ys : List UnitSectionOffset). Known rest ys) (sym n.adds)
+      (stopped R E reading (encoding_in unit) big (bounds_of reading unit) pending rest old old last before found whole p n.none))
+
+  -- and that less is left to be read
+  pub less_next : ((r : R) → IsReading (reading r)) → pending ≡ rest ++ old ∷ [] → Known pending found → ReadsNext reading unit old rest pending' found found' → weight R E reading (encoding_in unit) pending' < weight R E reading (encoding_in unit) pending
+  less_next is last p (inl n) =
+      lighter R E reading (encoding_in unit) big (bounds_of reading unit) pending rest old n.new last before found whole p n.o n.passes (is old.input) (is n.new.input) n.again pending' n.behind n.pends
+  less_next is last p (inr n) =
+      let f : OperationIter R E → ℕ = λ i. length (left (reading i.input)) + 1 in
+      omega (arith, sum_by-append f rest (old ∷ []), ap (weight R E reading (encoding_in unit)) last, ap (weight R E reading (encoding_in unit)) n.pends)
+
+module _ (R E : Type 0) (reading : R → Reading) (unit : UnitRef R E) (old new : OperationIter R E) where
+  -- what an operation names that was read
+  pub names_some : (x : Option (HeldOperation R E)) (o : HeldOperation R E) (n : Named R E) → ReadsOperation reading old new (Ok x) → x ≡ Some o
+      → n.place ≡ place_named (bounds_of reading unit) (operation_of reading o) → n.within ≡ held_within o → Names reading unit old new n
+  names_some x o n read is place within = record { o = o; passes = subst (λ (y : Option (HeldOperation R E)). ReadsOperation reading old new (Ok y)) is read; place = place; within = within }
+
+  -- no byte was left
+  pub names_none : (x : Option (HeldOperation R E)) → ReadsOperation reading old new (Ok x) → x ≡ None → IsStuck reading unit old
+  names_none x read is working =
+      let over : ReadsOperation reading old new (Ok None) = subst (λ (y : Option (HeldOperation R E)). ReadsOperation reading old new (Ok y)) is read in
+      ⊎_elim
+      (λ (f : old.has_failed ≡ true). absurd (cc))
+      (λ (z : length (left (reading old.input)) ≡ 0). ap (operation_at (reading old.input).is_big old.encoding) (nothing_left (left (reading old.input)) z) ∙ no_operation (reading old.input).is_big old.encoding)
+      over.1
+
+  -- what was read is pending and added
+  pub reads_on : (r : Result (Unit {0}) ConvertError) (n : Named R E) (c : Encoding) (pending again pending' : List (OperationIter R E)) (places places' : List UnitSectionOffset)
+      → Names reading unit old new n → c ≡ encoding_in unit → again ≡ pending ++ new ∷ [] → pending' ≡ again ++ begun_in c n.within
+      → OnOk r (places' ≡ places ++ if_any n.place) → OnOk r (ReadsNext reading unit old pending pending' places places')
+  reads_on (Ok x) n c pending again pending' places places' names k behind pends adds =
+      inl (record {
+        new = new;
+        o = names.o;
+        passes = names.passes;
+        again = again;
+        behind = behind;
+        pends = pends ∙ ap (λ (d : Encoding). again ++ begun_in d n.within) k ∙ ap (λ (w : Option (Expression R E)). again ++ begun_in (encoding_in unit) w) names.within;
+        adds = adds ∙ ap (λ (w : Option UnitSectionOffset). places ++ if_any w) names.place;
+      })
+  reads_on (Err x) n c pending again pending' places places' names k behind pends adds = tt

@@ -1,4 +1,5 @@
 pub mod Dependencies
 pub mod Kept
+pub mod NextNames
 pub mod PlaceViews
 pub mod Places

@@ -1,6 +1,5 @@
 -- What units, expressions and lists that readers stand for name.
-use Rattle.std.specs.Prelude.{◌≡◌, ℕ, false, List, [], ◌∷◌, ◌++◌, length, Option, Some, None}
-use Rattle.dw_base.specs.declared.common.Encoding.{Encoding}
+use Rattle.std.specs.Prelude.{◌≡◌, ℕ, List, [], ◌++◌, length, Option, Some, None}
 use Rattle.dw_base.specs.declared.offsets.UnitSectionOffset.{UnitSectionOffset}
 use Rattle.dw_read.specs.Reading.{Reading, left}
 use Rattle.dw_read.specs.UnitHeaders.{header_size}
@@ -8,20 +7,21 @@ use Rattle.dw_read.specs.declared.error.ReadError.{ReadError}
 use Rattle.dw_read.specs.declared.value.Expression.{Expression}
 use Rattle.dw_read_units.specs.declared.unit_ref.UnitRef.{UnitRef}
 use Rattle.dw_sources.specs.ConvertErrors.{from_read}
-use Rattle.dw_sources.specs.OperationIters.{begins, PassesOperation}
-use Rattle.dw_sources.specs.OperationTable.{operation_at}
 use Rattle.dw_sources.specs.RawListIters.{encoding_in, locations_section}
 use Rattle.dw_sources.specs.declared.convert_error.ConvertError.{ConvertError}
 use Rattle.dw_sources.specs.declared.location_item.RawLocListEntry.{RawLocListEntry}
 use Rattle.dw_sources.specs.declared.location_item.RawLocListEntry.TheVariants as held
 use Rattle.dw_sources.specs.declared.operation.Operation.{Operation as HeldOperation}
 use Rattle.dw_sources.specs.declared.operation.Operation.TheVariants as operation
-use Rattle.dw_sources.specs.declared.operation_iter.OperationIter.{OperationIter}
 use Rattle.dw_filter.specs.Places.{UnitBounds, ListPlaces, expression_places, list_at}
 
 -- where a unit lies in .debug_info
 abbrev pub bounds_of : {R E : Type 0} → (R → Reading) → UnitRef R E → UnitBounds
-bounds_of reading u = record { start = u.unit.now.header.offset.0; header = header_size reading u.unit.now.header; body = length (left (reading u.unit.now.header.body)) }
+bounds_of reading u = record {
+  start = u.unit.now.header.offset.0;
+  header = header_size reading u.unit.now.header;
+  body = length (left (reading u.unit.now.header.body));
+}
 
 -- the places that an expression of a unit names
 abbrev pub named_by : {R E : Type 0} → (R → Reading) → UnitRef R E → Expression R E → List UnitSectionOffset
@@ -65,14 +65,3 @@ pub record AddsFaultyList (old new : List UnitSectionOffset) (list : ListPlaces)
 abbrev pub held_within : {R E : Type 0} → HeldOperation R E → Option (Expression R E)
 held_within (operation.EntryValue x) = Some x
 held_within o = None
-
--- its operations, from the first on
-abbrev pub begun_in : {R E : Type 0} → Encoding → Option (Expression R E) → List (OperationIter R E)
-begun_in e None = []
-begun_in e (Some x) = begins x e ∷ []
-
--- the next operation of an expression, or None where there is none that can be read
-abbrev pub NextOperation : {R E : Type 0} → (R → Reading) → OperationIter R E → OperationIter R E → Option (HeldOperation R E) → Type 0
-NextOperation reading old new None =
-    old.has_failed ≡ false → operation_at (reading old.input).is_big old.encoding (left (reading old.input)) ≡ None
-NextOperation reading old new (Some o) = PassesOperation reading old new o

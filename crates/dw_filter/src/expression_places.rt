@@ -1,15 +1,13 @@
 //! The entries that an expression names, with those of the expressions within it (DWARF 5, 2.5).
 
-ghost use Rattle.std.specs.Prelude.{◌≡◌, ◌++◌, OnOk, IfErr};
-ghost use Rattle.dw_sources.specs.OperationViews.{operation_of};
+ghost use Rattle.std.specs.Prelude.{◌≡◌, [], ◌++◌, OnOk, IfErr};
 ghost use Rattle.dw_sources.specs.declared.convert_error.ConvertError.TheVariants.{NoMemory};
-ghost use Rattle.dw_sources.specs.RawListIters.{encoding_in};
-ghost use Rattle.dw_filter.specs.PlaceViews.{bounds_of, named_by};
-ghost use Rattle.dw_filter.specs.PlaceViews.{NextOperation, held_within, begun_in};
-ghost use Rattle.dw_filter.specs.Places.{if_any, place_named};
+ghost use Rattle.dw_filter.specs.NextNames.{ReadsNext, NamesNext, begun_in};
+ghost use Rattle.dw_filter.specs.PlaceViews.{named_by, held_within};
+ghost use Rattle.dw_filter.specs.Places.{if_any};
 
 use crate::operation_places::place_named;
-use dw_base::UnitSectionOffset;
+use dw_base::{Encoding, UnitSectionOffset};
 use dw_read::{Expression, Reader};
 use dw_read_units::UnitRef;
 use dw_sources::{ConvertResult, Operation, OperationIter};
@@ -40,50 +38,74 @@ pub fn add_expression_places<R: Reader>(
         (places.new.items ≡ places.old.items ++ named_by R.reading unit.entry expression) }
     ensures err { IfErr result (λ e. e ≡ NoMemory) }
 {
-    // The expressions that aren't read to their end, each within the one before it: input may nest
-    // them as deep as it has bytes, so they take memory and no stack.
     let mut pending = Vec::new(alloc);
-    pending.push(OperationIter::new(expression, unit.encoding()))?;
-    'walk: while let Some(mut operations) = pending.pop() {
-        if let Some(operation) = next_operation(&mut operations) {
-            pending.push(operations)?;
-            add_operation_places(unit, operation, &mut pending, places)?;
-        }
-    }
-    Ok(())
+    read_all(unit, expression, &mut pending, places)
 }
 
-/// The next operation of an expression. None comes at its end, and where the next one can't be
-/// read.
-fn next_operation<R: Reader>(operations: &mut OperationIter<R>) -> Option<Operation<R>>
-    ensures { NextOperation R.reading operations.old operations.new result }
-{
-    match operations.next() {
-        Ok(operation) => operation,
-        Err(_) => None,
-    }
-}
-
-/// Adds the place that an operation names, and the expression within it to those that are pending.
-fn add_operation_places<R: Reader>(
+/// Reads an expression with those within it. Pending are those that aren't read to their end, each
+/// within the one before it; none is before. Input may nest them as deep as it has bytes, so they
+/// take memory and no stack.
+fn read_all<R: Reader>(
     unit: UnitRef<'_, R>,
-    operation: Operation<R>,
+    expression: Expression<R>,
     pending: &mut Vec<OperationIter<R>>,
     places: &mut Vec<UnitSectionOffset>,
 ) -> ConvertResult<()>
-    ensures places { OnOk result (places.new.items ≡ places.old.items ++ if_any
-        (place_named (bounds_of R.reading unit.entry) (operation_of R.reading operation))) }
-    ensures pending { OnOk result (pending.new.items ≡ pending.old.items
-        ++ begun_in (encoding_in unit.entry) (held_within operation)) }
+    requires { pending.old.items ≡ [] }
+    ensures ok { OnOk result
+        (places.new.items ≡ places.old.items ++ named_by R.reading unit.entry expression) }
     ensures err { IfErr result (λ e. e ≡ NoMemory) }
 {
-    if let Some(place) = place_named(unit, &operation) {
-        places.push(place)?;
-    }
-    if let Some(expression) = expression_within(operation) {
-        pending.push(OperationIter::new(expression, unit.encoding()))?;
+    pending.push(OperationIter::new(expression, unit.encoding()))?;
+    'walk: while let Some(operations) = pending.pop() {
+        read_next(unit, operations, pending, places)?;
     }
     Ok(())
+}
+
+/// Reads the next operation of an expression. The expression is pending then, and the one within
+/// the operation behind it, which is read first. Where no operation can be read, neither is.
+fn read_next<R: Reader>(
+    unit: UnitRef<'_, R>,
+    mut operations: OperationIter<R>,
+    pending: &mut Vec<OperationIter<R>>,
+    places: &mut Vec<UnitSectionOffset>,
+) -> ConvertResult<()>
+    ensures ok { OnOk result (ReadsNext R.reading unit.entry operations
+        pending.old.items pending.new.items places.old.items places.new.items) }
+    ensures err { IfErr result (λ e. e ≡ NoMemory) }
+{
+    let Some(named) = next_named(unit, &mut operations) else {
+        return Ok(());
+    };
+    pending.push(operations)?;
+    begin(named.within, unit.encoding(), pending)?;
+    add_place(named.place, places)
+}
+
+/// What an operation names: an entry, or what the expression within it does.
+#[derive(Drop)]
+struct Named<R: Reader> {
+    place: Option<UnitSectionOffset>,
+    within: Option<Expression<R>>,
+}
+
+/// What the next operation of an expression names. None comes at its end, and where the operation
+/// can't be read: what was read before counts.
+fn next_named<R: Reader>(
+    unit: UnitRef<'_, R>,
+    operations: &mut OperationIter<R>,
+) -> Option<Named<R>>
+    ensures { NamesNext R.reading unit.entry operations.old operations.new result }
+{
+    match operations.next() {
+        Ok(Some(operation)) => Some(Named {
+            place: place_named(unit, &operation),
+            within: expression_within(operation),
+        }),
+        Ok(None) => None,
+        Err(_) => None,
+    }
 }
 
 /// The expression that stands within an operation.
@@ -94,4 +116,34 @@ fn expression_within<R: Reader>(operation: Operation<R>) -> Option<Expression<R>
         Operation::EntryValue(expression) => Some(expression),
         _other => None,
     }
+}
+
+/// Adds an expression, where there is one, to those that are pending.
+fn begin<R: Reader>(
+    expression: Option<Expression<R>>,
+    encoding: Encoding,
+    pending: &mut Vec<OperationIter<R>>,
+) -> ConvertResult<()>
+    ensures ok { OnOk result
+        (pending.new.items ≡ pending.old.items ++ begun_in encoding expression) }
+    ensures err { IfErr result (λ e. e ≡ NoMemory) }
+{
+    if let Some(expression) = expression {
+        pending.push(OperationIter::new(expression, encoding))?;
+    }
+    Ok(())
+}
+
+/// Adds a place, where there is one, to others.
+fn add_place(
+    place: Option<UnitSectionOffset>,
+    places: &mut Vec<UnitSectionOffset>,
+) -> ConvertResult<()>
+    ensures ok { OnOk result (places.new.items ≡ places.old.items ++ if_any place) }
+    ensures err { IfErr result (λ e. e ≡ NoMemory) }
+{
+    if let Some(place) = place {
+        places.push(place)?;
+    }
+    Ok(())
 }

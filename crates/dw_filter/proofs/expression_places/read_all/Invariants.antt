@@ -1,7 +1,7 @@
 use Rattle.dw_sources.specs.RawListIters.{encoding_in}
 use Rattle.dw_filter.specs.PlaceViews.{bounds_of, named_by}
 use Rattle.dw_filter.proofs.Pending.{Progress, weight}
-use Rattle.dw_filter.proofs.expression_places.add_expression_places.Given as goal
+use Rattle.dw_filter.proofs.expression_places.read_all.Given as goal
 
 abbrev pub invariant-walk : goal.invariant-walk
 invariant-walk g l =
