@@ -136,7 +136,8 @@ const HELD: &[(RunTimeEndian, Trial)] = &[
         Little,
         Trial::Leaves(Left {
             calls: &[Uleb128(u64::MAX), Sleb128(i64::MIN)],
-            bytes: b"\xff\xff\xff\xff\xff\xff\xff\xff\xff\x01\x80\x80\x80\x80\x80\x80\x80\x80\x80\x7f",
+            bytes: b"\xff\xff\xff\xff\xff\xff\xff\xff\xff\x01\
+                \x80\x80\x80\x80\x80\x80\x80\x80\x80\x7f",
             records: &[],
         }),
     ),
