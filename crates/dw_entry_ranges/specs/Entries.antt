@@ -23,7 +23,7 @@ abbrev pub single : Option ℕ → Option CodeAddresses
 single None = None
 single (Some a) = Some (Single a)
 
--- the ranges of a list, and behind them those of single addresses and of low and high ones
+-- the ranges of a list, then that of a low and a high address, then that of the address with which a location begins
 abbrev pub gathered : Option (List AddressRange) → Option CodeAddresses → Option ℕ → List AddressRange
 gathered listed code location = unwrap_or listed [] ++ ranges_of code ++ ranges_of (single location)
 
