@@ -1,6 +1,8 @@
 //! A first program: the debugging information of `int x;`, built, written, and printed in hex.
 #![tactic(auto)]
 
+ghost use Rattle.std.specs.Prelude.{◌≡◌, false};
+
 use dw_dwarf::constants::*;
 use dw_dwarf::{
     AttributeValue, Bytes, Dwarf, Encoding, EndianVec, EntryMut, Format, LineProgram, LittleEndian,
@@ -15,21 +17,27 @@ fn describe_int(alloc: Global, entry: &mut EntryMut<'_>) -> Result<()> {
     entry.set(DW_AT_byte_size, AttributeValue::Data1(4))
 }
 
+/// Adds `int` and `x` to a unit that has its root alone.
+fn add_x(alloc: Global, unit: &mut Unit) -> Result<()>
+    requires new { unit.old.reserved ≡ 1 }
+    requires not_freed { unit.old.is_freed ≡ false }
+{
+    let int = unit.add(unit.root(), DW_TAG_base_type)?;
+    let x = unit.add(unit.root(), DW_TAG_variable)?;
+    let mut entry = unit.get_mut(x);
+    entry.set(DW_AT_name, AttributeValue::String(Bytes::new(alloc, b"x")?))?;
+    entry.set(DW_AT_type, AttributeValue::UnitRef(int))?;
+    describe_int(alloc, &mut unit.get_mut(int))
+}
+
 fn unit_of_x(alloc: Global) -> Result<Unit> {
     let encoding = Encoding {
         address_size: 8,
         format: Format::Dwarf32,
         version: 5,
     };
-    let name = Bytes::new(alloc, b"x")?;
     let mut unit = Unit::new(alloc, encoding, LineProgram::none())?;
-    let int = unit.add(unit.root(), DW_TAG_base_type)?;
-    let x = unit.add(unit.root(), DW_TAG_variable)?;
-    let mut entry = unit.get_mut(x);
-    entry.set(DW_AT_name, AttributeValue::String(name))?;
-    entry.set(DW_AT_type, AttributeValue::UnitRef(int))?;
-    describe_int(alloc, &mut unit.get_mut(int))?;
-    Ok(unit)
+    add_x(alloc, &mut unit).and(Ok(unit))
 }
 
 type Written = Sections<EndianVec<LittleEndian>>;
