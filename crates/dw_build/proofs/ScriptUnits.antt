@@ -21,7 +21,7 @@ use Rattle.dw_ends.specs.declared.reason.Reason.TheVariants.{OrderNotFirst, NoSu
 use Rattle.dw_entries.specs.Content.{has_zero}
 use Rattle.dw_line.specs.LinePrograms.{LineProgramValue, no_line_program, encoding_of, line_encoding_of, is_in_sequence, directories_of, file_count_of, last_offset_of}
 use Rattle.dw_line.specs.ProgramTexts.{ProgramValue, with_directory, with_file, with_begin, with_row, with_end}
-use Rattle.dw_unit.specs.UnitValue.{UnitValue, new_unit, is_reserved}
+use Rattle.dw_tree.specs.UnitValue.{UnitValue, new_unit, is_reserved}
 use Rattle.dw_build.specs.Script.{with_units, with_unit_changed, after_change, after_string, after_line_string, after_command, after_asked, after_line, after_lines, script, IsOpen, AreOpen}
 use Rattle.dw_build.specs.LineChanges.{CountsBytes, with_next_row, after_program_change, after_line_change}
 use Rattle.dw_build.specs.LocationLists.{after_location_list}

@@ -6,7 +6,7 @@ use Rattle.dw_ends.specs.declared.reason.Reason.TheVariants.{ZeroByte}
 use Rattle.dw_base.specs.declared.common.Format.TheVariants.{Dwarf32, Dwarf64}
 use Rattle.dw_base.specs.declared.endianity.RunTimeEndian.TheVariants.{Little}
 use Rattle.dw_line.specs.LinePrograms.{no_line_program}
-use Rattle.dw_unit.specs.UnitValue.{new_unit}
+use Rattle.dw_tree.specs.UnitValue.{new_unit}
 use Rattle.dw_build.specs.Script.{after_command, after_string, script}
 use Rattle.dw_build.specs.ScriptValue.{empty_script}
 

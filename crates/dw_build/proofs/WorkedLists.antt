@@ -9,7 +9,7 @@ use Rattle.dw_lists.specs.declared.location.Location.TheVariants as stored
 use Rattle.dw_script_fields.specs.declared.expression_step.ExpressionStep.TheVariants as step
 use Rattle.dw_script_fields.specs.declared.location.ScriptLocation.TheVariants as location
 use Rattle.dw_script_fields.specs.declared.operation.ScriptOperation.TheVariants as operation
-use Rattle.dw_unit.specs.UnitValue.{UnitValue, new_unit}
+use Rattle.dw_tree.specs.UnitValue.{UnitValue, new_unit}
 use Rattle.dw_build.specs.LocationLists.{after_location_list, locations_of}
 
 abbrev bare : UnitValue

@@ -5,7 +5,7 @@ use Rattle.dw_base.specs.declared.endianity.RunTimeEndian.TheVariants.{Little, B
 use Rattle.dw_ends.specs.declared.reason.Reason.TheVariants.{BadSymbol, OrderNotFirst}
 use Rattle.dw_line.specs.LinePrograms.{no_line_program}
 use Rattle.dw_script.specs.LinkLines.{parsed_link_line}
-use Rattle.dw_unit.specs.UnitValue.{new_unit}
+use Rattle.dw_tree.specs.UnitValue.{new_unit}
 use Rattle.dw_build.specs.ScriptValue.{empty_script}
 use Rattle.dw_build.specs.Sets.{sets}
 

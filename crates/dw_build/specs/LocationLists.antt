@@ -7,7 +7,7 @@ use Rattle.dw_lists.specs.declared.location.Location.TheVariants as stored
 use Rattle.dw_ends.specs.Fields.{Outcome}
 use Rattle.dw_script_fields.specs.declared.location.ScriptLocation.{ScriptLocation}
 use Rattle.dw_script_fields.specs.declared.location.ScriptLocation.TheVariants as location
-use Rattle.dw_unit.specs.UnitValue.{UnitValue}
+use Rattle.dw_tree.specs.UnitValue.{UnitValue}
 use Rattle.dw_build.specs.Expressions.{expression_of}
 
 -- an item, as lists have it

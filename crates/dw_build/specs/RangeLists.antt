@@ -7,7 +7,7 @@ use Rattle.dw_lists.specs.declared.range.Range.TheVariants as stored
 use Rattle.dw_ends.specs.Fields.{Outcome}
 use Rattle.dw_script_fields.specs.declared.range.ScriptRange.{ScriptRange}
 use Rattle.dw_script_fields.specs.declared.range.ScriptRange.TheVariants as range
-use Rattle.dw_unit.specs.UnitValue.{UnitValue}
+use Rattle.dw_tree.specs.UnitValue.{UnitValue}
 
 -- an item, as lists have it
 abbrev pub stored_range : ScriptRange → Range

@@ -14,7 +14,7 @@ use Rattle.dw_script_fields.specs.declared.value.Value.TheVariants as value
 use Rattle.dw_strings.specs.Strings.{with_string}
 use Rattle.dw_entries.specs.Entries.{EntryValue, with_changed, filled_up, with_new_child, with_sibling, with_attribute, without_attribute, without_child}
 use Rattle.dw_line.specs.LinePrograms.{no_line_program}
-use Rattle.dw_unit.specs.UnitValue.{UnitValue, new_unit, is_reserved}
+use Rattle.dw_tree.specs.UnitValue.{UnitValue, new_unit, is_reserved}
 use Rattle.dw_entries.specs.declared.value.AttributeValue.{AttributeValue}
 use Rattle.dw_entries.specs.declared.value.AttributeValue.TheVariants as stored
 use Rattle.dw_build.specs.Expressions.{expression_of}

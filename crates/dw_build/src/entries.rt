@@ -2,7 +2,7 @@
 
 ghost use Rattle.std.specs.Prelude.{◌≡◌, ◌<◌, ◌≤◌, false, IsFalse, IfOk, IfErr, OnOk};
 ghost use Rattle.dw_entries.specs.Entries.{with_sibling, without_attribute, without_child};
-ghost use Rattle.dw_unit.specs.UnitValue.{is_reserved, IsReserved};
+ghost use Rattle.dw_tree.specs.UnitValue.{is_reserved, IsReserved};
 ghost use Rattle.dw_build.specs.Script.{attribute_value, after_change, after_add, after_reserve, after_add_reserved, with_entry_changed, after_set, RefusedFor};
 
 use crate::expressions::owned_expression;

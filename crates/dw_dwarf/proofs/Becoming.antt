@@ -14,7 +14,7 @@ use Rattle.dw_entries.specs.Entries.{EntryValue, entry_at, filled_up, placed_und
 use Rattle.dw_read.specs.Reading.{Reading}
 use Rattle.dw_read.specs.Values.{is_among}
 use Rattle.dw_read_units.specs.declared.unit_ref.UnitRef.{UnitRef}
-use Rattle.dw_unit.specs.UnitValue.{UnitValue, IsReserved, with_entry}
+use Rattle.dw_tree.specs.UnitValue.{UnitValue, IsReserved, with_entry}
 use Rattle.dw_convert.specs.Attributes.{Seen}
 use Rattle.dw_convert.specs.AttributeLists.{is_dropped, kept, last_or, once_but, AreImages, AreConverted}
 use Rattle.dw_convert.specs.Tables.{Tables}

@@ -8,15 +8,15 @@ use Rattle.dw_writer.specs.Sections.{SomeHasRisen, NoFixups}
 use Rattle.dw_writer.proofs.NewLemmas.{IsEmptyWriter-from_plain}
 use Rattle.dw_writer.specs.declared.sections.Sections.{Sections}
 use Rattle.dw_line.specs.Parts.{NoCause}
-use Rattle.dw_unit.specs.Built.{Starts, at_begin}
-use Rattle.dw_unit.specs.Elsewhere.{ends_of}
-use Rattle.dw_unit.specs.Causes.{UnitsFail, RefusesAny, ReferencesFail}
-use Rattle.dw_unit.specs.Pending.{Kept, info_at, info_of, starts_of}
-use Rattle.dw_unit.specs.ReferenceFaults.{references_fail}
-use Rattle.dw_unit.specs.UnitValue.{UnitValue}
-use Rattle.dw_unit.specs.Valid.{AreWritable}
-use Rattle.dw_unit.specs.Written.{to_write}
-use Rattle.dw_unit.proofs.Faults.{because-map}
+use Rattle.dw_tree.specs.Built.{Starts, at_begin}
+use Rattle.dw_tree.specs.Elsewhere.{ends_of}
+use Rattle.dw_tree.specs.Causes.{UnitsFail, RefusesAny, ReferencesFail}
+use Rattle.dw_tree.specs.Pending.{Kept, info_at, info_of, starts_of}
+use Rattle.dw_tree.specs.ReferenceFaults.{references_fail}
+use Rattle.dw_tree.specs.UnitValue.{UnitValue}
+use Rattle.dw_tree.specs.Valid.{AreWritable}
+use Rattle.dw_tree.specs.Written.{to_write}
+use Rattle.dw_tree.proofs.Faults.{because-map}
 use Rattle.dw_unit.proofs.PendingSteps.{pending_none}
 use Rattle.dw_unit.proofs.TableLaws.{info_kept, unwritten_keeps, to_write-unwritten, units_unfailing, one_row}
 use Rattle.dw_dwarf.specs.Valid.{AreUnwritten, IsValid, IsValidAt, SomeReferenceFails, DwarfFails, DwarfRefused, found_from, found_in, empty_ends, extra_fails, settled_units}

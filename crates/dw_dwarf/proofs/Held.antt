@@ -20,15 +20,15 @@ use Rattle.dw_writer.specs.Meaning.{Model, Adds, Appends}
 use Rattle.dw_strings.specs.Strings.{string_bytes}
 use Rattle.dw_line.specs.Parts.{sizes, texts}
 use Rattle.dw_line.specs.LinePrograms.{line_program_size, line_program_text}
-use Rattle.dw_unit.specs.Built.{Built, Numbered, at_begin, at_zero, settled_at, numbered_from}
-use Rattle.dw_unit.specs.Elsewhere.{End, Ends, Elsewhere, end_of, ends_of, line_size, line_text, range_size, range_text, location_size, new_size, new_text, unit_tables, past_ends, AppendsBehind, AppendsAllRanges}
-use Rattle.dw_unit.specs.Pending.{Kept, AreInRow, units_draft, tables_of, locations_draft, info_at, info_of}
-use Rattle.dw_unit.specs.ReferenceFaults.{lists_refer_wrong, references_fail}
-use Rattle.dw_unit.specs.UnitFaults.{holes_fail}
-use Rattle.dw_unit.specs.UnitValue.{UnitValue}
-use Rattle.dw_unit.specs.Valid.{AreWritable}
-use Rattle.dw_unit.specs.Whole.{settled}
-use Rattle.dw_unit.specs.Written.{AppendsUnits, CompletesAny, to_write}
+use Rattle.dw_tree.specs.Built.{Built, Numbered, at_begin, at_zero, settled_at, numbered_from}
+use Rattle.dw_tree.specs.Elsewhere.{End, Ends, Elsewhere, end_of, ends_of, line_size, line_text, range_size, range_text, location_size, new_size, new_text, unit_tables, past_ends, AppendsBehind, AppendsAllRanges}
+use Rattle.dw_tree.specs.Pending.{Kept, AreInRow, units_draft, tables_of, locations_draft, info_at, info_of}
+use Rattle.dw_tree.specs.ReferenceFaults.{lists_refer_wrong, references_fail}
+use Rattle.dw_tree.specs.UnitFaults.{holes_fail}
+use Rattle.dw_tree.specs.UnitValue.{UnitValue}
+use Rattle.dw_tree.specs.Valid.{AreWritable}
+use Rattle.dw_tree.specs.Whole.{settled}
+use Rattle.dw_tree.specs.Written.{AppendsUnits, CompletesAny, to_write}
 use Rattle.dw_unit.proofs.Filling.{holes_lead}
 use Rattle.dw_unit.proofs.Files.{empty_tidy, resolved-empty, resolved-plain, units_held, units_resolved}
 use Rattle.dw_unit.proofs.PendingSteps.{pending_none}

@@ -9,9 +9,9 @@ use Rattle.dw_writer.specs.Resolved.{resolved}
 use Rattle.dw_writer.specs.declared.sections.Sections.{Sections}
 use Rattle.dw_writer.proofs.Steps.{Adds-appends}
 use Rattle.dw_strings.specs.Strings.{string_bytes}
-use Rattle.dw_unit.specs.Built.{Numbered, at_begin}
-use Rattle.dw_unit.specs.Elsewhere.{ends_of, AppendsAllRanges}
-use Rattle.dw_unit.specs.Pending.{AreInRow, info_of, units_draft, tables_of, locations_draft}
+use Rattle.dw_tree.specs.Built.{Numbered, at_begin}
+use Rattle.dw_tree.specs.Elsewhere.{ends_of, AppendsAllRanges}
+use Rattle.dw_tree.specs.Pending.{AreInRow, info_of, units_draft, tables_of, locations_draft}
 use Rattle.dw_unit.proofs.Files.{empty_tidy, resolved-empty, file_written}
 use Rattle.dw_dwarf.specs.DwarfValue.{DwarfValue}
 use Rattle.dw_dwarf.specs.Left.{units_of, IsLeft}

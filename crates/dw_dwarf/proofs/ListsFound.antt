@@ -11,12 +11,12 @@ use Rattle.dw_lists.specs.Tables.{IsFound, AreNumbered, no_place, ranges_in}
 use Rattle.dw_lists.proofs.Numbered.{table_numbered}
 use Rattle.dw_lists.proofs.SameSize.{ranges-wide}
 use Rattle.dw_line.specs.Parts.{texts}
-use Rattle.dw_unit.specs.Built.{at_zero}
-use Rattle.dw_unit.specs.Elsewhere.{Elsewhere, AreFound, AreAllFound, has_base_address, ranges_at, range_draft, range_size, range_text, range_places_at, past_parts, past_elsewhere}
-use Rattle.dw_unit.specs.Locations.{is_own_section}
-use Rattle.dw_unit.specs.UnitValue.{UnitValue}
-use Rattle.dw_unit.specs.Valid.{AreWritable}
-use Rattle.dw_unit.specs.Written.{past_table}
+use Rattle.dw_tree.specs.Built.{at_zero}
+use Rattle.dw_tree.specs.Elsewhere.{Elsewhere, AreFound, AreAllFound, has_base_address, ranges_at, range_draft, range_size, range_text, range_places_at, past_parts, past_elsewhere}
+use Rattle.dw_tree.specs.Locations.{is_own_section}
+use Rattle.dw_tree.specs.UnitValue.{UnitValue}
+use Rattle.dw_tree.specs.Valid.{AreWritable}
+use Rattle.dw_tree.specs.Written.{past_table}
 use Rattle.dw_dwarf.specs.Lists.{InOrder, FindsLists, FindAllLists}
 use Rattle.dw_dwarf.specs.Valid.{IsUnwritten}
 use Rattle.dw_dwarf.proofs.RangesThere.{ranges_sound}

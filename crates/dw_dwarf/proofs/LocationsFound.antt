@@ -8,14 +8,14 @@ use Rattle.dw_writer.specs.Texts.{Text}
 use Rattle.dw_lists.specs.Items.{is_five}
 use Rattle.dw_lists.specs.Tables.{IsFound, AreNumbered, offsets_from, locations_in}
 use Rattle.dw_lists.proofs.Numbered.{table_numbered}
-use Rattle.dw_unit.specs.Built.{Numbered, at_zero, settled_at, numbered_from}
-use Rattle.dw_unit.specs.Elsewhere.{Elsewhere, has_base_address, locations_at, location_size, past_parts, past_elsewhere}
-use Rattle.dw_unit.specs.Locations.{is_own_section, entry_places, location_draft, location_part, AreLocated}
-use Rattle.dw_unit.specs.Pending.{locations_draft}
-use Rattle.dw_unit.specs.UnitValue.{UnitValue}
-use Rattle.dw_unit.specs.Valid.{AreWritable}
-use Rattle.dw_unit.specs.Whole.{settled}
-use Rattle.dw_unit.specs.Written.{past_table}
+use Rattle.dw_tree.specs.Built.{Numbered, at_zero, settled_at, numbered_from}
+use Rattle.dw_tree.specs.Elsewhere.{Elsewhere, has_base_address, locations_at, location_size, past_parts, past_elsewhere}
+use Rattle.dw_tree.specs.Locations.{is_own_section, entry_places, location_draft, location_part, AreLocated}
+use Rattle.dw_tree.specs.Pending.{locations_draft}
+use Rattle.dw_tree.specs.UnitValue.{UnitValue}
+use Rattle.dw_tree.specs.Valid.{AreWritable}
+use Rattle.dw_tree.specs.Whole.{settled}
+use Rattle.dw_tree.specs.Written.{past_table}
 use Rattle.dw_dwarf.specs.Lists.{InOrder, FindsLocations, FindAllLocations}
 use Rattle.dw_dwarf.specs.Valid.{IsUnwritten}
 use Rattle.dw_dwarf.proofs.ListsFound.{all_at, AreTold, told_apart, some_is}

@@ -11,14 +11,14 @@ use Rattle.dw_entries.specs.Targets.{HaveInfoPlaces}
 use Rattle.dw_expr.proofs.ExpressionsThere.{ArePlaced}
 use Rattle.dw_lists.specs.Items.{is_five}
 use Rattle.dw_lists.proofs.There.{locations_there}
-use Rattle.dw_unit.specs.Built.{numbered_from}
-use Rattle.dw_unit.specs.Elsewhere.{Elsewhere, has_base_address, locations_plain, past_parts, past_elsewhere}
-use Rattle.dw_unit.specs.Locations.{is_own_section, entry_places, location_draft, location_part, lists_fail_in}
-use Rattle.dw_unit.specs.Pending.{locations_draft}
-use Rattle.dw_unit.specs.UnitValue.{UnitValue}
-use Rattle.dw_unit.specs.Valid.{IsWritableAt, AreWritable}
-use Rattle.dw_unit.specs.Whole.{settled}
-use Rattle.dw_unit.specs.Written.{past_table}
+use Rattle.dw_tree.specs.Built.{numbered_from}
+use Rattle.dw_tree.specs.Elsewhere.{Elsewhere, has_base_address, locations_plain, past_parts, past_elsewhere}
+use Rattle.dw_tree.specs.Locations.{is_own_section, entry_places, location_draft, location_part, lists_fail_in}
+use Rattle.dw_tree.specs.Pending.{locations_draft}
+use Rattle.dw_tree.specs.UnitValue.{UnitValue}
+use Rattle.dw_tree.specs.Valid.{IsWritableAt, AreWritable}
+use Rattle.dw_tree.specs.Whole.{settled}
+use Rattle.dw_tree.specs.Written.{past_table}
 use Rattle.dw_dwarf.specs.Valid.{IsUnwritten}
 
 -- references that have places that fit

@@ -8,18 +8,18 @@ use Rattle.dw_writer.specs.Drafts.{Info}
 use Rattle.dw_writer.specs.declared.fixup.DebugInfoFixup.{DebugInfoFixup}
 use Rattle.dw_writer.specs.Sections.{SomeHasRisen}
 use Rattle.dw_writer.specs.declared.sections.Sections.{Sections}
-use Rattle.dw_unit.specs.Elsewhere.{Elsewhere, elsewhere, ends_of, unit_tables, line_text, AppendsLine, AppendsRanges, AppendsAllRanges}
+use Rattle.dw_tree.specs.Elsewhere.{Elsewhere, elsewhere, ends_of, unit_tables, line_text, AppendsLine, AppendsRanges, AppendsAllRanges}
 use Rattle.dw_unit.proofs.LineSteps.{lines_none, lines_new}
 use Rattle.dw_unit.proofs.RangeSteps.{ranges_none, ranges_new}
 use Rattle.dw_unit.proofs.UnitTexts.{behind-then, behind-as}
 use Rattle.dw_writer.proofs.Parts.{followed-nothing}
 use Rattle.dw_unit.specs.Alone.{has_info_reference, only_unit, AppendsAlone, AloneFails, AloneRefused}
-use Rattle.dw_unit.specs.Pending.{units_draft, locations_draft, info_of}
-use Rattle.dw_unit.specs.Places.{OffsetsValue}
-use Rattle.dw_unit.specs.UnitFaults.{holes_fail}
-use Rattle.dw_unit.specs.UnitValue.{UnitValue}
-use Rattle.dw_unit.specs.Valid.{IsWritableAt}
-use Rattle.dw_unit.specs.Whole.{settled}
+use Rattle.dw_tree.specs.Pending.{units_draft, locations_draft, info_of}
+use Rattle.dw_tree.specs.Places.{OffsetsValue}
+use Rattle.dw_tree.specs.UnitFaults.{holes_fail}
+use Rattle.dw_tree.specs.UnitValue.{UnitValue}
+use Rattle.dw_tree.specs.Valid.{IsWritableAt}
+use Rattle.dw_tree.specs.Whole.{settled}
 use Rattle.dw_unit.proofs.ValidLaws.{unit_unfailing}
 use Rattle.dw_dwarf.specs.DwarfValue.{dwarf_of}
 use Rattle.dw_dwarf.specs.Valid.{programs_fail, settled_units}

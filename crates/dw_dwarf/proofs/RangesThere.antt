@@ -9,11 +9,11 @@ use Rattle.dw_writer.specs.Texts.{Text, followed}
 use Rattle.dw_lists.specs.Items.{is_five}
 use Rattle.dw_lists.proofs.There.{ranges_there}
 use Rattle.dw_line.specs.Parts.{texts}
-use Rattle.dw_unit.specs.Elsewhere.{Elsewhere, line_fails, ranges_fail, ranges_fail_in, ranges_plain, range_draft, range_text, has_base_address, past_parts, past_elsewhere}
-use Rattle.dw_unit.specs.Locations.{is_own_section}
-use Rattle.dw_unit.specs.UnitValue.{UnitValue}
-use Rattle.dw_unit.specs.Valid.{IsWritableAt, AreWritable}
-use Rattle.dw_unit.specs.Written.{past_table}
+use Rattle.dw_tree.specs.Elsewhere.{Elsewhere, line_fails, ranges_fail, ranges_fail_in, ranges_plain, range_draft, range_text, has_base_address, past_parts, past_elsewhere}
+use Rattle.dw_tree.specs.Locations.{is_own_section}
+use Rattle.dw_tree.specs.UnitValue.{UnitValue}
+use Rattle.dw_tree.specs.Valid.{IsWritableAt, AreWritable}
+use Rattle.dw_tree.specs.Written.{past_table}
 use Rattle.dw_dwarf.specs.Valid.{IsUnwritten}
 
 second : (a b : Bool) → IsFalse (a || b) → IsFalse b

@@ -9,7 +9,7 @@ use Rattle.dw_entry_ids.specs.declared.units.NumberedUnit.{NumberedUnit}
 use Rattle.dw_read.specs.Reading.{Reading}
 use Rattle.dw_read_units.specs.declared.dwarf.Dwarf.{Dwarf}
 use Rattle.dw_read_units.specs.declared.unit_ref.UnitRef.{UnitRef}
-use Rattle.dw_unit.specs.UnitValue.{UnitValue}
+use Rattle.dw_tree.specs.UnitValue.{UnitValue}
 use Rattle.dw_dwarf.proofs.Ready.{table_tagged}
 use Rattle.dw_dwarf.proofs.Rooted.{rooted}
 use Rattle.dw_dwarf.specs.ConvertSteps.{CanConvert}

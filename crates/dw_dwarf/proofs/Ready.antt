@@ -16,7 +16,7 @@ use Rattle.dw_read_units.specs.Passes.{rows_reading}
 use Rattle.dw_read_units.specs.declared.dwarf.Dwarf.{Dwarf}
 use Rattle.dw_read_units.specs.declared.dwarf.Unit.{Unit as UnitFields}
 use Rattle.dw_read_units.specs.declared.unit_ref.UnitRef.{UnitRef}
-use Rattle.dw_unit.specs.UnitValue.{UnitValue}
+use Rattle.dw_tree.specs.UnitValue.{UnitValue}
 use Rattle.dw_dwarf.specs.ConvertSteps.{CanConvert}
 
 abbrev HasTag : Declaration → Type 0

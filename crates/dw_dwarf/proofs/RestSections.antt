@@ -14,13 +14,13 @@ use Rattle.dw_writer.proofs.FaultLaws.{HasRisen-from}
 use Rattle.dw_entries.specs.Targets.{Tables}
 use Rattle.dw_line.specs.Parts.{NoCause, Refused as LinesRefused}
 use Rattle.dw_unit.specs.Alone.{AppendsAlone}
-use Rattle.dw_unit.specs.Causes.{Because, Is, RefusesAny}
-use Rattle.dw_unit.specs.Elsewhere.{Elsewhere, AppendsLines, AppendsRanges, AppendsAllRanges}
-use Rattle.dw_unit.specs.Pending.{starts_of}
-use Rattle.dw_unit.specs.Places.{OffsetsValue}
-use Rattle.dw_unit.specs.UnitValue.{UnitValue}
-use Rattle.dw_unit.specs.Written.{CompletesAny, KeepsOtherSections}
-use Rattle.dw_unit.proofs.Faults.{because-map}
+use Rattle.dw_tree.specs.Causes.{Because, Is, RefusesAny}
+use Rattle.dw_tree.specs.Elsewhere.{Elsewhere, AppendsLines, AppendsRanges, AppendsAllRanges}
+use Rattle.dw_tree.specs.Pending.{starts_of}
+use Rattle.dw_tree.specs.Places.{OffsetsValue}
+use Rattle.dw_tree.specs.UnitValue.{UnitValue}
+use Rattle.dw_tree.specs.Written.{CompletesAny, KeepsOtherSections}
+use Rattle.dw_tree.proofs.Faults.{because-map}
 use Rattle.dw_unit.proofs.UnitTexts.{behind-then}
 use Rattle.dw_dwarf.specs.DwarfValue.{DwarfValue}
 use Rattle.dw_dwarf.specs.Written.{AddsPrograms, AddsLines, AddsStrings, RestHasRisen, KeepsAllButRest, KeepsOthers}

@@ -10,7 +10,7 @@ use Rattle.dw_entries.specs.Attributes.{named, get_named, set_named, is_named, H
 use Rattle.dw_entries.specs.Entries.{EntryValue, with_changed, with_attribute, with_attributes, with_sibling, entry_at}
 use Rattle.dw_entries.specs.declared.attribute.Attribute.{Attribute}
 use Rattle.dw_entries.specs.declared.value.AttributeValue.{AttributeValue}
-use Rattle.dw_unit.specs.UnitValue.{UnitValue, with_entry}
+use Rattle.dw_tree.specs.UnitValue.{UnitValue, with_entry}
 use Rattle.dw_unit.specs.declared.entry_mut.EntryMut.{EntryMut}
 use Rattle.dw_dwarf.specs.ConvertedEntries.{Values, attribute_of}
 use Rattle.dw_dwarf.specs.Placed.{with_contents}

@@ -8,8 +8,8 @@ use Rattle.dw_writer.specs.New.{IsEmptyPlainWriter, IsEmptyWriter}
 use Rattle.dw_writer.specs.Resolved.{resolved}
 use Rattle.dw_writer.specs.Texts.{Text, followed}
 use Rattle.dw_writer.proofs.NewLemmas.{IsEmptyWriter-from_plain}
-use Rattle.dw_unit.specs.Built.{at_zero}
-use Rattle.dw_unit.specs.Pending.{AddsFilled}
+use Rattle.dw_tree.specs.Built.{at_zero}
+use Rattle.dw_tree.specs.Pending.{AddsFilled}
 use Rattle.dw_unit.proofs.Files.{empty_tidy, resolved-empty, resolved-plain}
 
 pub followed_by : (t : Text) → followed (Some []) t ≡ t

@@ -9,7 +9,7 @@ use Rattle.dw_read_units.specs.declared.dwarf.Dwarf.{Dwarf}
 use Rattle.dw_entry_ids.specs.Units.{IsNumbered, AreNumbered}
 use Rattle.dw_entry_ids.specs.declared.ids.EntryIds.{EntryIds}
 use Rattle.dw_entry_ids.specs.declared.units.NumberedUnit.{NumberedUnit}
-use Rattle.dw_unit.specs.UnitValue.{UnitValue}
+use Rattle.dw_tree.specs.UnitValue.{UnitValue}
 use Rattle.dw_convert_lines.specs.EntryNames.{Tables}
 use Rattle.dw_dwarf.specs.ConvertedUnits.{BecomesUnit, UnitsBecome}
 use Rattle.dw_dwarf.specs.EntryRefs.{entry_for, info_for, entry_of, info_of}

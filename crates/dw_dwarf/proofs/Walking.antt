@@ -17,7 +17,7 @@ use Rattle.dw_read.specs.declared.entry.DebuggingInformationEntry.{DebuggingInfo
 use Rattle.dw_read.specs.declared.error.ReadError.{ReadError}
 use Rattle.dw_read_units.specs.declared.unit_ref.UnitRef.{UnitRef}
 use Rattle.dw_sources.specs.declared.convert_error.ConvertError.{ConvertError}
-use Rattle.dw_unit.specs.UnitValue.{UnitValue}
+use Rattle.dw_tree.specs.UnitValue.{UnitValue}
 use Rattle.dw_convert.specs.Attributes.{Seen, seen}
 use Rattle.dw_convert.specs.AttributeLists.{AreConverted, RefusesAttribute}
 use Rattle.dw_convert.specs.Tables.{Tables}

@@ -12,7 +12,7 @@ use Rattle.dw_read_units.specs.declared.unit_ref.UnitRef.{UnitRef}
 use Rattle.dw_sources.specs.declared.convert_error.ConvertError.{ConvertError}
 use Rattle.dw_entries.specs.Entries.{new_root}
 use Rattle.dw_entry_ids.specs.Ids.{entry_count}
-use Rattle.dw_unit.specs.UnitValue.{UnitValue}
+use Rattle.dw_tree.specs.UnitValue.{UnitValue}
 use Rattle.dw_convert.specs.Attributes.{Seen}
 use Rattle.dw_convert.specs.AttributeLists.{AreConverted}
 use Rattle.dw_convert.specs.Tables.{Tables}

@@ -8,7 +8,7 @@ use Rattle.dw_line.specs.LinePrograms.{LineProgramValue}
 use Rattle.dw_read.specs.Reading.{Reading}
 use Rattle.dw_read_units.specs.declared.unit_ref.UnitRef.{UnitRef}
 use Rattle.dw_sources.specs.declared.convert_error.ConvertError.{ConvertError}
-use Rattle.dw_unit.specs.UnitValue.{UnitValue}
+use Rattle.dw_tree.specs.UnitValue.{UnitValue}
 use Rattle.dw_convert_lines.specs.EntryNames.{Tables}
 use Rattle.dw_dwarf.specs.ConvertedPrograms.{ConvertsProgram, RefusesProgram}
 use Rattle.dw_dwarf.specs.ConvertSteps.{tables_in, ConvertsEntries, RefusesEntry}

@@ -15,7 +15,7 @@ use Rattle.dw_entry_ids.specs.Units.{IsNumbered, NumbersUnits}
 use Rattle.dw_entry_ids.specs.declared.ids.EntryIds.{EntryIds}
 use Rattle.dw_entry_ids.specs.declared.units.NumberedUnit.{NumberedUnit}
 use Rattle.dw_entry_ids.specs.declared.units.NumberedUnits.{NumberedUnits}
-use Rattle.dw_unit.specs.UnitValue.{UnitValue}
+use Rattle.dw_tree.specs.UnitValue.{UnitValue}
 use Rattle.dw_convert_lines.specs.EntryNames.{Tables}
 use Rattle.dw_dwarf.specs.ConvertedUnit.{ConvertsUnit, RefusesUnit}
 use Rattle.dw_dwarf.specs.EntryRefs.{entry_for, info_for}

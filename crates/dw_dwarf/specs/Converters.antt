@@ -11,7 +11,7 @@ use Rattle.dw_read.specs.declared.reader.Reader as Reader
 use Rattle.dw_read_units.specs.declared.dwarf.Unit.{Unit as UnitFields}
 use Rattle.dw_sources.specs.declared.convert_error.ConvertError.{ConvertError}
 use Rattle.dw_sources.specs.declared.convert_error.ConvertError.TheVariants.{NoMemory}
-use Rattle.dw_unit.specs.UnitValue.{UnitValue}
+use Rattle.dw_tree.specs.UnitValue.{UnitValue}
 use Rattle.dw_convert.specs.Tables.{Tables}
 use Rattle.dw_dwarf.specs.ConvertSteps.{tables_in}
 use Rattle.dw_dwarf.specs.EntryRefs.{entry_of, info_of}

@@ -1,7 +1,7 @@
 -- A Dwarf, as contracts see it.
 use Rattle.std.specs.Prelude.{ℕ, List, [], ◌∷◌}
 use Rattle.dw_line.specs.LinePrograms.{LineProgramValue}
-use Rattle.dw_unit.specs.UnitValue.{UnitValue}
+use Rattle.dw_tree.specs.UnitValue.{UnitValue}
 use Rattle.dw_dwarf.specs.declared.dwarf.Dwarf.{Dwarf}
 
 pub record DwarfValue : Type 0 where

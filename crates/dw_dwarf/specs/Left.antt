@@ -6,10 +6,10 @@ use Rattle.dw_writer.specs.Meaning.{Meaning, IsTidy}
 use Rattle.dw_writer.specs.Resolved.{resolved}
 use Rattle.dw_writer.specs.declared.sections.Sections.{Sections}
 use Rattle.dw_strings.specs.Strings.{string_bytes}
-use Rattle.dw_unit.specs.Built.{Numbered, at_begin}
-use Rattle.dw_unit.specs.Elsewhere.{AreFound}
-use Rattle.dw_unit.specs.Locations.{AreLocated}
-use Rattle.dw_unit.specs.Pending.{Kept, AreInRow, info_of, units_draft, tables_of, locations_draft}
+use Rattle.dw_tree.specs.Built.{Numbered, at_begin}
+use Rattle.dw_tree.specs.Elsewhere.{AreFound}
+use Rattle.dw_tree.specs.Locations.{AreLocated}
+use Rattle.dw_tree.specs.Pending.{Kept, AreInRow, info_of, units_draft, tables_of, locations_draft}
 use Rattle.dw_dwarf.specs.DwarfValue.{DwarfValue}
 use Rattle.dw_dwarf.specs.Valid.{empty_ends, settled_units}
 use Rattle.dw_dwarf.specs.Written.{dwarf_lines, dwarf_ranges}

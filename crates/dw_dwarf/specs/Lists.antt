@@ -4,11 +4,11 @@ use Rattle.dw_writer.specs.Drafts.{Info, left_open}
 use Rattle.dw_lists.specs.Items.{is_five}
 use Rattle.dw_lists.specs.Parts.{Part}
 use Rattle.dw_lists.specs.Tables.{IsFound, no_place, ranges_in, locations_in}
-use Rattle.dw_unit.specs.Built.{at_zero}
-use Rattle.dw_unit.specs.Elsewhere.{Elsewhere, past_parts, range_places, location_places}
-use Rattle.dw_unit.specs.Locations.{entry_places}
-use Rattle.dw_unit.specs.UnitValue.{UnitValue}
-use Rattle.dw_unit.specs.Whole.{settled}
+use Rattle.dw_tree.specs.Built.{at_zero}
+use Rattle.dw_tree.specs.Elsewhere.{Elsewhere, past_parts, range_places, location_places}
+use Rattle.dw_tree.specs.Locations.{entry_places}
+use Rattle.dw_tree.specs.UnitValue.{UnitValue}
+use Rattle.dw_tree.specs.Whole.{settled}
 
 -- A section, and the byte order of its numbers.
 pub record InOrder : Type 0 where

@@ -4,7 +4,7 @@ use Rattle.dw_base.specs.declared.common.Encoding.{Encoding}
 use Rattle.dw_entries.specs.Entries.{EntryValue, new_root, compile_unit_tag}
 use Rattle.dw_line.specs.LinePrograms.{no_line_program}
 use Rattle.dw_entry_ids.specs.declared.units.NumberedUnit.{NumberedUnit}
-use Rattle.dw_unit.specs.UnitValue.{UnitValue, new_unit}
+use Rattle.dw_tree.specs.UnitValue.{UnitValue, new_unit}
 
 -- a new unit with so many ids
 abbrev pub unit_with : Encoding → ℕ → UnitValue

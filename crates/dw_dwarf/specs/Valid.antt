@@ -7,13 +7,13 @@ use Rattle.dw_writer.specs.Sections.{SomeHasRisen}
 use Rattle.dw_writer.specs.declared.sections.Sections.{Sections}
 use Rattle.dw_line.specs.LinePrograms.{LineProgramValue, encoding_of, line_program_fails}
 use Rattle.dw_line.specs.Parts.{NoCause}
-use Rattle.dw_unit.specs.Built.{Numbered, Starts, numbered, at_begin}
-use Rattle.dw_unit.specs.Causes.{Because, UnitsFail}
-use Rattle.dw_unit.specs.Pending.{Kept, AreInRow, info_of, starts_of}
-use Rattle.dw_unit.specs.Elsewhere.{End, Ends, Elsewhere, ends_of}
-use Rattle.dw_unit.specs.ReferenceFaults.{references_fail}
-use Rattle.dw_unit.specs.UnitValue.{UnitValue}
-use Rattle.dw_unit.specs.Valid.{AreWritable, ReferencesLead}
+use Rattle.dw_tree.specs.Built.{Numbered, Starts, numbered, at_begin}
+use Rattle.dw_tree.specs.Causes.{Because, UnitsFail}
+use Rattle.dw_tree.specs.Pending.{Kept, AreInRow, info_of, starts_of}
+use Rattle.dw_tree.specs.Elsewhere.{End, Ends, Elsewhere, ends_of}
+use Rattle.dw_tree.specs.ReferenceFaults.{references_fail}
+use Rattle.dw_tree.specs.UnitValue.{UnitValue}
+use Rattle.dw_tree.specs.Valid.{AreWritable, ReferencesLead}
 use Rattle.dw_dwarf.specs.DwarfValue.{DwarfValue}
 
 -- it wasn't written before, and not skipped

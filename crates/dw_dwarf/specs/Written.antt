@@ -13,9 +13,9 @@ use Rattle.dw_writer.specs.Sections.{EachWriter, NoFixups}
 use Rattle.dw_writer.specs.declared.sections.Sections.{Sections}
 use Rattle.dw_line.specs.LinePrograms.{LineProgramValue, line_program_size, line_program_text}
 use Rattle.dw_line.specs.Parts.{sizes, texts}
-use Rattle.dw_unit.specs.Built.{Built, at_begin, at_zero, whole_file}
-use Rattle.dw_unit.specs.Pending.{Kept, AreInRow, info_of, locations_draft}
-use Rattle.dw_unit.specs.Elsewhere.{line_size, line_text, range_text, new_size, new_text, AppendsBehind}
+use Rattle.dw_tree.specs.Built.{Built, at_begin, at_zero, whole_file}
+use Rattle.dw_tree.specs.Pending.{Kept, AreInRow, info_of, locations_draft}
+use Rattle.dw_tree.specs.Elsewhere.{line_size, line_text, range_text, new_size, new_text, AppendsBehind}
 use Rattle.dw_strings.specs.Strings.{string_bytes}
 use Rattle.dw_dwarf.specs.Valid.{found_from, empty_ends, settled_units}
 use Rattle.dw_dwarf.specs.DwarfValue.{DwarfValue}

@@ -4,11 +4,11 @@ ghost use Rattle.std.specs.Prelude.{◌≡◌, ◌⊎◌, ◌≤◌, [], true, f
 ghost use Rattle.dw_base.specs.declared.error.Error.TheVariants.{NoMemory};
 ghost use Rattle.dw_writer.specs.Sections.{SomeHasRisen, fault_sum, NoFixups};
 ghost use Rattle.dw_unit.specs.Alone.{has_info_reference, AppendsAlone, AloneRefused};
-ghost use Rattle.dw_unit.specs.Elsewhere.{elsewhere, unit_tables, AppendsLine, AppendsRanges};
+ghost use Rattle.dw_tree.specs.Elsewhere.{elsewhere, unit_tables, AppendsLine, AppendsRanges};
 ghost use Rattle.dw_line.specs.LinePrograms.{no_line_program};
-ghost use Rattle.dw_unit.specs.UnitValue.{new_unit};
-ghost use Rattle.dw_unit.specs.Valid.{IsWritableAt};
-ghost use Rattle.dw_unit.specs.Whole.{settled, marked_written};
+ghost use Rattle.dw_tree.specs.UnitValue.{new_unit};
+ghost use Rattle.dw_tree.specs.Valid.{IsWritableAt};
+ghost use Rattle.dw_tree.specs.Whole.{settled, marked_written};
 ghost use Rattle.dw_dwarf.specs.DwarfValue.{dwarf_of};
 ghost use Rattle.dw_dwarf.specs.LineNames.{IsThere, bytes_of};
 ghost use Rattle.dw_dwarf.specs.Written.{AreNewPlain, AreNew, HoldsDwarf, ResolvesTo, AddsStrings, KeepsOthers};

@@ -5,8 +5,8 @@ ghost use Rattle.dw_writer.specs.Meaning.{IsSameWriter};
 ghost use Rattle.dw_writer.specs.Sections.{fault_sum};
 ghost use Rattle.dw_line.specs.LinePrograms.{line_program_size, line_program_text};
 ghost use Rattle.dw_line.specs.Parts.{NoCause, Refused, sizes, texts};
-ghost use Rattle.dw_unit.specs.Causes.{Because, Is};
-ghost use Rattle.dw_unit.specs.Elsewhere.{AppendsBehind};
+ghost use Rattle.dw_tree.specs.Causes.{Because, Is};
+ghost use Rattle.dw_tree.specs.Elsewhere.{AppendsBehind};
 ghost use Rattle.dw_dwarf.specs.Valid.{programs_fail};
 ghost use Rattle.dw_dwarf.specs.Written.{AddsPrograms, AddsStrings, RestHasRisen, KeepsAllButRest};
 

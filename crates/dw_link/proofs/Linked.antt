@@ -11,9 +11,9 @@ use Rattle.dw_writer.specs.Meaning.{Meaning, Model}
 use Rattle.dw_writer.specs.Resolved.{resolved}
 use Rattle.dw_writer.specs.declared.sections.Sections.{Sections}
 use Rattle.dw_strings.specs.Strings.{string_bytes}
-use Rattle.dw_unit.specs.Built.{Starts, Built}
+use Rattle.dw_tree.specs.Built.{Starts, Built}
 use Rattle.dw_writer.specs.Drafts.{filled_text}
-use Rattle.dw_unit.specs.Pending.{Kept, info_of, tables_of, locations_draft}
+use Rattle.dw_tree.specs.Pending.{Kept, info_of, tables_of, locations_draft}
 use Rattle.dw_unit.proofs.Files.{WrittenFile, AreWritten, joined, joined_tables, file_of, past_file, files_built}
 use Rattle.dw_unit.proofs.ReadUnits.{parted}
 use Rattle.dw_dwarf.specs.DwarfValue.{DwarfValue}

@@ -19,12 +19,12 @@ use Rattle.dw_lists.specs.Tables.{Offsets, IsFound, base_from, offsets_by, offse
 use Rattle.dw_lists.specs.Texts.{list_draft, places_from}
 use Rattle.dw_lists.proofs.TableAgain.{ranges_shaped, locations_shaped}
 use Rattle.dw_line.specs.Parts.{texts}
-use Rattle.dw_unit.specs.Built.{Numbered, settled_at, numbered_from}
-use Rattle.dw_unit.specs.Elsewhere.{Elsewhere, AreFound, ranges_at, range_draft, range_text, range_places_at, locations_at, past_parts}
-use Rattle.dw_unit.specs.Locations.{entry_places, location_draft, location_part, AreLocated}
-use Rattle.dw_unit.specs.Pending.{Kept, info_of, locations_draft}
-use Rattle.dw_unit.specs.UnitValue.{UnitValue}
-use Rattle.dw_unit.specs.Whole.{settled}
+use Rattle.dw_tree.specs.Built.{Numbered, settled_at, numbered_from}
+use Rattle.dw_tree.specs.Elsewhere.{Elsewhere, AreFound, ranges_at, range_draft, range_text, range_places_at, locations_at, past_parts}
+use Rattle.dw_tree.specs.Locations.{entry_places, location_draft, location_part, AreLocated}
+use Rattle.dw_tree.specs.Pending.{Kept, info_of, locations_draft}
+use Rattle.dw_tree.specs.UnitValue.{UnitValue}
+use Rattle.dw_tree.specs.Whole.{settled}
 use Rattle.dw_unit.proofs.ReadUnits.{parted}
 use Rattle.dw_dwarf.specs.DwarfValue.{DwarfValue}
 use Rattle.dw_dwarf.specs.Left.{units_of}

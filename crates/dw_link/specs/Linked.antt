@@ -8,8 +8,8 @@ use Rattle.dw_writer.specs.Meaning.{Meaning, Model}
 use Rattle.dw_writer.specs.declared.sections.Sections.{Sections}
 use Rattle.dw_strings.specs.Strings.{string_bytes}
 use Rattle.dw_writer.specs.Drafts.{filled_text}
-use Rattle.dw_unit.specs.Built.{File, Built}
-use Rattle.dw_unit.specs.Pending.{Kept, info_of, locations_draft}
+use Rattle.dw_tree.specs.Built.{File, Built}
+use Rattle.dw_tree.specs.Pending.{Kept, info_of, locations_draft}
 use Rattle.dw_dwarf.specs.DwarfValue.{DwarfValue}
 use Rattle.dw_dwarf.specs.Left.{units_of, IsLeft}
 use Rattle.dw_dwarf.specs.Written.{dwarf_lines, dwarf_ranges}

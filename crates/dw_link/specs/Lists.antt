@@ -9,12 +9,12 @@ use Rattle.dw_lists.specs.Items.{Span, Pair, marker, is_five}
 use Rattle.dw_lists.specs.Parts.{Part}
 use Rattle.dw_lists.specs.Texts.{span_in}
 use Rattle.dw_lists.specs.Tables.{Offsets, IsFound, AreNumbered, no_place, ranges_in, locations_in}
-use Rattle.dw_unit.specs.Built.{at_begin}
-use Rattle.dw_unit.specs.Elsewhere.{Elsewhere, past_parts, range_places, location_places}
-use Rattle.dw_unit.specs.Locations.{entry_places}
-use Rattle.dw_unit.specs.Pending.{Kept, AreInRow, info_of}
-use Rattle.dw_unit.specs.UnitValue.{UnitValue}
-use Rattle.dw_unit.specs.Whole.{settled}
+use Rattle.dw_tree.specs.Built.{at_begin}
+use Rattle.dw_tree.specs.Elsewhere.{Elsewhere, past_parts, range_places, location_places}
+use Rattle.dw_tree.specs.Locations.{entry_places}
+use Rattle.dw_tree.specs.Pending.{Kept, AreInRow, info_of}
+use Rattle.dw_tree.specs.UnitValue.{UnitValue}
+use Rattle.dw_tree.specs.Whole.{settled}
 use Rattle.dw_dwarf.specs.DwarfValue.{DwarfValue}
 use Rattle.dw_dwarf.specs.Left.{units_of}
 use Rattle.dw_dwarf.specs.Valid.{found_from, empty_ends}

@@ -17,7 +17,7 @@ use Rattle.dw_expr.specs.Spelling.{bytes, place_draft, info_draft, Part, parts_s
 use Rattle.dw_frame.specs.Operands.{nowhere, expression_piece}
 use Rattle.dw_frame.specs.Reading.{at_zero}
 use Rattle.dw_frame.proofs.TextParts.{split}
-pub use Rattle.dw_numbered.proofs.Expressions.{numbered_operand, operands_same}
+pub use Rattle.dw_dwarf_laws.proofs.Expressions.{numbered_operand, operands_same}
 use Rattle.dw_link_frames.specs.Numbered.{numbered_plain, numbered_node, numbered_tree, numbered_nodes}
 use Rattle.dw_link_frames.proofs.Turning.{Turns}
 use Rattle.dw_link_frames.proofs.Pointing.{address_moves}

@@ -9,7 +9,7 @@ use Rattle.dw_frame.specs.declared.fde.FrameDescriptionEntry.{FrameDescriptionEn
 use Rattle.dw_frame.specs.declared.instruction.CallFrameInstruction.{CallFrameInstruction}
 use Rattle.dw_frame.specs.declared.instruction.CallFrameInstruction.TheVariants.{CfaExpression, Expression, ValExpression}
 use Rattle.dw_frame.specs.declared.program.Step.{Step}
-pub use Rattle.dw_numbered.specs.Addresses.{known_or, value_at, numbered_address as numbered, numbered_plain, numbered_node, numbered_tree, numbered_expression as numbered_nodes}
+pub use Rattle.dw_dwarf_laws.specs.Addresses.{known_or, value_at, numbered_address as numbered, numbered_plain, numbered_node, numbered_tree, numbered_expression as numbered_nodes}
 
 -- the same list with each item changed
 abbrev pub with_each : {X Z : Type 0} → (X → X) → Vec X Z → Vec X Z

@@ -9,7 +9,7 @@ use Rattle.dw_entries.specs.Attributes.{named}
 use Rattle.dw_entries.specs.Entries.{EntryValue, blank_entry, new_root, filled_up, with_changed, with_child, placed_under, with_attribute, with_added, entry_at}
 use Rattle.dw_entries.proofs.Filled.{filled_up-push, filled_up-same, seen_filled}
 use Rattle.dw_line.specs.LinePrograms.{no_line_program}
-use Rattle.dw_unit.specs.UnitValue.{UnitValue, new_unit, with_entry, IsReserved}
+use Rattle.dw_tree.specs.UnitValue.{UnitValue, new_unit, with_entry, IsReserved}
 use Rattle.dw_make.specs.Drafted.{with_bare_variable, with_described, with_variable}
 use Rattle.dw_make.specs.Generated.{generated_encoding, generated_unit, first_root, base_type_id, variable, variables, variable_ids}
 

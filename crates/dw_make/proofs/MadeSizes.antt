@@ -17,12 +17,12 @@ use Rattle.dw_abbrev.specs.Equal.{shape_eq}
 use Rattle.dw_abbrev.proofs.Again.{declarations_are}
 use Rattle.dw_entries.specs.Entries.{EntryValue, entry_at}
 use Rattle.dw_entries.specs.Tree.{preorder}
-use Rattle.dw_unit.specs.Coded.{code_of_entry}
-use Rattle.dw_unit.specs.DistinctShapes.{entry_shapes, other_shapes, distinct_shapes}
-use Rattle.dw_unit.specs.Laid.{entry_size, size_of, sizes_of, sized}
-use Rattle.dw_unit.specs.Places.{found}
-use Rattle.dw_unit.specs.Shapes.{shape_of_entry}
-use Rattle.dw_unit.specs.Whole.{tree_shapes, tree_declared, tree_table, tree_size}
+use Rattle.dw_tree.specs.Coded.{code_of_entry}
+use Rattle.dw_tree.specs.DistinctShapes.{entry_shapes, other_shapes, distinct_shapes}
+use Rattle.dw_tree.specs.Laid.{entry_size, size_of, sizes_of, sized}
+use Rattle.dw_tree.specs.Places.{found}
+use Rattle.dw_tree.specs.Shapes.{shape_of_entry}
+use Rattle.dw_tree.specs.Whole.{tree_shapes, tree_declared, tree_table, tree_size}
 use Rattle.dw_make.specs.Generated.{generated_encoding, base_type}
 use Rattle.dw_make.proofs.Drafts.{variable_that}
 use Rattle.dw_make.proofs.MadeTrees.{made_root, made_entries, made_marks, IfOpen, each_mark, length-marks, made_tree}

@@ -10,8 +10,8 @@ use Rattle.dw_entries.specs.Entries.{EntryValue, blank_entry, new_root, entry_at
 use Rattle.dw_entries.specs.Settled.{base_type_tag, is_base, bases_first}
 use Rattle.dw_entries.specs.Tree.{closed, tree_from, has_entry, preorder}
 use Rattle.dw_line.specs.LinePrograms.{no_line_program}
-use Rattle.dw_unit.specs.UnitValue.{UnitValue, new_unit}
-use Rattle.dw_unit.specs.Whole.{settled}
+use Rattle.dw_tree.specs.UnitValue.{UnitValue, new_unit}
+use Rattle.dw_tree.specs.Whole.{settled}
 use Rattle.dw_make.specs.Generated.{generated_encoding, generated_unit, base_type, base_type_id, variable, variables, variable_ids}
 use Rattle.dw_make.proofs.Drafts.{variable_that, length-variables}
 

@@ -25,20 +25,20 @@ use Rattle.dw_entries.specs.Targets.{Tables, UnitTargets}
 use Rattle.dw_entries.specs.Tree.{has_entry, preorder}
 use Rattle.dw_entries.specs.Values.{IsRanged}
 use Rattle.dw_entries.proofs.ValueTexts.{value-draft}
-use Rattle.dw_unit.specs.Built.{Starts}
-use Rattle.dw_unit.specs.Coded.{code_of_entry}
-use Rattle.dw_unit.specs.Early.{attributes_unplaced, mark_unplaced, standing, is_forward, tree_is_forward}
-use Rattle.dw_unit.specs.Laid.{sibling_size, values_size, sized, place_from, laid_from}
-use Rattle.dw_unit.specs.Pending.{AreRanged, IsMarkRanged, Stands}
-use Rattle.dw_unit.specs.Places.{Placement, found, targets_of}
-use Rattle.dw_unit.specs.UnitFaults.{attributes_fail, mark_fails, marks_fail}
-use Rattle.dw_unit.specs.UnitText.{fitting_text, length_text, fields_text, header_text, unit_length, attribute_draft, sibling_draft, code_draft, mark_draft, coded_draft, tree_draft}
-use Rattle.dw_unit.specs.Valid.{IsWritableTree}
-use Rattle.dw_unit.specs.Whole.{tree_shapes, tree_size, IsTreePlacement}
-use Rattle.dw_unit.proofs.Faults.{neither}
-use Rattle.dw_unit.proofs.OnePlacement.{AgreeOn, place_agree, past_agree}
-use Rattle.dw_unit.proofs.ReadMarks.{tree_draft-size}
-use Rattle.dw_unit.proofs.TreeWritten.{tree_is_one}
+use Rattle.dw_tree.specs.Built.{Starts}
+use Rattle.dw_tree.specs.Coded.{code_of_entry}
+use Rattle.dw_tree.specs.Early.{attributes_unplaced, mark_unplaced, standing, is_forward, tree_is_forward}
+use Rattle.dw_tree.specs.Laid.{sibling_size, values_size, sized, place_from, laid_from}
+use Rattle.dw_tree.specs.Pending.{AreRanged, IsMarkRanged, Stands}
+use Rattle.dw_tree.specs.Places.{Placement, found, targets_of}
+use Rattle.dw_tree.specs.UnitFaults.{attributes_fail, mark_fails, marks_fail}
+use Rattle.dw_tree.specs.UnitText.{fitting_text, length_text, fields_text, header_text, unit_length, attribute_draft, sibling_draft, code_draft, mark_draft, coded_draft, tree_draft}
+use Rattle.dw_tree.specs.Valid.{IsWritableTree}
+use Rattle.dw_tree.specs.Whole.{tree_shapes, tree_size, IsTreePlacement}
+use Rattle.dw_tree.proofs.Faults.{neither}
+use Rattle.dw_tree.proofs.OnePlacement.{AgreeOn, place_agree, past_agree}
+use Rattle.dw_tree.proofs.ReadMarks.{tree_draft-size}
+use Rattle.dw_tree.proofs.TreeWritten.{tree_is_one}
 use Rattle.dw_make.specs.Generated.{generated_encoding, base_type, base_type_id}
 use Rattle.dw_make.proofs.Drafts.{variable_that}
 use Rattle.dw_make.proofs.MadeTrees.{made_root, made_entries, made_marks, IfOpen, each_mark, each_entry, entry_of, made_tree}

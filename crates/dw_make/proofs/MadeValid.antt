@@ -14,20 +14,20 @@ use Rattle.dw_writer.proofs.DraftLaws.{then-nothing}
 use Rattle.dw_writer.specs.declared.fixup.DebugInfoFixup.{DebugInfoFixup}
 use Rattle.dw_entries.specs.Entries.{EntryValue}
 use Rattle.dw_entries.specs.Targets.{Tables, UnitTargets}
-use Rattle.dw_unit.specs.Built.{Numbered, Starts, settled_at, numbered, numbered_from, at_begin, table_size}
-use Rattle.dw_unit.specs.Coded.{code_at}
-use Rattle.dw_unit.specs.Elsewhere.{Elsewhere, tables_in, past_parts, past_elsewhere}
-use Rattle.dw_unit.specs.Locations.{location_part}
-use Rattle.dw_unit.specs.Pending.{Kept, past_kept, draft_of, draft_at, units_draft, locations_draft, info_of, StandsAt, AreInRow}
-use Rattle.dw_unit.specs.Places.{targets_of}
-use Rattle.dw_unit.specs.ReferenceFaults.{lists_refer_wrong}
-use Rattle.dw_unit.specs.UnitFaults.{has_no_room, hole_fails, holes_fail}
-use Rattle.dw_unit.specs.UnitText.{entry_draft, mark_draft, marks_draft}
-use Rattle.dw_unit.specs.UnitValue.{UnitValue}
-use Rattle.dw_unit.specs.Valid.{IsWritableTree, IsWritable, AreWritable, ReferencesLead}
-use Rattle.dw_unit.specs.Whole.{settled, tree_shapes}
-use Rattle.dw_unit.specs.Written.{past_table}
-use Rattle.dw_unit.proofs.Faults.{neither}
+use Rattle.dw_tree.specs.Built.{Numbered, Starts, settled_at, numbered, numbered_from, at_begin, table_size}
+use Rattle.dw_tree.specs.Coded.{code_at}
+use Rattle.dw_tree.specs.Elsewhere.{Elsewhere, tables_in, past_parts, past_elsewhere}
+use Rattle.dw_tree.specs.Locations.{location_part}
+use Rattle.dw_tree.specs.Pending.{Kept, past_kept, draft_of, draft_at, units_draft, locations_draft, info_of, StandsAt, AreInRow}
+use Rattle.dw_tree.specs.Places.{targets_of}
+use Rattle.dw_tree.specs.ReferenceFaults.{lists_refer_wrong}
+use Rattle.dw_tree.specs.UnitFaults.{has_no_room, hole_fails, holes_fail}
+use Rattle.dw_tree.specs.UnitText.{entry_draft, mark_draft, marks_draft}
+use Rattle.dw_tree.specs.UnitValue.{UnitValue}
+use Rattle.dw_tree.specs.Valid.{IsWritableTree, IsWritable, AreWritable, ReferencesLead}
+use Rattle.dw_tree.specs.Whole.{settled, tree_shapes}
+use Rattle.dw_tree.specs.Written.{past_table}
+use Rattle.dw_tree.proofs.Faults.{neither}
 use Rattle.dw_dwarf.specs.Valid.{IsValid, empty_ends}
 use Rattle.dw_make.specs.Generated.{most_variables}
 use Rattle.dw_make.specs.Generated.{generated, generated_encoding, generated_unit, generated_units, unit_variables, base_type}

@@ -2,7 +2,7 @@
 use Rattle.std.proofs.Common.{◌≡◌, [], ◌∷◌, Some, refl}
 use Rattle.dw_base.specs.declared.common.Format.TheVariants.{Dwarf32}
 use Rattle.dw_line.specs.LinePrograms.{no_line_program}
-use Rattle.dw_unit.specs.UnitValue.{new_unit}
+use Rattle.dw_tree.specs.UnitValue.{new_unit}
 use Rattle.dw_base.specs.declared.address.DebugInfoRef.TheVariants.{Entry}
 use Rattle.dw_entries.specs.Attributes.{named}
 use Rattle.dw_entries.specs.Entries.{blank_entry, new_root}

@@ -3,7 +3,7 @@ use Rattle.std.specs.Prelude.{ℕ, ◌+◌, ◌%◌, ◌==◌, if◌then◌else�
 use Rattle.dw_base.specs.declared.constants.TheConstants.{DW_TAG_variable, DW_AT_byte_size, DW_AT_type, DW_AT_specification}
 use Rattle.dw_entries.specs.declared.value.AttributeValue.TheVariants.{Udata, UnitRef}
 use Rattle.dw_entries.specs.Entries.{with_added, with_attribute}
-use Rattle.dw_unit.specs.UnitValue.{UnitValue, with_entry}
+use Rattle.dw_tree.specs.UnitValue.{UnitValue, with_entry}
 use Rattle.dw_make.specs.Generated.{first_root}
 
 -- a unit with a variable behind the root's other children, without attributes

@@ -10,7 +10,7 @@ use Rattle.dw_entries.specs.declared.value.AttributeValue.TheVariants.{Data1, Ud
 use Rattle.dw_entries.specs.Attributes.{named}
 use Rattle.dw_entries.specs.Entries.{EntryValue, blank_entry, new_root}
 use Rattle.dw_line.specs.LinePrograms.{no_line_program}
-use Rattle.dw_unit.specs.UnitValue.{UnitValue, new_unit}
+use Rattle.dw_tree.specs.UnitValue.{UnitValue, new_unit}
 use Rattle.dw_dwarf.specs.DwarfValue.{DwarfValue}
 
 -- the most variables that are generated

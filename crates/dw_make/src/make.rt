@@ -5,7 +5,7 @@ ghost use Rattle.dw_base.specs.declared.error.Error.TheVariants.{NoMemory};
 ghost use Rattle.dw_entries.specs.Entries.{with_attribute};
 ghost use Rattle.dw_dwarf.specs.DwarfValue.{dwarf_in};
 ghost use Rattle.dw_dwarf.specs.Valid.{AreUnwritten, IsValid};
-ghost use Rattle.dw_unit.specs.UnitValue.{with_entry};
+ghost use Rattle.dw_tree.specs.UnitValue.{with_entry};
 ghost use Rattle.dw_make.specs.Drafted.{with_variable};
 ghost use Rattle.dw_make.specs.Generated.{generated, generated_unit};
 

@@ -18,8 +18,8 @@ use Rattle.dw_build.proofs.SetUnits.{sets_open}
 use Rattle.dw_program.specs.Answers.{DoRead, IsShort, Says, SaysAsked, SaysBuilt, SaysOf, SaysOfBytes, SaysOfInput, SaysOfSets, SaysRead, Prints, code_of, made_of}
 use Rattle.dw_program.specs.Commands.{reading_of}
 use Rattle.dw_listing.specs.Readers.{slice_reading}
-use Rattle.dw_conversion_laws.proofs.Conversions.{AreSameDwarfs, converted_alike}
-use Rattle.dw_conversion_laws.proofs.Validity.{valid_alike}
+use Rattle.dw_dwarf_laws.proofs.Conversions.{AreSameDwarfs, converted_alike}
+use Rattle.dw_dwarf_laws.proofs.Validity.{valid_alike}
 use Rattle.dw_program.specs.Converted.{Becomes, BecomesNone, constant_answers, SaysOfListing, listing_read, with_refusal}
 use Rattle.dw_program.specs.Listed.{SaysOfDwarf}
 use Rattle.dw_program.specs.Linked.{AreValidSets, AreValidJoined}

@@ -11,7 +11,7 @@ use Rattle.dw_sources.specs.declared.convert_error.ConvertError.{ConvertError}
 use Rattle.dw_entry_ids.specs.declared.ids.EntryIds.{EntryIds}
 use Rattle.dw_entry_ids.specs.declared.units.NumberedUnit.{NumberedUnit}
 use Rattle.dw_convert_lines.specs.EntryNames.{Tables}
-use Rattle.dw_unit.specs.UnitValue.{UnitValue}
+use Rattle.dw_tree.specs.UnitValue.{UnitValue}
 use Rattle.dw_dwarf.specs.ConvertedDwarf.{IsConverted, CannotConvert}
 use Rattle.dw_dwarf.specs.ConvertedUnits.{UnitsBecome}
 use Rattle.dw_dwarf.specs.DwarfValue.{DwarfValue}

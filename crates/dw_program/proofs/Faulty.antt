@@ -7,7 +7,7 @@ use Rattle.dw_base.specs.declared.error.Error.TheVariants.{NoMemory}
 use Rattle.dw_writer.specs.Contents.{Meaning}
 use Rattle.dw_writer.specs.Sections.{SomeHasRisen, NoFixups}
 use Rattle.dw_writer.specs.declared.sections.Sections.{Sections}
-use Rattle.dw_unit.specs.Built.{at_begin}
+use Rattle.dw_tree.specs.Built.{at_begin}
 use Rattle.dw_dwarf.specs.DwarfValue.{DwarfValue}
 use Rattle.dw_dwarf.specs.Valid.{AreUnwritten, IsValid, DwarfFails, DwarfRefused, empty_ends}
 use Rattle.dw_dwarf.specs.Written.{AreNewPlain, AreNew}

@@ -5,9 +5,9 @@ use Rattle.dw_writer.specs.Meaning.{Meaning}
 use Rattle.dw_writer.specs.New.{IsEmptyWriter}
 use Rattle.dw_writer.specs.Sections.{AllMean, NoFixups}
 use Rattle.dw_writer.specs.declared.sections.Sections.{Sections}
-use Rattle.dw_unit.specs.Built.{Starts, at_begin}
-use Rattle.dw_unit.specs.Elsewhere.{ends_of}
-use Rattle.dw_unit.specs.Pending.{starts_of}
+use Rattle.dw_tree.specs.Built.{Starts, at_begin}
+use Rattle.dw_tree.specs.Elsewhere.{ends_of}
+use Rattle.dw_tree.specs.Pending.{starts_of}
 use Rattle.dw_dwarf.specs.DwarfValue.{DwarfValue}
 use Rattle.dw_dwarf.specs.Valid.{IsValid, IsValidAt, empty_ends}
 use Rattle.dw_dwarf.specs.Written.{AreNew}

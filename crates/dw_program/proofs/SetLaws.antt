@@ -9,7 +9,7 @@ use Rattle.dw_writer.specs.Meaning.{Meaning}
 use Rattle.dw_writer.specs.Resolved.{resolved}
 use Rattle.dw_writer.specs.Texts.{followed}
 use Rattle.dw_writer.specs.Visits.{written_ids}
-use Rattle.dw_unit.specs.Built.{File}
+use Rattle.dw_tree.specs.Built.{File}
 use Rattle.dw_dwarf.specs.DwarfValue.{DwarfValue}
 use Rattle.dw_dwarf.specs.Left.{units_of}
 use Rattle.dw_link.specs.Linked.{files_from}

@@ -15,10 +15,10 @@ use Rattle.dw_writer.proofs.Steps.{Adds-appends}
 use Rattle.dw_strings.specs.Strings.{string_bytes}
 use Rattle.dw_line.specs.LinePrograms.{line_program_size}
 use Rattle.dw_line.specs.Parts.{sizes}
-use Rattle.dw_unit.specs.Elsewhere.{AppendsAllRanges, ends_of, line_size, range_size, range_text, new_size}
-use Rattle.dw_unit.specs.Pending.{AddsFilled, info_of, units_draft, tables_of, locations_draft}
-use Rattle.dw_unit.specs.UnitValue.{UnitValue}
-use Rattle.dw_unit.specs.Written.{CompletesAny}
+use Rattle.dw_tree.specs.Elsewhere.{AppendsAllRanges, ends_of, line_size, range_size, range_text, new_size}
+use Rattle.dw_tree.specs.Pending.{AddsFilled, info_of, units_draft, tables_of, locations_draft}
+use Rattle.dw_tree.specs.UnitValue.{UnitValue}
+use Rattle.dw_tree.specs.Written.{CompletesAny}
 use Rattle.dw_dwarf.specs.DwarfValue.{DwarfValue}
 use Rattle.dw_dwarf.specs.Left.{units_of}
 use Rattle.dw_dwarf.specs.Valid.{IsUnwritten, AreUnwritten, found_in, settled_units}

@@ -5,16 +5,16 @@ use Rattle.std.proofs.lemmas.Option.{slice_get_within, get_or_from_slice_get}
 use Rattle.dw_base.specs.declared.section_id.SectionId.{SectionId}
 use Rattle.dw_base.specs.declared.section_id.SectionId.TheVariants.{DebugAbbrev, DebugStr, DebugLineStr, DebugLine, DebugRanges, DebugRngLists, DebugLoc, DebugLocLists, DebugInfo, DebugFrame, EhFrame}
 use Rattle.dw_writer.specs.Layout.{Layout, start_of}
-use Rattle.dw_unit.specs.Built.{at_begin}
-use Rattle.dw_unit.specs.Pending.{AreInRow, IsThere}
+use Rattle.dw_tree.specs.Built.{at_begin}
+use Rattle.dw_tree.specs.Pending.{AreInRow, IsThere}
 use Rattle.dw_dwarf.specs.DwarfValue.{DwarfValue}
 use Rattle.dw_dwarf.specs.Left.{units_of}
 use Rattle.dw_dwarf.specs.Valid.{AreUnwritten}
 use Rattle.dw_link.specs.Steps.{is_below}
-use Rattle.dw_numbered.specs.Dwarfs.{numbered_dwarf}
-use Rattle.dw_numbered.specs.Joined.{IsValidBehind}
-use Rattle.dw_numbered.specs.Starts.{StartsAt}
-use Rattle.dw_numbered.proofs.Dwarfs.{AllThere, numbered_there}
+use Rattle.dw_dwarf_laws.specs.Dwarfs.{numbered_dwarf}
+use Rattle.dw_dwarf_laws.specs.Joined.{IsValidBehind}
+use Rattle.dw_dwarf_laws.specs.Starts.{StartsAt}
+use Rattle.dw_dwarf_laws.proofs.Dwarfs.{AllThere, numbered_there}
 use Rattle.dw_build.specs.SetsValue.{SetsValue}
 use Rattle.dw_program.specs.Linked.{AreValidJoined}
 use Rattle.dw_program.specs.SetParts.{Part, Placed, ArePlaced, part_of, section_size}

@@ -10,7 +10,7 @@ use Rattle.dw_writer.specs.Meaning.{Meaning}
 use Rattle.dw_writer.specs.Sections.{section_of}
 use Rattle.dw_writer.specs.Visits.{written_ids}
 use Rattle.dw_writer.specs.declared.sections.Sections.{Sections}
-use Rattle.dw_unit.specs.Built.{Built}
+use Rattle.dw_tree.specs.Built.{Built}
 use Rattle.dw_dwarf.specs.Written.{SectionTexts, TellTexts}
 use Rattle.dw_ends.specs.Listing.{Lists, listing, read_as, read_of}
 use Rattle.dw_ends.specs.Sections.{sections_of}

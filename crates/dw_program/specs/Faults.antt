@@ -1,7 +1,7 @@
 -- Why what was built can't be written.
 use Rattle.std.specs.Prelude.{Bool}
 use Rattle.dw_base.specs.declared.error.Error.{Error}
-use Rattle.dw_unit.specs.Built.{at_begin}
+use Rattle.dw_tree.specs.Built.{at_begin}
 use Rattle.dw_dwarf.specs.DwarfValue.{DwarfValue}
 use Rattle.dw_dwarf.specs.Valid.{DwarfFails, empty_ends}
 

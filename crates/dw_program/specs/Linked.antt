@@ -4,7 +4,7 @@ use Rattle.dw_base.specs.Order.{is_big_of}
 use Rattle.dw_base.specs.declared.error.Error.{Error}
 use Rattle.dw_base.specs.declared.section_id.SectionId.{SectionId}
 use Rattle.dw_base.specs.declared.section_id.SectionId.TheVariants.{DebugAbbrev, DebugStr, DebugLineStr, DebugLine, DebugRanges, DebugRngLists, DebugLoc, DebugLocLists, DebugInfo, DebugFrame, EhFrame}
-use Rattle.dw_unit.specs.Built.{Built}
+use Rattle.dw_tree.specs.Built.{Built}
 use Rattle.dw_dwarf.specs.DwarfValue.{DwarfValue}
 use Rattle.dw_dwarf.specs.Valid.{IsValid}
 use Rattle.dw_dwarf.specs.Written.{SectionTexts}
@@ -14,8 +14,8 @@ use Rattle.dw_link.specs.Outcome.{IsFirstFault}
 use Rattle.dw_link.specs.Sets.{Parts}
 use Rattle.dw_link.specs.declared.error.LinkError.{LinkError}
 use Rattle.dw_build.specs.SetsValue.{SetsValue}
-use Rattle.dw_numbered.specs.Dwarfs.{numbered_dwarf}
-use Rattle.dw_numbered.specs.Joined.{IsValidBehind}
+use Rattle.dw_dwarf_laws.specs.Dwarfs.{numbered_dwarf}
+use Rattle.dw_dwarf_laws.specs.Joined.{IsValidBehind}
 use Rattle.dw_program.specs.Faults.{HasFault}
 use Rattle.dw_program.specs.SetParts.{Placed, ArePlaced, AreSets, files_behind, section_size, section_text, set_layout}
 use Rattle.dw_program.specs.Texts.{refused_text, link_refused_text, sections_text, texts_read}

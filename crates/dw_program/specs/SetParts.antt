@@ -12,9 +12,9 @@ use Rattle.dw_writer.specs.Visits.{written_ids}
 use Rattle.dw_strings.specs.Strings.{string_bytes}
 use Rattle.dw_line.specs.LinePrograms.{line_program_size}
 use Rattle.dw_line.specs.Parts.{sizes}
-use Rattle.dw_unit.specs.Built.{File, at_begin}
-use Rattle.dw_unit.specs.Elsewhere.{line_size, range_size}
-use Rattle.dw_unit.specs.Pending.{Kept, AreInRow, info_of, units_draft, tables_of, locations_draft}
+use Rattle.dw_tree.specs.Built.{File, at_begin}
+use Rattle.dw_tree.specs.Elsewhere.{line_size, range_size}
+use Rattle.dw_tree.specs.Pending.{Kept, AreInRow, info_of, units_draft, tables_of, locations_draft}
 use Rattle.dw_dwarf.specs.DwarfValue.{DwarfValue}
 use Rattle.dw_dwarf.specs.Left.{units_of}
 use Rattle.dw_dwarf.specs.Written.{dwarf_lines, dwarf_ranges}

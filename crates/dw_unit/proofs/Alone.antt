@@ -25,23 +25,23 @@ use Rattle.dw_entries.specs.declared.value.AttributeValue.{AttributeValue}
 use Rattle.dw_entries.specs.declared.value.AttributeValue.TheVariants as values
 use Rattle.dw_entries.specs.Entries.{EntryValue, entry_at, has_sibling}
 use Rattle.dw_entries.specs.Targets.{Tables, UnitTargets}
-use Rattle.dw_unit.specs.Elsewhere.{Elsewhere}
+use Rattle.dw_tree.specs.Elsewhere.{Elsewhere}
 use Rattle.dw_entries.specs.Tree.{preorder}
 use Rattle.dw_entries.specs.Values.{content_of}
 use Rattle.dw_unit.specs.Alone.{is_info_reference, some_info_reference, mark_refers, tree_refers, lists_refer, has_info_reference, only_unit, AppendsAlone, AloneFails, AloneRefused}
-use Rattle.dw_unit.specs.Causes.{UnitFails, UnitRefused}
+use Rattle.dw_tree.specs.Causes.{UnitFails, UnitRefused}
 use Rattle.dw_unit.specs.Filled.{Fills}
 use Rattle.dw_lists.specs.Items.{is_five}
 use Rattle.dw_lists.specs.Tables.{locations_in}
-use Rattle.dw_unit.specs.Locations.{is_own_section, entry_places, location_part}
-use Rattle.dw_unit.specs.Pending.{Kept, draft_of, units_draft, locations_draft, Pending, PendsUnit}
-use Rattle.dw_unit.specs.Coded.{code_at}
-use Rattle.dw_unit.specs.Places.{OffsetsValue, targets_of}
-use Rattle.dw_unit.specs.UnitText.{fitting_text, header_text, attribute_draft, attributes_draft, sibling_draft, code_draft, mark_draft, coded_draft, marks_draft, tree_draft}
-use Rattle.dw_unit.specs.UnitFaults.{holes_fail}
-use Rattle.dw_unit.specs.UnitValue.{UnitValue}
-use Rattle.dw_unit.specs.Whole.{settled, tree_shapes}
-use Rattle.dw_unit.proofs.Faults.{because-map}
+use Rattle.dw_tree.specs.Locations.{is_own_section, entry_places, location_part}
+use Rattle.dw_tree.specs.Pending.{Kept, draft_of, units_draft, locations_draft, Pending, PendsUnit}
+use Rattle.dw_tree.specs.Coded.{code_at}
+use Rattle.dw_tree.specs.Places.{OffsetsValue, targets_of}
+use Rattle.dw_tree.specs.UnitText.{fitting_text, header_text, attribute_draft, attributes_draft, sibling_draft, code_draft, mark_draft, coded_draft, marks_draft, tree_draft}
+use Rattle.dw_tree.specs.UnitFaults.{holes_fail}
+use Rattle.dw_tree.specs.UnitValue.{UnitValue}
+use Rattle.dw_tree.specs.Whole.{settled, tree_shapes}
+use Rattle.dw_tree.proofs.Faults.{because-map}
 use Rattle.dw_unit.proofs.Filling.{fills_none, fills_all}
 use Rattle.dw_unit.proofs.FilledDrafts.{draft_filled}
 use Rattle.dw_unit.proofs.ListHoles.{part_holes_in}

@@ -25,15 +25,15 @@ use Rattle.dw_entries.specs.Tree.{preorder, has_entry, are_entries_distinct}
 use Rattle.dw_entries.specs.Content.{number_in}
 use Rattle.dw_entries.specs.Values.{form_of, constant_of, operand_of, reference_form}
 use Rattle.dw_entries.proofs.Distinct.{preorder_distinct}
-use Rattle.dw_unit.specs.Built.{Numbered, place_read, past_read, places_read, targets_read, Starts, past_unit, IsBuilt, AreBuilt}
-use Rattle.dw_unit.specs.Coded.{code_of_entry}
-use Rattle.dw_unit.specs.DistinctShapes.{entry_shapes, distinct_shapes}
-use Rattle.dw_unit.specs.Places.{found}
-use Rattle.dw_unit.specs.Read.{each, read_attribute, read_sibling, with_sibling, read_attributes, read_entry, read_coded}
-use Rattle.dw_unit.specs.Shapes.{shape_of_entry, sibling_name}
-use Rattle.dw_unit.specs.UnitValue.{UnitValue}
-use Rattle.dw_unit.specs.Whole.{tree_shapes}
-use Rattle.dw_unit.proofs.DistinctShapes.{has_shape-distinct, has_shape-entry, has_shape-at, distinct_shapes-differ, Contains-shape, code_in-place, numbered-declares, entry_of_shape}
+use Rattle.dw_tree.specs.Built.{Numbered, place_read, past_read, places_read, targets_read, Starts, past_unit, IsBuilt, AreBuilt}
+use Rattle.dw_tree.specs.Coded.{code_of_entry}
+use Rattle.dw_tree.specs.DistinctShapes.{entry_shapes, distinct_shapes}
+use Rattle.dw_tree.specs.Places.{found}
+use Rattle.dw_tree.specs.Read.{each, read_attribute, read_sibling, with_sibling, read_attributes, read_entry, read_coded}
+use Rattle.dw_tree.specs.Shapes.{shape_of_entry, sibling_name}
+use Rattle.dw_tree.specs.UnitValue.{UnitValue}
+use Rattle.dw_tree.specs.Whole.{tree_shapes}
+use Rattle.dw_tree.proofs.DistinctShapes.{has_shape-distinct, has_shape-entry, has_shape-at, distinct_shapes-differ, Contains-shape, code_in-place, numbered-declares, entry_of_shape}
 
 -- An entry is read in a row: the row has the number that the entry has in preorder.
 pub record IsReadIn (u : UnitValue) (r : ReadUnit) (i : ℕ) (row : Row) : Type 0 where

@@ -6,13 +6,13 @@ use Rattle.dw_base.specs.declared.error.Error.TheVariants as errors
 use Rattle.dw_writer.specs.Meaning.{Meaning}
 use Rattle.dw_writer.specs.Sections.{SomeHasRisen}
 use Rattle.dw_writer.specs.declared.sections.Sections.{Sections}
-use Rattle.dw_unit.specs.Elsewhere.{Elsewhere, ends_of}
-use Rattle.dw_unit.specs.Causes.{UnitRefused, UnitsFail, UnitsRefused, RefusesAny, ReferencesFail}
-use Rattle.dw_unit.specs.Pending.{Kept, info_of, starts_of}
-use Rattle.dw_unit.specs.ReferenceFaults.{references_fail}
-use Rattle.dw_unit.specs.UnitValue.{UnitValue}
-use Rattle.dw_unit.specs.Valid.{IsWritableAt, CanFollow}
-use Rattle.dw_unit.specs.Written.{to_write}
+use Rattle.dw_tree.specs.Elsewhere.{Elsewhere, ends_of}
+use Rattle.dw_tree.specs.Causes.{UnitRefused, UnitsFail, UnitsRefused, RefusesAny, ReferencesFail}
+use Rattle.dw_tree.specs.Pending.{Kept, info_of, starts_of}
+use Rattle.dw_tree.specs.ReferenceFaults.{references_fail}
+use Rattle.dw_tree.specs.UnitValue.{UnitValue}
+use Rattle.dw_tree.specs.Valid.{IsWritableAt, CanFollow}
+use Rattle.dw_tree.specs.Written.{to_write}
 use Rattle.dw_unit.proofs.TableLaws.{info_kept, units_unfailing, one_row}
 use Rattle.dw_unit.proofs.ValidLaws.{unit_unfailing}
 

@@ -13,8 +13,8 @@ use Rattle.dw_writer.specs.New.{IsEmptyWriter, IsEmptyPlainWriter}
 use Rattle.dw_writer.specs.Drafts.{Info, then_draft, started, filled_text}
 use Rattle.dw_writer.proofs.Laws.{followed-somes}
 use Rattle.dw_writer.proofs.Steps.{followed_texts-wide}
-use Rattle.dw_unit.specs.Built.{Numbered, File, Starts, AreBuilt, AreFilesBuilt, Built, past_units, at_begin, at_end, at_zero}
-use Rattle.dw_unit.specs.Pending.{Kept, draft_at, units_draft, tables_of, past_kept, info_of, AreInRow, AddsUnits}
+use Rattle.dw_tree.specs.Built.{Numbered, File, Starts, AreBuilt, AreFilesBuilt, Built, past_units, at_begin, at_end, at_zero}
+use Rattle.dw_tree.specs.Pending.{Kept, draft_at, units_draft, tables_of, past_kept, info_of, AreInRow, AddsUnits}
 use Rattle.dw_unit.proofs.ReadUnits.{parted, AreReadAs, units-again}
 use Rattle.dw_unit.proofs.UnitsBuilt.{past_is, units_built}
 

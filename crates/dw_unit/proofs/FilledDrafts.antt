@@ -12,8 +12,8 @@ use Rattle.dw_writer.proofs.Laws.{resolved-wide}
 use Rattle.dw_writer.proofs.Steps.{IsSameWriter-trans}
 use Rattle.dw_writer.proofs.WriteLaws.{between-place}
 use Rattle.dw_unit.specs.Filled.{Fills, AreFillable}
-use Rattle.dw_unit.specs.Pending.{AddsFilled}
-use Rattle.dw_unit.specs.UnitFaults.{holes_fail}
+use Rattle.dw_tree.specs.Pending.{AddsFilled}
+use Rattle.dw_tree.specs.UnitFaults.{holes_fail}
 use Rattle.dw_unit.proofs.Filling.{holes-shifted}
 
 module _ (a b : Meaning) (kept all : List DebugInfoFixup) (d : Draft) (none : kept ≡ []) (p : Drafts a b kept all d) where

@@ -18,9 +18,9 @@ use Rattle.dw_writer.specs.Causes.{NumberRefused, PatchRefused, offset_fits}
 use Rattle.dw_writer.proofs.Steps.{IsSameWriter-trans, Patches-as}
 use Rattle.dw_writer.proofs.WriteLaws.{clear-patched}
 use Rattle.dw_entries.specs.Targets.{HasInfoPlace, HaveInfoPlaces}
-use Rattle.dw_unit.specs.Causes.{Refused, Is}
+use Rattle.dw_tree.specs.Causes.{Refused, Is}
 use Rattle.dw_unit.specs.Filled.{Fills, IsFillable, AreFillable}
-use Rattle.dw_unit.specs.UnitFaults.{has_no_room, hole_fails, holes_fail}
+use Rattle.dw_tree.specs.UnitFaults.{has_no_room, hole_fails, holes_fail}
 
 -- Faults
 

@@ -6,7 +6,7 @@ use Rattle.dw_entries.specs.declared.attribute.Attribute.{Attribute}
 use Rattle.dw_entries.specs.Entries.{EntryValue, with_attributes}
 use Rattle.dw_entries.specs.Arena.{EntriesValue, with_entry as with_entry_in}
 use Rattle.dw_unit.specs.declared.entry_mut.EntryMut.{EntryMut}
-use Rattle.dw_unit.specs.UnitValue.{UnitValue, entries_of, with_entry}
+use Rattle.dw_tree.specs.UnitValue.{UnitValue, entries_of, with_entry}
 use Rattle.dw_unit.specs.Lends.{handle_with}
 use denote.MutBor.{at_last}
 

@@ -9,10 +9,10 @@ use Rattle.dw_writer.specs.Meaning.{Meaning}
 use Rattle.dw_writer.specs.declared.sections.Sections.{Sections}
 use Rattle.dw_line.specs.LinePrograms.{line_program_size, line_program_text, line_program_fails}
 use Rattle.dw_line.specs.Parts.{Refused as LinesRefused}
-use Rattle.dw_unit.specs.Causes.{Because, Is}
-use Rattle.dw_unit.specs.Elsewhere.{Elsewhere, line_fails, line_size, line_text, AppendsLine, AppendsLines}
-use Rattle.dw_unit.specs.UnitValue.{UnitValue}
-use Rattle.dw_unit.specs.Whole.{lines_in_use}
+use Rattle.dw_tree.specs.Causes.{Because, Is}
+use Rattle.dw_tree.specs.Elsewhere.{Elsewhere, line_fails, line_size, line_text, AppendsLine, AppendsLines}
+use Rattle.dw_tree.specs.UnitValue.{UnitValue}
+use Rattle.dw_tree.specs.Whole.{lines_in_use}
 use Rattle.dw_unit.proofs.UnitTexts.{behind-none, behind-as, behind-new, behind-old}
 
 module _ (line_strings strings : List (List ℕ)) {W : Type 0} (meaning : W → Meaning) where

@@ -15,7 +15,7 @@ use Rattle.dw_lists.specs.Tables.{entries_of, body_draft, table_by, table_draft,
 use Rattle.dw_lists.specs.Texts.{span_draft, close_draft, count_draft, located, part_draft, parts_draft, list_draft, lists_draft as drafts_of_lists}
 use Rattle.dw_lists.specs.declared.location.Location.{Location}
 use Rattle.dw_unit.specs.Alone.{part_refers, list_refers, lists_refer}
-use Rattle.dw_unit.specs.Locations.{is_own_section, lists_part}
+use Rattle.dw_tree.specs.Locations.{is_own_section, lists_part}
 
 and_true : (b : Bool) → (b && true) ≡ b
 and_true true = refl

@@ -13,17 +13,17 @@ use Rattle.dw_writer.proofs.Parts.{Adds-none}
 use Rattle.dw_writer.proofs.Steps.{IsSameWriter-trans, Adds-then}
 use Rattle.dw_writer.proofs.WriteLaws.{Drafts-nothing, Drafts-then, Drafts-is, between-place}
 use Rattle.dw_entries.specs.Targets.{Tables}
-use Rattle.dw_unit.specs.Built.{Numbered, Starts, at_zero}
+use Rattle.dw_tree.specs.Built.{Numbered, Starts, at_zero}
 use Rattle.dw_unit.specs.Filled.{Fills}
-use Rattle.dw_unit.specs.Locations.{AppendsLocations}
-use Rattle.dw_unit.specs.Pending.{Kept, draft_of, draft_at, past_kept, units_draft, tables_of, kept_offsets, kept_at, AreInRow, starts_of, IsThereFilled, PendsTree, PendsUnit, Pending, ExtendsPending, AddsUnits}
-use Rattle.dw_unit.specs.Places.{Offsets, OffsetsValue}
-use Rattle.dw_unit.specs.UnitFaults.{holes_fail}
-use Rattle.dw_unit.specs.UnitValue.{UnitValue}
-use Rattle.dw_unit.specs.Whole.{tree_table}
-use Rattle.dw_unit.proofs.TextsThere.{then_filled, nothing_filled}
+use Rattle.dw_tree.specs.Locations.{AppendsLocations}
+use Rattle.dw_tree.specs.Pending.{Kept, draft_of, draft_at, past_kept, units_draft, tables_of, kept_offsets, kept_at, AreInRow, starts_of, IsThereFilled, PendsTree, PendsUnit, Pending, ExtendsPending, AddsUnits}
+use Rattle.dw_tree.specs.Places.{Offsets, OffsetsValue}
+use Rattle.dw_tree.specs.UnitFaults.{holes_fail}
+use Rattle.dw_tree.specs.UnitValue.{UnitValue}
+use Rattle.dw_tree.specs.Whole.{tree_table}
+use Rattle.dw_tree.proofs.TextsThere.{then_filled, nothing_filled}
 use Rattle.dw_unit.proofs.Filling.{holes-shifted, holes_lead}
-use Rattle.dw_unit.proofs.LocationSteps.{lists_none, lists_one, lists_then}
+use Rattle.dw_tree.proofs.LocationSteps.{lists_none, lists_one, lists_then}
 
 -- Rows
 

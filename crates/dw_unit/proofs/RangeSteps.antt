@@ -15,11 +15,11 @@ use Rattle.dw_lists.specs.Causes.{Refused as ListsRefused}
 use Rattle.dw_lists.specs.Items.{is_five}
 use Rattle.dw_lists.specs.Pieces.{IsWritten}
 use Rattle.dw_lists.specs.Tables.{range_section, ranges_of, OthersStay}
-use Rattle.dw_unit.specs.Causes.{Because, Is}
-use Rattle.dw_unit.specs.Elsewhere.{End, Ends, Elsewhere, end_of, elsewhere, past_end, past_parts, line_size, location_size, AreFound, range_size, range_text, range_draft, ranges_at, ranges_plain, ranges_fail_in, AppendsLine, AppendsRanges, AppendsAllRanges}
-use Rattle.dw_unit.specs.Locations.{AppendsLocations}
-use Rattle.dw_unit.specs.UnitValue.{UnitValue}
-use Rattle.dw_unit.specs.Whole.{settled}
+use Rattle.dw_tree.specs.Causes.{Because, Is}
+use Rattle.dw_tree.specs.Elsewhere.{End, Ends, Elsewhere, end_of, elsewhere, past_end, past_parts, line_size, location_size, AreFound, range_size, range_text, range_draft, ranges_at, ranges_plain, ranges_fail_in, AppendsLine, AppendsRanges, AppendsAllRanges}
+use Rattle.dw_tree.specs.Locations.{AppendsLocations}
+use Rattle.dw_tree.specs.UnitValue.{UnitValue}
+use Rattle.dw_tree.specs.Whole.{settled}
 use Rattle.dw_unit.proofs.UnitTexts.{end-past, appends-none, appends-new, appends-old}
 
 module _ {W : Type 0} (meaning : W → Meaning) where

@@ -15,13 +15,13 @@ use Rattle.dw_entries.specs.Entries.{EntryValue, is_parent, entry_at}
 use Rattle.dw_entries.specs.Targets.{Targets, targets_in}
 use Rattle.dw_entries.specs.Tree.{preorder, children_in}
 use Rattle.dw_entries.specs.Targets.{Tables}
-use Rattle.dw_unit.specs.Built.{place_read, past_read, placement_read}
-use Rattle.dw_unit.specs.Coded.{code_of_entry}
-use Rattle.dw_unit.specs.Laid.{entry_size, size_of, place_from, behind_from, past_from}
-use Rattle.dw_unit.specs.Places.{Placement, targets_of, IsSamePlacement}
-use Rattle.dw_unit.specs.Read.{read_coded, read_marks, read_tree}
-use Rattle.dw_unit.specs.Whole.{tree_shapes, IsTreePlacement}
-use Rattle.dw_unit.proofs.ReadMarks.{mark_children, mark_size}
+use Rattle.dw_tree.specs.Built.{place_read, past_read, placement_read}
+use Rattle.dw_tree.specs.Coded.{code_of_entry}
+use Rattle.dw_tree.specs.Laid.{entry_size, size_of, place_from, behind_from, past_from}
+use Rattle.dw_tree.specs.Places.{Placement, targets_of, IsSamePlacement}
+use Rattle.dw_tree.specs.Read.{read_coded, read_marks, read_tree}
+use Rattle.dw_tree.specs.Whole.{tree_shapes, IsTreePlacement}
+use Rattle.dw_tree.proofs.ReadMarks.{mark_children, mark_size}
 
 -- places that are the same under each index are equal
 pub placement-same : (p q : Placement) → IsSamePlacement p q → p ≡ q

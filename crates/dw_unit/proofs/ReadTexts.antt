@@ -22,11 +22,11 @@ use Rattle.dw_entries.specs.Tree.{preorder}
 use Rattle.dw_entries.specs.Content.{number_in}
 use Rattle.dw_entries.specs.Values.{form_of, constant_of, operand_of, reference_form, value_text}
 use Rattle.dw_entries.proofs.ContentLaws.{kind_of-reference}
-use Rattle.dw_unit.specs.Coded.{code_at}
-use Rattle.dw_unit.specs.Shapes.{sibling_name}
-use Rattle.dw_unit.specs.UnitText.{fitting_text, attributes_draft, sibling_draft, entry_draft, mark_draft, marks_draft, tree_draft}
-use Rattle.dw_unit.specs.Read.{each, read_attribute, read_sibling, with_sibling, read_attributes, read_entry, read_mark, read_coded, read_marks, read_tree}
-use Rattle.dw_unit.specs.Whole.{tree_shapes}
+use Rattle.dw_tree.specs.Coded.{code_at}
+use Rattle.dw_tree.specs.Shapes.{sibling_name}
+use Rattle.dw_tree.specs.UnitText.{fitting_text, attributes_draft, sibling_draft, entry_draft, mark_draft, marks_draft, tree_draft}
+use Rattle.dw_tree.specs.Read.{each, read_attribute, read_sibling, with_sibling, read_attributes, read_entry, read_mark, read_coded, read_marks, read_tree}
+use Rattle.dw_tree.specs.Whole.{tree_shapes}
 
 -- Texts of what may be missing
 

@@ -22,15 +22,15 @@ use Rattle.dw_writer.proofs.Plain.{num-byte}
 use Rattle.dw_entries.specs.Entries.{EntryValue}
 use Rattle.dw_entries.specs.Targets.{targets_in}
 use Rattle.dw_entries.specs.Targets.{Tables}
-use Rattle.dw_unit.specs.Built.{Numbered, Starts}
-use Rattle.dw_unit.specs.Pending.{Kept, draft_of, draft_at, units_draft, tables_of, past_kept, Stands, AreInRow}
-use Rattle.dw_unit.specs.Places.{targets_of}
-use Rattle.dw_unit.specs.Read.{read_tree}
-use Rattle.dw_unit.specs.UnitFaults.{is_version, is_encodable}
-use Rattle.dw_unit.specs.UnitText.{fitting_text, length_text, fields_text, after_version_text, header_text, unit_length, tree_draft}
-use Rattle.dw_unit.specs.Whole.{tree_declared, tree_table}
+use Rattle.dw_tree.specs.Built.{Numbered, Starts}
+use Rattle.dw_tree.specs.Pending.{Kept, draft_of, draft_at, units_draft, tables_of, past_kept, Stands, AreInRow}
+use Rattle.dw_tree.specs.Places.{targets_of}
+use Rattle.dw_tree.specs.Read.{read_tree}
+use Rattle.dw_tree.specs.UnitFaults.{is_version, is_encodable}
+use Rattle.dw_tree.specs.UnitText.{fitting_text, length_text, fields_text, after_version_text, header_text, unit_length, tree_draft}
+use Rattle.dw_tree.specs.Whole.{tree_declared, tree_table}
 use Rattle.dw_unit.proofs.ReadTexts.{tree_text}
-use Rattle.dw_unit.proofs.ReadMarks.{tree_fits}
+use Rattle.dw_tree.proofs.ReadMarks.{tree_fits}
 
 -- two texts that are there, one after the other
 pub record IsParted (t u : Text) (xs : List ℕ) : Type 0 where

@@ -13,16 +13,16 @@ use Rattle.dw_writer.proofs.FaultLaws.{HasRisen-from}
 use Rattle.dw_entries.specs.Entries.{EntryValue}
 use Rattle.dw_entries.specs.Targets.{Tables}
 use Rattle.dw_lists.specs.declared.location.Location.{Location}
-use Rattle.dw_unit.specs.Causes.{Because, Is, TreeFails, LocationsFail, UnitFails, UnitRefused}
+use Rattle.dw_tree.specs.Causes.{Because, Is, TreeFails, LocationsFail, UnitFails, UnitRefused}
 use Rattle.dw_lists.specs.Tables.{locations_of}
-use Rattle.dw_unit.specs.Elsewhere.{Elsewhere, elsewhere, unit_tables, tree_tables, PartPlaces, part_places, locations_at, locations_plain, line_fails, ranges_fail, parts_fail, AppendsLine, AppendsRanges, KeepsAllButParts}
-use Rattle.dw_unit.specs.Locations.{AppendsLists}
-use Rattle.dw_unit.specs.Pending.{Kept, PendsTree}
-use Rattle.dw_unit.specs.UnitValue.{UnitValue}
-use Rattle.dw_unit.specs.Whole.{settled}
-use Rattle.dw_unit.specs.Written.{KeepsOtherSections, KeepsAllButTree}
-use Rattle.dw_unit.proofs.Faults.{because-map}
-use Rattle.dw_unit.proofs.LocationSteps.{locations_at-is, locations_plain-is}
+use Rattle.dw_tree.specs.Elsewhere.{Elsewhere, elsewhere, unit_tables, tree_tables, PartPlaces, part_places, locations_at, locations_plain, line_fails, ranges_fail, parts_fail, AppendsLine, AppendsRanges, KeepsAllButParts}
+use Rattle.dw_tree.specs.Locations.{AppendsLists}
+use Rattle.dw_tree.specs.Pending.{Kept, PendsTree}
+use Rattle.dw_tree.specs.UnitValue.{UnitValue}
+use Rattle.dw_tree.specs.Whole.{settled}
+use Rattle.dw_tree.specs.Written.{KeepsOtherSections, KeepsAllButTree}
+use Rattle.dw_tree.proofs.Faults.{because-map}
+use Rattle.dw_tree.proofs.LocationSteps.{locations_at-is, locations_plain-is}
 
 module _ (u : UnitValue) (t : Elsewhere) (e : Encoding) (es : List EntryValue) (found : Tables) (is_e : e ≡ u.encoding) (is_es : es ≡ (settled u).entries) (is_found : found ≡ unit_tables t u) where
   -- what is said of the entries that were written is said of those of the settled unit

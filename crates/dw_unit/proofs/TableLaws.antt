@@ -5,15 +5,15 @@ use Rattle.std.proofs.Math.Path.{fun_ext}
 use Rattle.std.proofs.lemmas.List.Elements.{All-head, All-tail}
 use Rattle.std.specs.Option.{option_map}
 use Rattle.dw_base.specs.declared.error.Error.{Error}
-use Rattle.dw_unit.specs.Elsewhere.{Elsewhere, past_parts, past_elsewhere}
-use Rattle.dw_unit.specs.Built.{Numbered, Starts, settled_at, numbered_from}
-use Rattle.dw_unit.specs.Causes.{UnitsFail}
-use Rattle.dw_unit.specs.Pending.{Kept, past_kept, info_at, info_of, KeepPlaces, StandsAt, AreInRow}
-use Rattle.dw_unit.specs.Places.{Placement, info_from, offsets_in}
-use Rattle.dw_unit.specs.UnitValue.{UnitValue}
-use Rattle.dw_unit.specs.Valid.{IsWritableAt, AreWritable}
-use Rattle.dw_unit.specs.Written.{to_write_from, past_table}
-use Rattle.dw_unit.proofs.OnePlacement.{one_placement, placement-same}
+use Rattle.dw_tree.specs.Elsewhere.{Elsewhere, past_parts, past_elsewhere}
+use Rattle.dw_tree.specs.Built.{Numbered, Starts, settled_at, numbered_from}
+use Rattle.dw_tree.specs.Causes.{UnitsFail}
+use Rattle.dw_tree.specs.Pending.{Kept, past_kept, info_at, info_of, KeepPlaces, StandsAt, AreInRow}
+use Rattle.dw_tree.specs.Places.{Placement, info_from, offsets_in}
+use Rattle.dw_tree.specs.UnitValue.{UnitValue}
+use Rattle.dw_tree.specs.Valid.{IsWritableAt, AreWritable}
+use Rattle.dw_tree.specs.Written.{to_write_from, past_table}
+use Rattle.dw_tree.proofs.OnePlacement.{one_placement, placement-same}
 use Rattle.dw_unit.proofs.ValidLaws.{unit_unfailing}
 
 -- where a table keeps these places, entries stand there

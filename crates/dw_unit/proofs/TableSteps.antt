@@ -6,16 +6,16 @@ use Rattle.std.proofs.lemmas.List.Elements.{All-head, All-tail}
 use Rattle.dw_base.specs.Numbers.{◌>>=◌}
 use Rattle.dw_base.specs.declared.error.Error.{Error}
 use Rattle.dw_entries.specs.Targets.{Tables}
-use Rattle.dw_unit.specs.Elsewhere.{Elsewhere, past_parts, past_elsewhere}
-use Rattle.dw_unit.specs.Built.{Numbered, Starts, table_size, settled_at}
-use Rattle.dw_unit.specs.Causes.{UnitFails, UnitsFail}
-use Rattle.dw_unit.specs.Pending.{Kept, kept_offsets, kept_at, offsets_at, KeepPlaces}
+use Rattle.dw_tree.specs.Elsewhere.{Elsewhere, past_parts, past_elsewhere}
+use Rattle.dw_tree.specs.Built.{Numbered, Starts, table_size, settled_at}
+use Rattle.dw_tree.specs.Causes.{UnitFails, UnitsFail}
+use Rattle.dw_tree.specs.Pending.{Kept, kept_offsets, kept_at, offsets_at, KeepPlaces}
 use Rattle.std.specs.Option.{option_map}
-use Rattle.dw_unit.specs.Places.{Offsets, offsets_in}
-use Rattle.dw_unit.specs.UnitValue.{UnitValue, offsets_of}
-use Rattle.dw_unit.specs.Valid.{IsWritableAt, AreWritable}
-use Rattle.dw_unit.specs.Whole.{settled, marked_written, IsRefused}
-use Rattle.dw_unit.specs.Written.{to_write_from, past_table, IsPassedOver, IsWrittenAt, past_written, AreWritten, AreStopped}
+use Rattle.dw_tree.specs.Places.{Offsets, offsets_in}
+use Rattle.dw_tree.specs.UnitValue.{UnitValue, offsets_of}
+use Rattle.dw_tree.specs.Valid.{IsWritableAt, AreWritable}
+use Rattle.dw_tree.specs.Whole.{settled, marked_written, IsRefused}
+use Rattle.dw_tree.specs.Written.{to_write_from, past_table, IsPassedOver, IsWrittenAt, past_written, AreWritten, AreStopped}
 use Rattle.dw_unit.proofs.UnitTexts.{past_all, past-old, past-new}
 use Rattle.dw_unit.proofs.PendingSteps.{kept_other, kept_last}
 

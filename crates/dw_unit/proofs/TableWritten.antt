@@ -13,18 +13,18 @@ use Rattle.dw_writer.specs.Meaning.{Adds}
 use Rattle.std.proofs.lemmas.Bool.{or_parts}
 use Rattle.dw_writer.specs.declared.sections.Sections.{Sections}
 use Rattle.dw_entries.specs.Targets.{Tables}
-use Rattle.dw_unit.specs.Elsewhere.{Elsewhere, elsewhere, ends_of, unit_tables, past_parts, AppendsLine, AppendsLines, AppendsRanges, AppendsAllRanges}
-use Rattle.dw_unit.specs.Built.{Numbered, Starts, table_size, settled_at}
-use Rattle.dw_unit.specs.Causes.{Because, Is, UnitRefused, UnitFails, UnitsFail, ReferencesFail, UnitsRefused, RefusesAny}
+use Rattle.dw_tree.specs.Elsewhere.{Elsewhere, elsewhere, ends_of, unit_tables, past_parts, AppendsLine, AppendsLines, AppendsRanges, AppendsAllRanges}
+use Rattle.dw_tree.specs.Built.{Numbered, Starts, table_size, settled_at}
+use Rattle.dw_tree.specs.Causes.{Because, Is, UnitRefused, UnitFails, UnitsFail, ReferencesFail, UnitsRefused, RefusesAny}
 use Rattle.dw_unit.specs.Filled.{FillsAll, AreAllFillable, open_fail}
-use Rattle.dw_unit.specs.Pending.{Kept, draft_of, past_kept, units_draft, tables_of, locations_draft, info_at, starts_of, KeepPlaces, PendsTree, PendsUnit, Pending}
-use Rattle.dw_unit.specs.ReferenceFaults.{lists_refer_wrong, references_fail}
-use Rattle.dw_unit.specs.UnitFaults.{holes_fail}
-use Rattle.dw_unit.specs.UnitValue.{UnitValue}
-use Rattle.dw_unit.specs.Valid.{IsWritableAt, AreWritable}
-use Rattle.dw_unit.specs.Whole.{settled, marked_written, IsRefused}
-use Rattle.dw_unit.specs.Written.{to_write, IsWrittenAt, AreWritten, AreStopped, PendsUnits, CompletesPending, WritesIfNew, KeepsOtherSections}
-use Rattle.dw_unit.proofs.Faults.{because-map}
+use Rattle.dw_tree.specs.Pending.{Kept, draft_of, past_kept, units_draft, tables_of, locations_draft, info_at, starts_of, KeepPlaces, PendsTree, PendsUnit, Pending}
+use Rattle.dw_tree.specs.ReferenceFaults.{lists_refer_wrong, references_fail}
+use Rattle.dw_tree.specs.UnitFaults.{holes_fail}
+use Rattle.dw_tree.specs.UnitValue.{UnitValue}
+use Rattle.dw_tree.specs.Valid.{IsWritableAt, AreWritable}
+use Rattle.dw_tree.specs.Whole.{settled, marked_written, IsRefused}
+use Rattle.dw_tree.specs.Written.{to_write, IsWrittenAt, AreWritten, AreStopped, PendsUnits, CompletesPending, WritesIfNew, KeepsOtherSections}
+use Rattle.dw_tree.proofs.Faults.{because-map}
 use Rattle.dw_unit.proofs.LineSteps.{lines_none, lines_new, lines_old}
 use Rattle.dw_unit.proofs.RangeSteps.{ranges_none, ranges_new, ranges_old, elsewhere-new}
 use Rattle.dw_unit.proofs.UnitTexts.{past_all, past_all-more, past-old, past-new}

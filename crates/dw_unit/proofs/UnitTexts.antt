@@ -9,8 +9,8 @@ use Rattle.dw_writer.proofs.Parts.{Adds-none, followed-nothing}
 use Rattle.dw_writer.proofs.Steps.{Adds-appends, Appends-then, Appends-as}
 use Rattle.dw_line.specs.Parts.{sizes, texts}
 use Rattle.dw_line.proofs.FrontSteps.{Front-none, Front-then}
-use Rattle.dw_unit.specs.Elsewhere.{End, Elsewhere, end_of, past_end, past_parts, past_elsewhere, new_size, new_text, AppendsBehind}
-use Rattle.dw_unit.specs.UnitValue.{UnitValue}
+use Rattle.dw_tree.specs.Elsewhere.{End, Elsewhere, end_of, past_end, past_parts, past_elsewhere, new_size, new_text, AppendsBehind}
+use Rattle.dw_tree.specs.UnitValue.{UnitValue}
 
 -- what is found behind units of a table
 abbrev pub past_all : Elsewhere → List UnitValue → Elsewhere

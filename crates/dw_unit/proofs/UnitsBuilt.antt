@@ -12,12 +12,12 @@ use Rattle.dw_writer.specs.Meaning.{Layout, start_of}
 use Rattle.dw_writer.specs.Drafts.{Info, then_draft, started}
 use Rattle.dw_entries.specs.Targets.{targets_in}
 use Rattle.dw_entries.specs.Tree.{preorder}
-use Rattle.dw_unit.specs.Built.{Numbered, placement_read, places_read, unit_offsets_read, offsets_read, info_read, IsBuilt, AreBuilt, Starts, unit_size, past_unit, past_units}
-use Rattle.dw_unit.specs.Pending.{Kept, draft_at, units_draft, tables_of, past_kept, kept_offsets, kept_at, info_of, StandsAt, AreInRow}
-use Rattle.dw_unit.specs.Places.{Offsets, found, targets_of, in_info}
-use Rattle.dw_unit.specs.Read.{read_tree}
-use Rattle.dw_unit.specs.Whole.{tree_size, tree_table}
-use Rattle.dw_unit.proofs.ReadMarks.{tree_draft-size}
+use Rattle.dw_tree.specs.Built.{Numbered, placement_read, places_read, unit_offsets_read, offsets_read, info_read, IsBuilt, AreBuilt, Starts, unit_size, past_unit, past_units}
+use Rattle.dw_tree.specs.Pending.{Kept, draft_at, units_draft, tables_of, past_kept, kept_offsets, kept_at, info_of, StandsAt, AreInRow}
+use Rattle.dw_tree.specs.Places.{Offsets, found, targets_of, in_info}
+use Rattle.dw_tree.specs.Read.{read_tree}
+use Rattle.dw_tree.specs.Whole.{tree_size, tree_table}
+use Rattle.dw_tree.proofs.ReadMarks.{tree_draft-size}
 use Rattle.dw_unit.proofs.ReadPlaces.{marks-rows_of, placement-read}
 use Rattle.dw_unit.proofs.ReadUnits.{IsReadAs, AreReadAs}
 

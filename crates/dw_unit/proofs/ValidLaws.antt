@@ -10,19 +10,19 @@ use Rattle.dw_writer.specs.Causes.{offset_fits}
 use Rattle.dw_entries.specs.Entries.{EntryValue}
 use Rattle.dw_entries.specs.Tree.{preorder}
 use Rattle.dw_entries.specs.Targets.{Tables}
-use Rattle.dw_unit.specs.Early.{tree_is_forward}
-use Rattle.dw_unit.specs.Elsewhere.{Elsewhere, unit_tables, parts_fail, locations_fail}
-use Rattle.dw_unit.specs.Causes.{TreeFails, UnitFails}
-use Rattle.dw_unit.specs.Places.{Placement, targets_of}
-use Rattle.dw_unit.specs.UnitFaults.{is_version, is_encodable, encoding_fails, fields_fail, header_fails, marks_fail, unit_fails}
-use Rattle.dw_unit.specs.UnitText.{tree_draft, unit_length}
-use Rattle.dw_unit.specs.UnitValue.{UnitValue}
-use Rattle.dw_unit.specs.Valid.{IsWritableTree, IsWritable}
-use Rattle.dw_unit.specs.Whole.{settled}
-use Rattle.dw_unit.proofs.Faults.{neither}
-use Rattle.dw_unit.proofs.OnePlacement.{one_placement, placement-same, room_enough}
-use Rattle.dw_unit.proofs.ReadMarks.{tree_draft-size}
-use Rattle.dw_unit.proofs.UnitSteps.{header_sound}
+use Rattle.dw_tree.specs.Early.{tree_is_forward}
+use Rattle.dw_tree.specs.Elsewhere.{Elsewhere, unit_tables, parts_fail, locations_fail}
+use Rattle.dw_tree.specs.Causes.{TreeFails, UnitFails}
+use Rattle.dw_tree.specs.Places.{Placement, targets_of}
+use Rattle.dw_tree.specs.UnitFaults.{is_version, is_encodable, encoding_fails, fields_fail, header_fails, marks_fail, unit_fails}
+use Rattle.dw_tree.specs.UnitText.{tree_draft, unit_length}
+use Rattle.dw_tree.specs.UnitValue.{UnitValue}
+use Rattle.dw_tree.specs.Valid.{IsWritableTree, IsWritable}
+use Rattle.dw_tree.specs.Whole.{settled}
+use Rattle.dw_tree.proofs.Faults.{neither}
+use Rattle.dw_tree.proofs.OnePlacement.{one_placement, placement-same, room_enough}
+use Rattle.dw_tree.proofs.ReadMarks.{tree_draft-size}
+use Rattle.dw_tree.proofs.UnitSteps.{header_sound}
 
 not_both : (b : Bool) → IsTrue b → IsFalse b → ⊥
 not_both true t f = absurd (let x : true ≡ false = f in cc)

@@ -17,17 +17,17 @@ use Rattle.dw_entries.specs.declared.value.AttributeValue.{AttributeValue}
 use Rattle.dw_entries.specs.declared.value.AttributeValue.TheVariants as values
 use Rattle.dw_entries.specs.Entries.{EntryValue, entry_at}
 use Rattle.dw_entries.specs.Targets.{Tables}
-use Rattle.dw_unit.specs.Elsewhere.{Elsewhere}
+use Rattle.dw_tree.specs.Elsewhere.{Elsewhere}
 use Rattle.dw_entries.specs.Tree.{preorder}
-use Rattle.dw_unit.specs.Built.{Numbered}
-use Rattle.dw_unit.specs.Causes.{Because, UnitFails}
+use Rattle.dw_tree.specs.Built.{Numbered}
+use Rattle.dw_tree.specs.Causes.{Because, UnitFails}
 use Rattle.dw_lists.specs.Parts.{Part}
 use Rattle.dw_lists.specs.Tables.{locations_in}
-use Rattle.dw_unit.specs.Pending.{Kept, kept_offsets, units_draft, locations_draft}
-use Rattle.dw_unit.specs.Places.{OffsetsValue, offsets_in}
-use Rattle.dw_unit.specs.UnitValue.{UnitValue}
-use Rattle.dw_unit.specs.Whole.{settled}
-use Rattle.dw_unit.specs.Written.{AppendsUnits}
+use Rattle.dw_tree.specs.Pending.{Kept, kept_offsets, units_draft, locations_draft}
+use Rattle.dw_tree.specs.Places.{OffsetsValue, offsets_in}
+use Rattle.dw_tree.specs.UnitValue.{UnitValue}
+use Rattle.dw_tree.specs.Whole.{settled}
+use Rattle.dw_tree.specs.Written.{AppendsUnits}
 
 -- a value names an entry by its place in .debug_info, alone or in an expression
 abbrev pub is_info_reference : AttributeValue → Bool

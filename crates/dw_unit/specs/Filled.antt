@@ -7,7 +7,7 @@ use Rattle.dw_writer.specs.Drafts.{Info, started, filled, AreBetween, AreClear, 
 use Rattle.dw_writer.specs.declared.fixup.DebugInfoFixup.{DebugInfoFixup}
 use Rattle.dw_writer.specs.declared.sections.Sections.{Sections}
 use Rattle.dw_base.specs.declared.error.Error.{Error}
-use Rattle.dw_unit.specs.UnitFaults.{holes_fail}
+use Rattle.dw_tree.specs.UnitFaults.{holes_fail}
 
 -- Each reference gets the place of its entry. Where they stand one behind another, and no record meets them, that is so in
 -- every layout.

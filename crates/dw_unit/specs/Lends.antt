@@ -10,7 +10,7 @@ use Rattle.dw_entries.specs.contracts.value.AttributeValue as value
 use Rattle.dw_entries.specs.contracts.attribute_walk.AttributeWalk as walk
 use Rattle.dw_unit.specs.contracts.entry_mut.EntryMut as handle
 use Rattle.dw_entries.specs.Entries.{with_attribute, with_attributes}
-use Rattle.dw_unit.specs.UnitValue.{with_entry}
+use Rattle.dw_tree.specs.UnitValue.{with_entry}
 use Rattle.dw_entries.proofs.Changed.{length-with_changed}
 use denote.MutBor.{at_last}
 use mir.Syntax.{named}

@@ -1,6 +1,6 @@
 -- The units of a table with the ids that name them.
 use Rattle.std.specs.Prelude.{ℕ, suc, List, [], ◌∷◌}
-use Rattle.dw_unit.specs.UnitValue.{UnitValue}
+use Rattle.dw_tree.specs.UnitValue.{UnitValue}
 
 pub record UnitWithId : Type 0 where
   pub id : ℕ

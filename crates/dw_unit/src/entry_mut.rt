@@ -3,7 +3,7 @@
 ghost use Rattle.std.specs.Prelude.{◌≡◌, ◌≢◌, ◌<◌, length, Some, None, slice_get, OnOk, OnErr, IfErr};
 ghost use Rattle.dw_base.specs.declared.error.Error.TheVariants.{NoMemory};
 ghost use Rattle.dw_entries.specs.Entries.{with_sibling, with_attribute, without_attribute, without_child};
-ghost use Rattle.dw_unit.specs.UnitValue.{with_entry, value_in, KeepsOtherValues};
+ghost use Rattle.dw_tree.specs.UnitValue.{with_entry, value_in, KeepsOtherValues};
 
 use crate::unit::Unit;
 use dw_base::constants::DW_AT_sibling;

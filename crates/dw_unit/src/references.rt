@@ -7,10 +7,10 @@ ghost use Rattle.dw_writer.specs.Causes.{IsNotMemory};
 ghost use Rattle.dw_writer.specs.Drafts.{hole_model};
 ghost use Rattle.dw_writer.specs.Meaning.{Patches};
 ghost use Rattle.dw_writer.specs.Sections.{SomeHasRisen, fault_sum};
-ghost use Rattle.dw_unit.specs.Causes.{Because, Refused, Is};
+ghost use Rattle.dw_tree.specs.Causes.{Because, Refused, Is};
 ghost use Rattle.dw_unit.specs.Filled.{Fills, FillsAll, IsFillable, AreFillable, AreAllFillable, open_fail};
-ghost use Rattle.dw_unit.specs.Pending.{info_at};
-ghost use Rattle.dw_unit.specs.UnitFaults.{hole_fails, holes_fail};
+ghost use Rattle.dw_tree.specs.Pending.{info_at};
+ghost use Rattle.dw_tree.specs.UnitFaults.{hole_fails, holes_fail};
 
 use crate::unit::Unit;
 use dw_base::{DebugInfoOffset, Error, Result, SectionId, UnitEntryId, UnitId};

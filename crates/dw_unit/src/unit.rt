@@ -5,20 +5,17 @@ ghost use Rattle.std.specs.Option.{is_some, option_map};
 ghost use Rattle.dw_base.specs.declared.error.Error.TheVariants.{NoMemory};
 ghost use Rattle.dw_writer.specs.Sections.{NoFixups};
 ghost use Rattle.dw_entries.specs.Entries.{with_added};
-ghost use Rattle.dw_unit.specs.Places.{offsets_in};
-ghost use Rattle.dw_unit.specs.UnitValue.{new_unit, offsets_of, is_reserved, IsReserved, IsSound};
+ghost use Rattle.dw_tree.specs.Places.{offsets_in};
+ghost use Rattle.dw_tree.specs.UnitValue.{new_unit, offsets_of, is_reserved, IsReserved, IsSound};
 
-use crate::compile_unit::write_tree;
 use crate::entry_mut::EntryMut;
-use crate::header::check_encoding;
-use crate::offsets::UnitOffsets;
-use crate::targets::PartPlaces;
 use dw_base::constants::DW_AT_low_pc;
 use dw_base::{Address, DebugLineOffset, DwTag, Encoding, Error, Format, Result, UnitEntryId};
 use dw_entries::{AttributeValue, DebuggingInformationEntry, Entries, OwnLists, OwnParts};
 use dw_line::LineProgram;
 use dw_lists::{LocationListTable, RangeListOffsets, RangeListTable};
 use dw_strings::{LineStringTable, StringTable};
+use dw_tree::{PartPlaces, UnitOffsets, check_encoding, write_tree};
 use dw_writer::{Sections, Writer};
 use std::alloc::Global;
 use std::marker::Model;
@@ -41,7 +38,7 @@ pub struct Unit {
 }
 
 impl Model for Unit {
-    ghost use Rattle.dw_unit.specs.UnitValue.{UnitValue, IsKept};
+    ghost use Rattle.dw_tree.specs.UnitValue.{UnitValue, IsKept};
     ghost use Rattle.std.specs.Coded.{codes};
     ghost use Rattle.dw_expr.specs.Codes.{node_code};
 
@@ -246,7 +243,7 @@ impl Unit {
 
 impl Unit {
     ghost use Rattle.dw_entries.specs.Settled.{settled_entries};
-    ghost use Rattle.dw_unit.specs.Whole.{parts_with};
+    ghost use Rattle.dw_tree.specs.Whole.{parts_with};
 
     /// Names the line program in the root's `DW_AT_stmt_list` where there is one in use, and in
     /// version 5 the range lists in `DW_AT_rnglists_base` and the location lists in
@@ -284,16 +281,16 @@ impl Unit {
     ghost use Rattle.std.specs.Prelude.{◌⊎◌, ◌≤◌, [], IsFalse};
     ghost use Rattle.dw_writer.specs.Sections.{SomeHasRisen, fault_sum};
     ghost use Rattle.dw_unit.specs.Alone.{has_info_reference, AppendsAlone, AloneRefused};
-    ghost use Rattle.dw_unit.specs.Whole.{lines_in_use, settled, marked_written};
-    ghost use Rattle.dw_unit.specs.Valid.{IsWritableAt};
-    ghost use Rattle.dw_unit.specs.Pending.{PendsUnit, ExtendsPending};
+    ghost use Rattle.dw_tree.specs.Whole.{lines_in_use, settled, marked_written};
+    ghost use Rattle.dw_tree.specs.Valid.{IsWritableAt};
+    ghost use Rattle.dw_tree.specs.Pending.{PendsUnit, ExtendsPending};
     ghost use Rattle.dw_lists.specs.Tables.{ranges_of};
     ghost use Rattle.dw_line.specs.Parts.{NoCause};
-    ghost use Rattle.dw_unit.specs.Elsewhere.{elsewhere, unit_tables, part_places, parts_fail, AppendsLine, AppendsRanges, PartsAreSound, KeepsAllButParts};
-    ghost use Rattle.dw_unit.specs.Elsewhere.{line_place, line_fails, LinesAreSound};
-    ghost use Rattle.dw_unit.specs.Elsewhere.{has_base_address, range_places_at, ranges_fail_in};
-    ghost use Rattle.dw_unit.specs.Written.{KeepsOtherSections};
-    ghost use Rattle.dw_unit.specs.Causes.{Because, Is, UnitRefused};
+    ghost use Rattle.dw_tree.specs.Elsewhere.{elsewhere, unit_tables, part_places, parts_fail, AppendsLine, AppendsRanges, PartsAreSound, KeepsAllButParts};
+    ghost use Rattle.dw_tree.specs.Elsewhere.{line_place, line_fails, LinesAreSound};
+    ghost use Rattle.dw_tree.specs.Elsewhere.{has_base_address, range_places_at, ranges_fail_in};
+    ghost use Rattle.dw_tree.specs.Written.{KeepsOtherSections};
+    ghost use Rattle.dw_tree.specs.Causes.{Because, Is, UnitRefused};
 
     /// Writes the unit at the end of `.debug_info`, its abbreviation table at the end of
     /// `.debug_abbrev` (DWARF 5, 7.5.1 to 7.5.3), its line program, where it is in use, at the end
@@ -608,8 +605,8 @@ impl Unit {
 }
 
 impl Unit {
-    ghost use Rattle.dw_unit.specs.Whole.{marked_written};
-    ghost use Rattle.dw_unit.specs.UnitValue.{freed};
+    ghost use Rattle.dw_tree.specs.Whole.{marked_written};
+    ghost use Rattle.dw_tree.specs.UnitValue.{freed};
 
     /// Marks the unit written without writing it, so that no later call writes it. A reference to
     /// one of its entries by the place in `.debug_info` is refused as `InvalidReference`.

@@ -5,13 +5,13 @@ ghost use Rattle.std.specs.Borrow.{sem};
 ghost use Rattle.dw_base.specs.declared.error.Error.TheVariants.{NoMemory};
 ghost use Rattle.dw_writer.specs.Causes.{IsNotMemory, NotAtAll};
 ghost use Rattle.dw_writer.specs.Sections.{fault_sum, SomeHasRisen, NoFixups};
-ghost use Rattle.dw_unit.specs.UnitValue.{UnitValue};
-ghost use Rattle.dw_unit.specs.Elsewhere.{elsewhere, AppendsLines, AppendsAllRanges};
-ghost use Rattle.dw_unit.specs.Valid.{IsWritableAt, AreWritable, CanFollow};
-ghost use Rattle.dw_unit.specs.Pending.{starts_of};
-ghost use Rattle.dw_unit.specs.Whole.{IsRefused};
-ghost use Rattle.dw_unit.specs.Causes.{Because, UnitRefused, UnitsFail, RefusesAny};
-ghost use Rattle.dw_unit.specs.Written.{AreWritten, AreStopped, CompletesAny, PendsUnits, WritesIfNew, KeepsOtherSections};
+ghost use Rattle.dw_tree.specs.UnitValue.{UnitValue};
+ghost use Rattle.dw_tree.specs.Elsewhere.{elsewhere, AppendsLines, AppendsAllRanges};
+ghost use Rattle.dw_tree.specs.Valid.{IsWritableAt, AreWritable, CanFollow};
+ghost use Rattle.dw_tree.specs.Pending.{starts_of};
+ghost use Rattle.dw_tree.specs.Whole.{IsRefused};
+ghost use Rattle.dw_tree.specs.Causes.{Because, UnitRefused, UnitsFail, RefusesAny};
+ghost use Rattle.dw_tree.specs.Written.{AreWritten, AreStopped, CompletesAny, PendsUnits, WritesIfNew, KeepsOtherSections};
 
 use crate::references::fill_all;
 use crate::unit::Unit;
@@ -32,7 +32,7 @@ impl Model for UnitTable {
     ghost use Rattle.std.specs.Prelude.{List};
     ghost use Rattle.std.specs.Coded.{codes};
     ghost use Rattle.dw_expr.specs.Codes.{node_code};
-    ghost use Rattle.dw_unit.specs.UnitValue.{UnitValue};
+    ghost use Rattle.dw_tree.specs.UnitValue.{UnitValue};
 
     ghost Value = { List UnitValue };
 

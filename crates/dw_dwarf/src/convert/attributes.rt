@@ -4,7 +4,7 @@ ghost use Rattle.std.specs.Prelude.{◌≡◌, [], length, map, OnOk, IfErr};
 ghost use Rattle.dw_entries.specs.Attributes.{HaveDistinctNames};
 ghost use Rattle.dw_entries.specs.Entries.{entry_at, with_attributes};
 ghost use Rattle.dw_base.specs.declared.error.Error.TheVariants.{NoMemory};
-ghost use Rattle.dw_unit.specs.UnitValue.{with_entry};
+ghost use Rattle.dw_tree.specs.UnitValue.{with_entry};
 ghost use Rattle.dw_dwarf.specs.ConvertedEntries.{attribute_of};
 
 use dw_base::{DwAt, Result};

@@ -4,7 +4,7 @@ ghost use Rattle.std.specs.Prelude.{◌≡◌, ◌↔◌, ◌<◌, ℕ, List, []
 ghost use Rattle.dw_base.specs.Entries.{Row};
 ghost use Rattle.dw_base.specs.declared.error.Error.TheVariants as written;
 ghost use Rattle.dw_entries.specs.Entries.{with_sibling};
-ghost use Rattle.dw_unit.specs.UnitValue.{IsReserved, with_entry};
+ghost use Rattle.dw_tree.specs.UnitValue.{IsReserved, with_entry};
 ghost use Rattle.dw_sources.specs.declared.convert_error.ConvertError.TheVariants.{NoMemory};
 ghost use Rattle.dw_convert.specs.References.{EntryOutcome, InfoOutcome};
 ghost use Rattle.dw_dwarf.specs.Converters.{IsFresh, StandsAt, ReadsEntry};

@@ -6,7 +6,7 @@ ghost use Rattle.dw_entries.specs.Attributes.{HaveDistinctNames};
 ghost use Rattle.dw_entries.specs.Entries.{entry_at, filled_up};
 ghost use Rattle.dw_read.specs.Rows.{entry_of};
 ghost use Rattle.dw_sources.specs.declared.convert_error.ConvertError.TheVariants.{NoMemory};
-ghost use Rattle.dw_unit.specs.UnitValue.{IsReserved, with_entry};
+ghost use Rattle.dw_tree.specs.UnitValue.{IsReserved, with_entry};
 ghost use Rattle.dw_convert.specs.Attributes.{seen};
 ghost use Rattle.dw_convert.specs.AttributeLists.{AreConverted, RefusesAttribute};
 ghost use Rattle.dw_dwarf.specs.ConvertedEntries.{attribute_of};

@@ -1,8 +1,8 @@
 use Rattle.std.proofs.Common.{inl, inr}
 use Rattle.std.proofs.lemmas.Result.{err_from_is_err_and}
 use Rattle.dw_writer.proofs.Outcomes.{IfErr-map}
-use Rattle.dw_unit.specs.Causes.{Is}
-use Rattle.dw_unit.proofs.Faults.{bytes_because}
+use Rattle.dw_tree.specs.Causes.{Is}
+use Rattle.dw_tree.proofs.Faults.{bytes_because}
 use Rattle.dw_dwarf.specs.Valid.{programs_fail}
 use Rattle.dw_dwarf.proofs.RestSections.{programs_because}
 use Rattle.dw_dwarf.proofs.rest.write_rest.Goals as goal

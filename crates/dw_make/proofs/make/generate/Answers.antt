@@ -2,7 +2,7 @@ use Rattle.std.proofs.Common.{rules, ◌≡◌, ◌∙◌, sym, ap, subst, arith
 use Rattle.std.specs.Prelude.{true}
 use Rattle.dw_dwarf.specs.DwarfValue.{DwarfValue, dwarf_in}
 use Rattle.dw_dwarf.specs.Valid.{AreUnwritten, IsValid}
-use Rattle.dw_unit.specs.UnitValue.{UnitValue}
+use Rattle.dw_tree.specs.UnitValue.{UnitValue}
 use Rattle.dw_make.specs.Generated.{generated, generated_unit, generated_units, unit_variables}
 use Rattle.dw_make.proofs.MadeValid.{generated_valid}
 use Rattle.dw_make.proofs.Unwritten.{generated_unwritten}

@@ -2,7 +2,7 @@ use Rattle.std.proofs.Common.{◌∙◌, sym, ap, subst, arith, suc, ◌+◌}
 use Rattle.dw_base.specs.declared.constants.TheConstants.{DW_TAG_base_type, DW_AT_byte_size}
 use Rattle.dw_entries.specs.declared.value.AttributeValue.TheVariants.{Data1}
 use Rattle.dw_entries.specs.Entries.{with_added, with_attribute}
-use Rattle.dw_unit.specs.UnitValue.{UnitValue, new_unit, with_entry, IsReserved}
+use Rattle.dw_tree.specs.UnitValue.{UnitValue, new_unit, with_entry, IsReserved}
 use Rattle.dw_make.specs.Drafted.{with_variable}
 use Rattle.dw_make.specs.Generated.{generated_encoding, generated_unit}
 use Rattle.dw_make.proofs.Drafts.{IsDraft, none_drafted, one_drafted, base_reserved, base_added}

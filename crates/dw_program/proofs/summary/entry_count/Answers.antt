@@ -1,7 +1,7 @@
 use Rattle.std.proofs.Common.{◌≡◌, ◌<◌, ◌^◌, ap, subst, arith, rules, length, Some, slice_get}
 use Rattle.std.proofs.lemmas.List.Sums.{sum_by_more}
 use Rattle.std.proofs.lemmas.Option.{get_or_from_slice_get}
-use Rattle.dw_unit.specs.UnitValue.{UnitValue}
+use Rattle.dw_tree.specs.UnitValue.{UnitValue}
 use Rattle.dw_program.proofs.summary.entry_count.Goals as goal
 
 pub loop-index-preserved : goal.loop-index-preserved

@@ -2,10 +2,10 @@ use Rattle.std.proofs.Common.{arith, refl, subst}
 use Rattle.std.specs.Prelude.{IsFalse}
 use Rattle.std.proofs.lemmas.Result.{err_from_is_err_and}
 use Rattle.dw_base.specs.declared.error.Error.{Error}
-use Rattle.dw_unit.specs.Causes.{Is}
-use Rattle.dw_unit.specs.Pending.{info_at}
-use Rattle.dw_unit.specs.UnitFaults.{hole_fails, holes_fail}
-use Rattle.dw_unit.proofs.Faults.{refused_after}
+use Rattle.dw_tree.specs.Causes.{Is}
+use Rattle.dw_tree.specs.Pending.{info_at}
+use Rattle.dw_tree.specs.UnitFaults.{hole_fails, holes_fail}
+use Rattle.dw_tree.proofs.Faults.{refused_after}
 use Rattle.dw_unit.proofs.Filling.{fills_none, fills_more, fills_all, holes_more, holes_all, hole_at, fillable_at}
 use Rattle.dw_unit.proofs.references.fill.Goals as goal
 

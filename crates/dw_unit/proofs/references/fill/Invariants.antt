@@ -1,8 +1,8 @@
 use Rattle.std.proofs.Common.{◌≤◌, take}
 use Rattle.std.specs.Prelude.{IsFalse}
 use Rattle.dw_base.specs.declared.error.Error.{Error}
-use Rattle.dw_unit.specs.Pending.{info_at}
-use Rattle.dw_unit.specs.UnitFaults.{holes_fail}
+use Rattle.dw_tree.specs.Pending.{info_at}
+use Rattle.dw_tree.specs.UnitFaults.{holes_fail}
 use Rattle.dw_unit.proofs.Filling.{FillsFront}
 use Rattle.dw_unit.proofs.references.fill.Given as goal
 

@@ -6,11 +6,11 @@ use Rattle.dw_base.specs.declared.section_id.SectionId.TheVariants.{DebugLoc, De
 use Rattle.dw_writer.specs.Causes.{HasRisen}
 use Rattle.dw_writer.proofs.FaultLaws.{SomeHasRisen-info}
 use Rattle.dw_writer.proofs.Outcomes.{OnOk-map, IfErr-map}
-use Rattle.dw_unit.specs.Causes.{Is}
+use Rattle.dw_tree.specs.Causes.{Is}
 use Rattle.dw_unit.specs.Filled.{open_fail}
-use Rattle.dw_unit.specs.Pending.{info_at}
-use Rattle.dw_unit.specs.UnitFaults.{holes_fail}
-use Rattle.dw_unit.proofs.Faults.{because-map, neither}
+use Rattle.dw_tree.specs.Pending.{info_at}
+use Rattle.dw_tree.specs.UnitFaults.{holes_fail}
+use Rattle.dw_tree.proofs.Faults.{because-map, neither}
 use Rattle.dw_unit.proofs.references.fill_all.Goals as goal
 
 pub returns-in_err-fill-clause-err : goal.returns-in_err-fill-clause-err

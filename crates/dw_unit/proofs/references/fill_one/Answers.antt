@@ -2,7 +2,7 @@ use Rattle.std.proofs.Common.{◌≡◌, ◌∙◌, sym, ap, Some}
 use Rattle.std.specs.Option.{option_map}
 use Rattle.dw_base.specs.declared.offsets.DebugInfoOffset.{DebugInfoOffset}
 use Rattle.dw_writer.proofs.Outcomes.{OnOk-map, IfErr-map}
-use Rattle.dw_unit.specs.Pending.{info_at}
+use Rattle.dw_tree.specs.Pending.{info_at}
 use Rattle.dw_unit.proofs.Filling.{hole_patched, hole_sound, hole_refused}
 use Rattle.dw_unit.proofs.references.fill_one.Goals as goal
 

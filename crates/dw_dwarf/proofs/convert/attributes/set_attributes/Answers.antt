@@ -3,7 +3,7 @@ use Rattle.std.proofs.lemmas.Iterator.Adapters.{YieldsList-from_vec}
 use Rattle.std.proofs.lemmas.Iterator.Consumers.{YieldsList-turn, YieldsList-so_far, YieldsList-end}
 use Rattle.std.proofs.lemmas.List.{map-id}
 use Rattle.dw_base.specs.declared.constants.DwAt.{DwAt}
-use Rattle.dw_unit.specs.UnitValue.{with_entry}
+use Rattle.dw_tree.specs.UnitValue.{with_entry}
 use Rattle.dw_entries.specs.Entries.{with_attribute, with_attributes}
 use Rattle.dw_dwarf.specs.ConvertedEntries.{Values, attribute_of}
 use Rattle.dw_dwarf.proofs.Setting.{unit_none_set, unit_more_set, fresh_name, set_count}

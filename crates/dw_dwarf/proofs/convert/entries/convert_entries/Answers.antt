@@ -1,7 +1,7 @@
 use Rattle.std.proofs.Common.{◌≡◌, ◌∙◌, ap, subst, ◌<◌, List, length, Option, Ok, ⊎_elim, inl, inr, refl, arith}
 use Rattle.dw_base.specs.declared.ids.UnitEntryId.{UnitEntryId}
 use Rattle.dw_entries.specs.Entries.{EntryValue}
-use Rattle.dw_unit.specs.UnitValue.{UnitValue}
+use Rattle.dw_tree.specs.UnitValue.{UnitValue}
 use Rattle.dw_dwarf.proofs.Setting.{is_err}
 use Rattle.dw_dwarf.proofs.Walking.{converted_none, converted_more, converted_end, converted_refused, not_yet, id_in, one_less, parent_in, some}
 use Rattle.dw_dwarf.specs.UnitWalk.{WalksOn}

@@ -1,6 +1,6 @@
 use Rattle.std.proofs.Common.{◌∙◌, ap}
 use Rattle.dw_entries.specs.Entries.{entry_at}
-use Rattle.dw_unit.specs.UnitValue.{UnitValue}
+use Rattle.dw_tree.specs.UnitValue.{UnitValue}
 use Rattle.dw_dwarf.proofs.Becoming.{reserved_yet, placed_none}
 use Rattle.dw_dwarf.proofs.convert.entry.add_entry.Goals as goal
 

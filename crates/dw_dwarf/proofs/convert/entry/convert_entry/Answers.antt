@@ -2,7 +2,7 @@ use Rattle.std.proofs.Common.{◌≡◌, ◌∙◌, sym, ap, refl, ℕ, Bool, no
 use Rattle.std.specs.Prelude.{◌==◌, ◌&&◌}
 use Rattle.dw_entries.specs.Entries.{entry_at, filled_up}
 use Rattle.dw_read.specs.Rows.{entry_of}
-use Rattle.dw_unit.specs.UnitValue.{UnitValue}
+use Rattle.dw_tree.specs.UnitValue.{UnitValue}
 use Rattle.dw_dwarf.proofs.Becoming.{names_distinct, becomes}
 use Rattle.dw_dwarf.proofs.Setting.{map_ok, ok_mapped}
 use Rattle.dw_dwarf.specs.Placed.{with_placed, plan_for}

@@ -1,7 +1,7 @@
 use Rattle.std.proofs.Common.{◌∙◌, ap, ℕ, map, refl, rules}
 use Rattle.dw_entries.proofs.Changed.{seen_kept}
 use Rattle.dw_entries.specs.Entries.{EntryValue, entry_at, with_sibling}
-use Rattle.dw_unit.specs.UnitValue.{UnitValue, with_entry}
+use Rattle.dw_tree.specs.UnitValue.{UnitValue, with_entry}
 use Rattle.dw_dwarf.proofs.Setting.{ok_moved, contents_set}
 use Rattle.dw_dwarf.specs.ConvertedEntries.{attribute_of}
 use Rattle.dw_dwarf.proofs.convert.entry.fill.Goals as goal

@@ -3,11 +3,11 @@ use Rattle.std.proofs.lemmas.Result.{err_from_is_err_and}
 use Rattle.std.specs.Prelude.{◌⊎◌, IsTrue}
 use Rattle.dw_writer.proofs.Outcomes.{OnOk-map, IfErr-map, OnErr-always}
 use Rattle.dw_line.specs.Parts.{NoCause}
-use Rattle.dw_unit.specs.Causes.{RefusesAny}
-use Rattle.dw_unit.proofs.Faults.{OnOk-both}
-use Rattle.dw_unit.specs.Elsewhere.{ends_of}
-use Rattle.dw_unit.specs.Pending.{starts_of}
-use Rattle.dw_unit.specs.Written.{AreWritten}
+use Rattle.dw_tree.specs.Causes.{RefusesAny}
+use Rattle.dw_tree.proofs.Faults.{OnOk-both}
+use Rattle.dw_tree.specs.Elsewhere.{ends_of}
+use Rattle.dw_tree.specs.Pending.{starts_of}
+use Rattle.dw_tree.specs.Written.{AreWritten}
 use Rattle.dw_unit.proofs.TableSteps.{stopped_after}
 use Rattle.dw_dwarf.specs.DwarfValue.{dwarf_in}
 use Rattle.dw_dwarf.specs.Valid.{DwarfFails, extra_fails, found_in}

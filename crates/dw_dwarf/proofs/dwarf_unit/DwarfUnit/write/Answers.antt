@@ -3,9 +3,9 @@ use Rattle.std.proofs.lemmas.List.Elements.{All-cons, All-nil}
 use Rattle.std.proofs.lemmas.Result.{err_from_is_err_and}
 use Rattle.dw_writer.proofs.Outcomes.{OnOk-map, IfErr-map}
 use Rattle.dw_unit.specs.Alone.{AloneFails}
-use Rattle.dw_unit.specs.Elsewhere.{elsewhere, unit_tables}
-use Rattle.dw_unit.specs.Whole.{settled}
-use Rattle.dw_unit.proofs.Faults.{OnOk-both}
+use Rattle.dw_tree.specs.Elsewhere.{elsewhere, unit_tables}
+use Rattle.dw_tree.specs.Whole.{settled}
+use Rattle.dw_tree.proofs.Faults.{OnOk-both}
 use Rattle.dw_dwarf.specs.DwarfValue.{dwarf_of}
 use Rattle.dw_dwarf.specs.Valid.{IsUnwritten, programs_fail}
 use Rattle.dw_dwarf.proofs.Held.{dwarf_held, dwarf_resolved}

@@ -1,8 +1,8 @@
 use Rattle.std.proofs.Common.{sym, ap, subst, Some}
 use Rattle.std.proofs.lemmas.Result.{err_from_is_err_and}
-use Rattle.dw_unit.specs.Pending.{ExtendsPending}
-use Rattle.dw_unit.specs.Elsewhere.{elsewhere, unit_tables}
-use Rattle.dw_unit.specs.Whole.{settled}
+use Rattle.dw_tree.specs.Pending.{ExtendsPending}
+use Rattle.dw_tree.specs.Elsewhere.{elsewhere, unit_tables}
+use Rattle.dw_tree.specs.Whole.{settled}
 use Rattle.dw_unit.proofs.Complete.{unit_complete}
 use Rattle.dw_unit.proofs.PendingSteps.{pending_more}
 use Rattle.dw_unit.proofs.unit.Unit.write.Goals as goal

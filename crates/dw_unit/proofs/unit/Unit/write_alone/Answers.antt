@@ -1,8 +1,8 @@
 use Rattle.std.proofs.Common.{sym, ap, subst, refl, inr, Some}
 use Rattle.std.proofs.lemmas.Result.{err_from_is_err_and}
 use Rattle.dw_unit.specs.Alone.{AppendsAlone}
-use Rattle.dw_unit.specs.Elsewhere.{elsewhere, unit_tables}
-use Rattle.dw_unit.specs.Whole.{settled}
+use Rattle.dw_tree.specs.Elsewhere.{elsewhere, unit_tables}
+use Rattle.dw_tree.specs.Whole.{settled}
 use Rattle.dw_unit.proofs.Alone.{alone_is, alone_refers, alone_appends, alone_refused}
 use Rattle.dw_unit.proofs.unit.Unit.write_alone.Goals as goal
 

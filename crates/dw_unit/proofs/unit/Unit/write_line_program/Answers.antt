@@ -2,8 +2,8 @@ use Rattle.std.proofs.Common.{◌∙◌, sym, subst}
 use Rattle.std.proofs.lemmas.Result.{err_from_is_err_and}
 use Rattle.dw_line.specs.LinePrograms.{line_program_fails}
 use Rattle.dw_line.specs.Parts.{Refused as LinesRefused}
-use Rattle.dw_unit.specs.Elsewhere.{elsewhere}
-use Rattle.dw_unit.specs.UnitValue.{UnitValue}
+use Rattle.dw_tree.specs.Elsewhere.{elsewhere}
+use Rattle.dw_tree.specs.UnitValue.{UnitValue}
 use Rattle.dw_unit.proofs.LineSteps.{line_unused, line_because}
 use Rattle.dw_unit.proofs.unit.Unit.write_line_program.Goals as goal
 

@@ -6,16 +6,16 @@ use Rattle.dw_base.specs.Numbers.{word_of}
 use Rattle.dw_writer.specs.Causes.{offset_fits}
 use Rattle.dw_writer.specs.Sections.{SomeHasRisen}
 use Rattle.dw_entries.specs.Settled.{settled_entries}
-use Rattle.dw_unit.specs.Causes.{Because, TreeFails, LocationsFail, UnitRefused}
+use Rattle.dw_tree.specs.Causes.{Because, TreeFails, LocationsFail, UnitRefused}
 use Rattle.dw_lists.specs.Tables.{locations_of}
-use Rattle.dw_unit.specs.Elsewhere.{AppendsLine, AppendsRanges, elsewhere, tree_tables, unit_tables, has_base_address}
-use Rattle.dw_unit.specs.Locations.{places_in_tree, lists_fail_in, ListsFail, AppendsLists}
-use Rattle.dw_unit.specs.Pending.{PendsTree, kept_in, starts_of}
-use Rattle.dw_unit.specs.Places.{Offsets, found as found_at, offsets_in}
-use Rattle.dw_unit.specs.UnitValue.{UnitValue}
-use Rattle.dw_unit.specs.Valid.{IsWritableTree}
-use Rattle.dw_unit.specs.Whole.{parts_with, settled}
-use Rattle.dw_unit.proofs.Faults.{because-map}
+use Rattle.dw_tree.specs.Elsewhere.{AppendsLine, AppendsRanges, elsewhere, tree_tables, unit_tables, has_base_address}
+use Rattle.dw_tree.specs.Locations.{places_in_tree, lists_fail_in, ListsFail, AppendsLists}
+use Rattle.dw_tree.specs.Pending.{PendsTree, kept_in, starts_of}
+use Rattle.dw_tree.specs.Places.{Offsets, found as found_at, offsets_in}
+use Rattle.dw_tree.specs.UnitValue.{UnitValue}
+use Rattle.dw_tree.specs.Valid.{IsWritableTree}
+use Rattle.dw_tree.specs.Whole.{parts_with, settled}
+use Rattle.dw_tree.proofs.Faults.{because-map}
 use Rattle.dw_unit.proofs.Settling.{of_settled, of_settled_lists, lists_plain, settled_tables, rises_behind, pends_behind, lists_behind, others_behind, parts_kept, tree_refused, parts_refused}
 use Rattle.dw_unit.proofs.unit.Unit.write_open.Goals as goal
 

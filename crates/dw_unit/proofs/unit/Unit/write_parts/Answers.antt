@@ -1,8 +1,8 @@
 use Rattle.std.proofs.Common.{◌∙◌, sym, ap, subst}
 use Rattle.std.proofs.lemmas.Result.{err_from_is_err_and}
 use Rattle.dw_writer.specs.Sections.{SomeHasRisen}
-use Rattle.dw_unit.specs.Causes.{Because, Is}
-use Rattle.dw_unit.specs.Elsewhere.{AppendsLine, AppendsRanges, elsewhere, ranges_fail_in, ranges_plain}
+use Rattle.dw_tree.specs.Causes.{Because, Is}
+use Rattle.dw_tree.specs.Elsewhere.{AppendsLine, AppendsRanges, elsewhere, ranges_fail_in, ranges_plain}
 use Rattle.dw_unit.proofs.RangeSteps.{ranges_plain-is}
 use Rattle.dw_unit.proofs.Settling.{rises_behind_line, ranges_are_part}
 use Rattle.dw_unit.proofs.unit.Unit.write_parts.Goals as goal

@@ -5,9 +5,9 @@ use Rattle.dw_lists.specs.Causes.{Refused, Is, IsNone, table_fails}
 use Rattle.dw_lists.specs.Items.{is_five}
 use Rattle.dw_lists.specs.Pieces.{IsWritten}
 use Rattle.dw_lists.specs.Tables.{OthersStay, ranges_in, ranges_of}
-use Rattle.dw_unit.specs.Elsewhere.{AreFound, has_base_address, range_draft}
-use Rattle.dw_unit.specs.UnitValue.{UnitValue}
-use Rattle.dw_unit.proofs.Faults.{OnOk-both}
+use Rattle.dw_tree.specs.Elsewhere.{AreFound, has_base_address, range_draft}
+use Rattle.dw_tree.specs.UnitValue.{UnitValue}
+use Rattle.dw_tree.proofs.Faults.{OnOk-both}
 use Rattle.dw_unit.proofs.RangeSteps.{ranges_added, ranges_others, ranges_because}
 use Rattle.dw_unit.proofs.unit.Unit.write_ranges.Goals as goal
 

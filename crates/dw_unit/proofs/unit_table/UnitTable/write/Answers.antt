@@ -4,10 +4,10 @@ use Rattle.std.proofs.lemmas.Result.{err_from_is_err_and}
 use Rattle.dw_base.specs.declared.error.Error.{Error}
 use Rattle.dw_writer.proofs.Outcomes.{IfErr-map}
 use Rattle.dw_writer.specs.Sections.{SomeHasRisen}
-use Rattle.dw_unit.specs.Causes.{Because, Is}
+use Rattle.dw_tree.specs.Causes.{Because, Is}
 use Rattle.dw_unit.specs.Filled.{FillsAll, AreAllFillable, open_fail}
-use Rattle.dw_unit.specs.Pending.{info_at, starts_of}
-use Rattle.dw_unit.specs.Elsewhere.{AppendsLines, AppendsAllRanges, elsewhere}
+use Rattle.dw_tree.specs.Pending.{info_at, starts_of}
+use Rattle.dw_tree.specs.Elsewhere.{AppendsLines, AppendsAllRanges, elsewhere}
 use Rattle.dw_unit.proofs.Complete.{units_complete}
 use Rattle.dw_unit.proofs.TableSteps.{stopped_after}
 use Rattle.dw_unit.proofs.TableWritten.{units_refused, all_completed, all_refused}

@@ -2,12 +2,12 @@ use Rattle.std.proofs.Common.{◌≡◌, ◌∙◌, ◌<◌, ◌≤◌, sym, sub
 use Rattle.std.specs.Prelude.{All, slice_set}
 use Rattle.std.proofs.lemmas.Result.{err_from_is_err_and}
 use Rattle.dw_writer.specs.Sections.{SomeHasRisen}
-use Rattle.dw_unit.specs.Causes.{Because, UnitsFail}
-use Rattle.dw_unit.specs.Elsewhere.{elsewhere, AppendsLines, AppendsAllRanges}
-use Rattle.dw_unit.specs.UnitValue.{UnitValue}
-use Rattle.dw_unit.specs.Valid.{AreWritable}
-use Rattle.dw_unit.specs.Pending.{starts_of}
-use Rattle.dw_unit.specs.Written.{AreWritten, AreStopped, PendsUnits}
+use Rattle.dw_tree.specs.Causes.{Because, UnitsFail}
+use Rattle.dw_tree.specs.Elsewhere.{elsewhere, AppendsLines, AppendsAllRanges}
+use Rattle.dw_tree.specs.UnitValue.{UnitValue}
+use Rattle.dw_tree.specs.Valid.{AreWritable}
+use Rattle.dw_tree.specs.Pending.{starts_of}
+use Rattle.dw_tree.specs.Written.{AreWritten, AreStopped, PendsUnits}
 use Rattle.dw_unit.proofs.TableSteps.{same_count, written_at}
 use Rattle.dw_unit.proofs.TableWritten.{front_none, front_more, front_stopped, front_refused, front_others, front_all}
 use Rattle.dw_unit.proofs.unit_table.UnitTable.write_units.Goals as goal

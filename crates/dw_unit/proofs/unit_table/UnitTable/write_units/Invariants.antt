@@ -1,4 +1,4 @@
-use Rattle.dw_unit.specs.Elsewhere.{elsewhere}
+use Rattle.dw_tree.specs.Elsewhere.{elsewhere}
 use Rattle.dw_unit.proofs.TableWritten.{WritesFront}
 use Rattle.dw_unit.proofs.unit_table.UnitTable.write_units.Given as goal
 

@@ -1,0 +1,21 @@
+pub mod Marks
+pub mod Shared
+pub mod DistinctShapes
+pub mod Faults
+pub mod Drafted
+pub mod PlaceLaws
+pub mod UnitSteps
+pub mod PlaceSteps
+pub mod TreeSteps
+pub mod ReadMarks
+pub mod LocationSteps
+pub mod TreeWritten
+pub mod LaidSoFar
+pub mod Placed
+pub mod LaidSteps
+pub mod EarlyLaws
+pub mod OnePlacement
+pub mod TreePlaces
+pub mod TreeLists
+pub mod TextsThere
+mod ValueRefusals
