@@ -1,12 +1,12 @@
 //! Plain vectors and vectors of faults: what they hold, what they refuse, and their copies.
 
-use crate::calls::Call::{
+use crate::relocation_tests::FORKED;
+use crate::trials::{Fork, Kind, Trial, pass_over};
+use crate::writer_calls::Call::{
     Address, Bytes, BytesAt, Length, LengthAt, Offset, OffsetAt, Pointer, Reference, Sdata,
     Sleb128, U8, U8At, U16, U16At, U32, U32At, U64, U64At, U128, Udata, UdataAt, Uleb128,
 };
-use crate::calls::{Answer, Answered, Call, FAULT, Left, SYMBOL};
-use crate::relocation_tests::FORKED;
-use crate::trials::{Fork, Kind, Trial, pass_over};
+use crate::writer_calls::{Answer, Answered, Call, FAULT, Left, SYMBOL};
 use dw_base::Address::Constant;
 use dw_base::RunTimeEndian::{Big, Little};
 use dw_base::constants::{

@@ -1,8 +1,8 @@
 //! Tables of lists as plain values, so that other tables can hold them, and how they are written.
 
-use crate::calls::Call::{self, Op};
-use crate::calls::expression_of;
 use crate::expressions::Places;
+use crate::list_calls::Call::{self, Op};
+use crate::list_calls::expression_of;
 use dw_base::constants::DW_OP_nop;
 use dw_base::{
     Encoding, LocationListId, LocationListsOffset, RangeListId, RangeListsOffset, Result,

@@ -1,13 +1,13 @@
 //! Expressions, their bytes, which were put down from the table of codes, and what is refused
 //! (DWARF 5, 2.5 and 7.7.1).
 
-use crate::calls::Call::{
+use crate::list_calls::Call::{
     Addr, BitPiece, Bra, Breg, CallRef, ConstType, Consts, Constu, Convert, Deref, DerefSize,
     DerefType, Fbreg, ImplicitPointer, ImplicitValue, Op, ParameterRef, Pick, Piece, PlusUconst,
     Reg, RegvalType, Reinterpret, Skip, VariableValue, WasmGlobal, WasmLocal, WasmStack, Xderef,
     XderefSize, XderefType,
 };
-use crate::calls::{Call, FAR, expression_of, hold, lead};
+use crate::list_calls::{Call, FAR, expression_of, hold, lead};
 use dw_base::constants::{DW_OP_dup, DW_OP_nop, DW_OP_stack_value};
 use dw_base::{
     Address, DebugInfoRef, Encoding, Error, Format, LittleEndian, Result, UnitEntryId, UnitId,

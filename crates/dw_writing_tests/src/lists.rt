@@ -1,10 +1,10 @@
 //! Range lists and location lists. The bytes are taken from the layouts of the standards (DWARF 5,
 //! 7.7.3, 7.25, 7.28 and 7.29; DWARF 4, 2.6.2, 2.17.3 and 7.7.3).
 
-use crate::calls::Call::{self, CallRef, Convert};
-use crate::calls::FAR;
 use crate::expressions::Places;
-use crate::tables::{
+use crate::list_calls::Call::{self, CallRef, Convert};
+use crate::list_calls::FAR;
+use crate::list_tables::{
     Answer, Body, EMPTY, Item, Lists, NOP, NOTHING, Row, Way, add_location_lists, add_range_lists,
     write_row,
 };

@@ -1,8 +1,8 @@
 //! Sections, the references that are fixed up in them, and lists of bytes.
 
-use crate::calls::Call::{Offset, U8, U8At};
-use crate::calls::{Answered, FAULT, Held, answers};
 use crate::trials::{Kind, Trial};
+use crate::writer_calls::Call::{Offset, U8, U8At};
+use crate::writer_calls::{Answered, FAULT, Held, answers};
 use dw_base::RunTimeEndian::Little;
 use dw_base::{Error, Result, SectionId, UnitEntryId, UnitId};
 use dw_writer::{

@@ -3,8 +3,8 @@
 
 ghost use Rattle.std.specs.Prelude.{◌≡◌, IfOk};
 
-use crate::calls::{Answer, Answered, Held, Left, answers, first_wrong, leaves};
 use crate::section_tests::{OfSections, sections_pass};
+use crate::writer_calls::{Answer, Answered, Held, Left, answers, first_wrong, leaves};
 use dw_base::{BigEndian, LittleEndian, Result, RunTimeEndian};
 use dw_writer::{EndianVec, FaultVec, RelocVec, Sections, Writer};
 use std::alloc::{AllocError, Global};

@@ -1,9 +1,9 @@
 //! Relocating vectors: their bytes, their records, what they refuse, and their copies.
 
-use crate::calls::Call::{Address, Offset, OffsetAt, Pointer, Reference, U8, U8At, U128};
-use crate::calls::{Answer, Answered, Left, SYMBOL};
 use crate::trials::{Fork, Kind, Trial};
 use crate::vector_tests::{EACH, PCREL_SDATA4};
+use crate::writer_calls::Call::{Address, Offset, OffsetAt, Pointer, Reference, U8, U8At, U128};
+use crate::writer_calls::{Answer, Answered, Left, SYMBOL};
 use dw_base::Address::{Constant, Symbol};
 use dw_base::RunTimeEndian::{Big, Little};
 use dw_base::constants::DW_EH_PE_uleb128;
