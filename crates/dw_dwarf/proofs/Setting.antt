@@ -5,12 +5,13 @@ use Rattle.std.specs.Result.{is_ok, IsErrAnd}
 use Rattle.std.proofs.lemmas.Bool.{eq-eqb, ne_eqb, false≢true}
 use Rattle.std.proofs.lemmas.List.{map-append}
 use Rattle.dw_base.specs.declared.constants.DwAt.{DwAt}
-use Rattle.dw_entries.proofs.Changed.{length-with_changed}
+use Rattle.dw_entries.proofs.Changed.{length-with_changed, seen_changed}
+use Rattle.dw_entries.proofs.Named.{set_named-absent}
 use Rattle.dw_entries.specs.Attributes.{named, get_named, set_named, is_named, HaveDistinctNames}
 use Rattle.dw_entries.specs.Entries.{EntryValue, with_changed, with_attribute, with_attributes, with_sibling, entry_at}
 use Rattle.dw_entries.specs.declared.attribute.Attribute.{Attribute}
 use Rattle.dw_entries.specs.declared.value.AttributeValue.{AttributeValue}
-use Rattle.dw_tree.specs.UnitValue.{UnitValue, with_entry}
+use Rattle.dw_tree.specs.UnitValue.{UnitValue, with_entry, value_in}
 use Rattle.dw_unit.specs.declared.entry_mut.EntryMut.{EntryMut}
 use Rattle.dw_dwarf.specs.ConvertedEntries.{Values, attribute_of}
 use Rattle.dw_dwarf.specs.Placed.{with_contents}
@@ -46,18 +47,9 @@ none_set (suc i) (e ∷ es) h = ap (λ t. e ∷ t) (none_set i es h)
 pub unit_none_set : (u : UnitValue) (i : ℕ) → (entry_at u.entries i).attributes ≡ [] → u ≡ with_entry u i (with_attributes [])
 unit_none_set u i h = ap (λ es. record u { entries = es }) (sym (none_set i u.entries h))
 
--- a value under a name that isn't there goes behind the others
-set_behind : (n : ℕ) (v : AttributeValue) (xs : List Attribute) → get_named n xs ≡ None → set_named n v xs ≡ xs ++ named n v ∷ []
-set_behind n v [] h = refl
-set_behind n v (a ∷ xs) h = go (is_named n a) refl (set_behind n v xs) h
-  where
-    go : (b : Bool) → is_named n a ≡ b → (get_named n xs ≡ None → set_named n v xs ≡ xs ++ named n v ∷ []) → (if b then Some a.value else get_named n xs) ≡ None → (if b then named n v ∷ xs else a ∷ set_named n v xs) ≡ a ∷ (xs ++ named n v ∷ [])
-    go true e rest k = let clash : Some a.value ≡ None = k in absurd cc
-    go false e rest k = ap (λ t. a ∷ t) (rest k)
-
 pub unit_more_set : (u v w : UnitValue) (i : ℕ) (xs : Values) (x : DwAt × AttributeValue) → v ≡ with_entry u i (with_attributes (map attribute_of xs)) → w ≡ with_entry v i (with_attribute x.0.0 x.1) → get_named x.0.0 (map attribute_of xs) ≡ None → w ≡ with_entry u i (with_attributes (map attribute_of (xs ++ x ∷ [])))
 unit_more_set u v w i xs x p q h =
-    let one : set_named x.0.0 x.1 (map attribute_of xs) ≡ map attribute_of (xs ++ x ∷ []) = set_behind x.0.0 x.1 (map attribute_of xs) h ∙ sym (map-append attribute_of xs (x ∷ [])) in
+    let one : set_named x.0.0 x.1 (map attribute_of xs) ≡ map attribute_of (xs ++ x ∷ []) = set_named-absent x.0.0 x.1 (map attribute_of xs) h ∙ sym (map-append attribute_of xs (x ∷ [])) in
     q
     ∙ ap (λ (y : UnitValue). with_entry y i (with_attribute x.0.0 x.1)) p
     ∙ ap (λ es. record u { entries = es }) (changed_twice i (with_attributes (map attribute_of xs)) (with_attribute x.0.0 x.1) u.entries)
@@ -99,6 +91,15 @@ pub record AreSet (old new : EntryMut) (xs : Values) : Type 0 where
 
 pub set_count : (old new : EntryMut) (xs : Values) → AreSet old new xs → length new.unit.now.entries ≡ length old.unit.now.entries
 set_count old new xs s = ap (λ (u : UnitValue). length u.entries) s.is ∙ length-with_changed old.index (with_attributes (map attribute_of xs)) old.unit.now.entries
+
+-- no value stands under a name that none of those that are set has
+pub absent_so_far : (old new : EntryMut) (xs : Values) (n : ℕ) → AreSet old new xs → get_named n (map attribute_of xs) ≡ None → value_in new.unit.now new.index n ≡ None
+absent_so_far old new xs n s h =
+    let values = map attribute_of xs in
+    ap (λ (k : ℕ). value_in new.unit.now k n) s.index
+    ∙ ap (λ (u : UnitValue). value_in u old.index n) s.is
+    ∙ ap (get_named n) (seen_changed (λ e. e.attributes) old.index (with_attributes values) old.unit.now.entries (λ ys. values) (λ e. refl) old.within)
+    ∙ h
 
 -- what an answer says of a value that is another one
 pub ok_moved : {A E U : Type 0} (r : Result A E) (x y z : U) → x ≡ y → OnOk r (y ≡ z) → OnOk r (x ≡ z)

@@ -59,6 +59,15 @@ get_named-fewer n m xs h = go (m == n) refl
     go false e =
         get_named-without_other n m xs (λ same. false≢true (sym e ∙ eq-eqb m n same)) ∙ h
 
+-- a value under a name that isn't there goes behind the others
+pub set_named-absent : (n : ℕ) (v : AttributeValue) (xs : List Attribute) → get_named n xs ≡ None → set_named n v xs ≡ xs ++ named n v ∷ []
+set_named-absent n v [] h = refl
+set_named-absent n v (a ∷ xs) h = go (is_named n a) (set_named-absent n v xs) h
+  where
+    go : (b : Bool) → (get_named n xs ≡ None → set_named n v xs ≡ xs ++ named n v ∷ []) → (if b then Some a.value else get_named n xs) ≡ None → (if b then named n v ∷ xs else a ∷ set_named n v xs) ≡ a ∷ (xs ++ named n v ∷ [])
+    go true rest k = let clash : Some a.value ≡ None = k in absurd cc
+    go false rest k = ap (λ t. a ∷ t) (rest k)
+
 pub HaveDistinctNames-set_named : (n : ℕ) (v : AttributeValue) (xs : List Attribute) → 1 < n → HaveDistinctNames xs → HaveDistinctNames (set_named n v xs)
 HaveDistinctNames-set_named n v [] some h = (some, refl, tt)
 HaveDistinctNames-set_named n v (a ∷ xs) some h = go (is_named n a) refl (HaveDistinctNames-set_named n v xs some h.2)

@@ -118,6 +118,18 @@ impl Attributes {
         set_in(&mut self.items, name, value)
     }
 
+    /// Appends an attribute under a name that none has.
+    pub(crate) fn push(&mut self, name: DwAt, value: AttributeValue) -> Result<()>
+        requires own { IsOwnName name.0 }
+        requires absent { get_named name.0 self.old ≡ None }
+        ensures ok { OnOk result (self.new ≡ set_named name.0 value self.old) }
+        ensures err { IfErr result (λ e. e ≡ NoMemory) }
+        ensures kept { OnErr result (self.new ≡ self.old) }
+    {
+        self.items.push(Attribute { name, value })?;
+        Ok(())
+    }
+
     /// Leaves the attribute of a name out.
     pub(crate) fn delete(&mut self, name: DwAt)
         ensures { self.new ≡ without_name name.0 self.old }

@@ -210,6 +210,21 @@ impl Entries {
         entry.set(name, value)
     }
 
+    /// Appends an attribute to the entry at an index, under a name that it has no value under.
+    pub fn push(&mut self, index: usize, name: DwAt, value: AttributeValue) -> Result<()>
+        requires index_in { index < length self.old.entries }
+        requires named { IsOwnName name.0 }
+        requires absent { value_of self.old.entries index name.0 ≡ None }
+        ensures ok { OnOk result
+            (self.new ≡ with_entry self.old index (with_attribute name.0 value)) }
+        ensures err { IfErr result (λ e. e ≡ NoMemory) }
+        ensures kept { OnErr result (self.new ≡ self.old) }
+        ensures count { length self.new.entries ≡ length self.old.entries }
+    {
+        let entry = &mut self.entries[index];
+        entry.push(name, value)
+    }
+
     /// Says whether the entry at an index is to name the place past its children, if it has any.
     pub fn set_sibling(&mut self, index: usize, sibling: bool)
         requires { index < length self.old.entries }

@@ -117,6 +117,17 @@ impl DebuggingInformationEntry {
         self.walk.attributes.set(name, value)
     }
 
+    /// Appends an attribute under a name that none has.
+    pub(crate) fn push(&mut self, name: DwAt, value: AttributeValue) -> Result<()>
+        requires own { IsOwnName name.0 }
+        requires absent { get_named name.0 self.old.attributes ≡ None }
+        ensures ok { OnOk result (self.new ≡ with_attribute name.0 value self.old) }
+        ensures err { IfErr result (λ e. e ≡ NoMemory) }
+        ensures kept { OnErr result (self.new ≡ self.old) }
+    {
+        self.walk.attributes.push(name, value)
+    }
+
     pub(crate) fn delete(&mut self, name: DwAt)
         ensures { self.new ≡ without_attribute name.0 self.old }
     {

@@ -76,6 +76,27 @@ impl<'a> EntryMut<'a> {
         unit.entries.set(index, name, value)
     }
 
+    /// Appends an attribute under a name that the entry has no value under, which is looked for
+    /// nowhere: many are appended in the time that they take. `DW_AT_sibling` is not among the
+    /// names that are set. Refused only as `NoMemory`.
+    pub fn push(&mut self, name: DwAt, value: AttributeValue) -> Result<()>
+        requires named { name.0 ≢ 0 }
+        requires not_sibling { name ≢ DW_AT_sibling }
+        requires absent { value_in self.old.unit.now self.old.index name.0 ≡ None }
+        ensures same_unit { self.new.unit.ghost_name ≡ self.old.unit.ghost_name }
+        ensures index { self.new.index ≡ self.old.index }
+        ensures ok { OnOk result
+            (self.new.unit.now ≡ with_entry self.old.unit.now self.old.index
+            (with_attribute name.0 value)) }
+        ensures count { length self.new.unit.now.entries ≡ length self.old.unit.now.entries }
+        ensures err { IfErr result (λ e. e ≡ NoMemory) }
+        ensures kept { OnErr result (self.new.unit.now ≡ self.old.unit.now) }
+    {
+        let index = self.index;
+        let unit = &mut *self.unit;
+        unit.entries.push(index, name, value)
+    }
+
     /// Leaves the attribute of a name out, if there is one.
     pub fn delete(&mut self, name: DwAt)
         ensures same_unit { self.new.unit.ghost_name ≡ self.old.unit.ghost_name }

@@ -27,7 +27,7 @@ pub(crate) fn set_attributes(
 {
     entry.reserve(attributes.len())?;
     'attributes: for (name, value) in attributes {
-        entry.set(name, value)?;
+        entry.push(name, value)?;
     }
     Ok(())
 }

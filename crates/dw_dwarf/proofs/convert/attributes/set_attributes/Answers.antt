@@ -6,7 +6,7 @@ use Rattle.dw_base.specs.declared.constants.DwAt.{DwAt}
 use Rattle.dw_tree.specs.UnitValue.{with_entry}
 use Rattle.dw_entries.specs.Entries.{with_attribute, with_attributes}
 use Rattle.dw_dwarf.specs.ConvertedEntries.{Values, attribute_of}
-use Rattle.dw_dwarf.proofs.Setting.{unit_none_set, unit_more_set, fresh_name, set_count}
+use Rattle.dw_dwarf.proofs.Setting.{unit_none_set, unit_more_set, fresh_name, absent_so_far, set_count}
 use Rattle.dw_dwarf.proofs.convert.attributes.set_attributes.Goals as goal
 
 pub attributes-init : goal.attributes-init
@@ -16,8 +16,8 @@ attributes-init c = record {
   is = c.reserve.ensures.unit ∙ unit_none_set c.args.entry.now.unit.now c.args.entry.now.index c.requires.none;
 }
 
-pub set-requires-clause-named : goal.set-requires-clause-named
-set-requires-clause-named c =
+pub push-requires-clause-named : goal.push-requires-clause-named
+push-requires-clause-named c =
     let i = c.into_iter-name-iterator.ensures.into_iter_gives in
     let road = YieldsList-from_vec c.args.attributes.items i.0 (i.1 ∙ c.args.attributes.ok.0) in
     let so_far = YieldsList-so_far road c.attributes.yielded c.attributes.name-iterator c.attributes.yielded_by in
@@ -26,8 +26,8 @@ set-requires-clause-named c =
     let own : 1 < c.in-Some.name.0 = fresh.0 in
     λ (z : c.in-Some.name.0 ≡ 0). omega (arith, own, z)
 
-pub set-requires-clause-not_sibling : goal.set-requires-clause-not_sibling
-set-requires-clause-not_sibling c =
+pub push-requires-clause-not_sibling : goal.push-requires-clause-not_sibling
+push-requires-clause-not_sibling c =
     let i = c.into_iter-name-iterator.ensures.into_iter_gives in
     let road = YieldsList-from_vec c.args.attributes.items i.0 (i.1 ∙ c.args.attributes.ok.0) in
     let so_far = YieldsList-so_far road c.attributes.yielded c.attributes.name-iterator c.attributes.yielded_by in
@@ -35,6 +35,15 @@ set-requires-clause-not_sibling c =
     let fresh = fresh_name c.args.attributes.items c.attributes.yielded (c.in-Some.name, c.in-Some.value) (sym (map-id c.attributes.yielded) ∙ so_far) turn.0 turn.1 c.requires.distinct in
     let own : 1 < c.in-Some.name.0 = fresh.0 in
     λ e. (let z : c.in-Some.name.0 ≡ 1 = ap (λ (n : DwAt). n.0) e in omega (arith, own, z))
+
+pub push-requires-clause-absent : goal.push-requires-clause-absent
+push-requires-clause-absent c =
+    let i = c.into_iter-name-iterator.ensures.into_iter_gives in
+    let road = YieldsList-from_vec c.args.attributes.items i.0 (i.1 ∙ c.args.attributes.ok.0) in
+    let so_far = YieldsList-so_far road c.attributes.yielded c.attributes.name-iterator c.attributes.yielded_by in
+    let turn = YieldsList-turn road c.attributes.yielded c.attributes.name-iterator c.attributes.yielded_by c.next.result c.next.new.self (c.in-Some.name, c.in-Some.value) c.in-Some.is c.next.ensures.steps in
+    let fresh = fresh_name c.args.attributes.items c.attributes.yielded (c.in-Some.name, c.in-Some.value) (sym (map-id c.attributes.yielded) ∙ so_far) turn.0 turn.1 c.requires.distinct in
+    absent_so_far c.args.entry.now c.attributes.entry c.attributes.yielded c.in-Some.name.0 c.attributes.invariant fresh.1
 
 pub attributes-preserved : goal.attributes-preserved
 attributes-preserved c =
@@ -44,22 +53,22 @@ attributes-preserved c =
     let turn = YieldsList-turn road c.attributes.yielded c.attributes.name-iterator c.attributes.yielded_by c.next.result c.next.new.self (c.in-Some.name, c.in-Some.value) c.in-Some.is c.next.ensures.steps in
     let fresh = fresh_name c.args.attributes.items c.attributes.yielded (c.in-Some.name, c.in-Some.value) (sym (map-id c.attributes.yielded) ∙ so_far) turn.0 turn.1 c.requires.distinct in
     record {
-      same_unit = c.set.ensures.same_unit ∙ c.attributes.invariant.same_unit;
-      index = c.set.ensures.index ∙ c.attributes.invariant.index;
-      is = unit_more_set c.args.entry.now.unit.now c.attributes.entry.unit.now c.set.new.self.unit.now c.args.entry.now.index c.attributes.yielded (c.in-Some.name, c.in-Some.value)
+      same_unit = c.push.ensures.same_unit ∙ c.attributes.invariant.same_unit;
+      index = c.push.ensures.index ∙ c.attributes.invariant.index;
+      is = unit_more_set c.args.entry.now.unit.now c.attributes.entry.unit.now c.push.new.self.unit.now c.args.entry.now.index c.attributes.yielded (c.in-Some.name, c.in-Some.value)
           c.attributes.invariant.is
-          (subst (λ (k : ℕ). c.set.new.self.unit.now ≡ with_entry c.attributes.entry.unit.now k (with_attribute c.in-Some.name.0 c.in-Some.value)) c.attributes.invariant.index c.in_ok-set.ensures.ok)
+          (subst (λ (k : ℕ). c.push.new.self.unit.now ≡ with_entry c.attributes.entry.unit.now k (with_attribute c.in-Some.name.0 c.in-Some.value)) c.attributes.invariant.index c.in_ok-push.ensures.ok)
           fresh.1;
     }
 
-pub returns-in_err-set-clause-same_unit : goal.returns-in_err-set-clause-same_unit
-returns-in_err-set-clause-same_unit c = c.set.ensures.same_unit ∙ c.attributes.invariant.same_unit
+pub returns-in_err-push-clause-same_unit : goal.returns-in_err-push-clause-same_unit
+returns-in_err-push-clause-same_unit c = c.push.ensures.same_unit ∙ c.attributes.invariant.same_unit
 
-pub returns-in_err-set-clause-index : goal.returns-in_err-set-clause-index
-returns-in_err-set-clause-index c = c.set.ensures.index ∙ c.attributes.invariant.index
+pub returns-in_err-push-clause-index : goal.returns-in_err-push-clause-index
+returns-in_err-push-clause-index c = c.push.ensures.index ∙ c.attributes.invariant.index
 
-pub returns-in_err-set-clause-count : goal.returns-in_err-set-clause-count
-returns-in_err-set-clause-count c = c.set.ensures.count ∙ set_count c.args.entry.now c.attributes.entry c.attributes.yielded c.attributes.invariant
+pub returns-in_err-push-clause-count : goal.returns-in_err-push-clause-count
+returns-in_err-push-clause-count c = c.push.ensures.count ∙ set_count c.args.entry.now c.attributes.entry c.attributes.yielded c.attributes.invariant
 
 pub returns-clause-same_unit : goal.returns-clause-same_unit
 returns-clause-same_unit c = c.attributes.invariant.same_unit
