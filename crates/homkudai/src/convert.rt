@@ -1,0 +1,13 @@
+//! What is read becomes what is written: whole files by `Dwarf::from` and `Dwarf::convert`, and
+//! units, line programs, lists, expressions and attributes one by one.
+
+pub use dw_convert::{
+    ConvertDebugInfoRef, NoConvertDebugInfoRef, convert_attribute_value, convert_attributes,
+    convert_file_index, expression, is_dropped, location_list, range_list,
+};
+pub use dw_convert_lines::{ConvertLineProgram, convert_line_program, read_line_program};
+pub use dw_dwarf::{
+    ConvertUnit, ConvertUnitEntry, ConvertUnitSection, convert_entries, convert_units,
+};
+pub use dw_filter::{FilterDependencies, add_expression_places, add_location_list_places};
+pub use dw_sources::{ConvertError, ConvertResult};

@@ -1,0 +1,20 @@
+//! Sections, their units and what units lead to, read.
+
+pub use dw_entry_ids::{EntryIds, NumberedUnit, NumberedUnits, number_units};
+pub use dw_entry_ranges::{
+    AddressRange, CodeAddresses, entry_ranges, list_ranges, location_address, low_high, ranges_at,
+};
+pub use dw_read::{
+    Abbreviation, Abbreviations, Attribute, AttributeSpecification, AttributeValue,
+    DebuggingInformationEntry, EndianSlice, EntriesRaw, Expression, ReadError, ReadResult, Reader,
+    UnitHeader, UnitHeadersIter, read_value,
+};
+pub use dw_read_lines::{
+    FileEntry, FileEntryFormat, FileEntryFormatIter, FileEntryIter, IncompleteLineProgram,
+    LineInstruction, LineInstructions, LineProgramHeader,
+};
+pub use dw_read_units::{Dwarf, Unit, UnitRef};
+pub use dw_sources::{
+    Operation, OperationIter, RawLocListEntry, RawLocListIter, RawRngListEntry, RawRngListIter,
+    raw_locations, raw_ranges,
+};
