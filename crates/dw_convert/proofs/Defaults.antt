@@ -1,6 +1,5 @@
 -- Values that lead to no string, no list and no expression, in the table of all kinds.
-use Rattle.std.proofs.Common.{◌≡◌, ◌⊎◌, sym, ap, ℕ, Bool, List, Option, Result, Ok, Err, ⊎_elim, inl, inr, refl}
-use Rattle.std.specs.Prelude.{IfOk, IfErr}
+use Rattle.std.proofs.Common.{◌≡◌, ◌⊎◌, ℕ, Bool, List, Option, Result, Ok, Err, ⊎_elim, inl, inr, refl}
 use Rattle.dw_base.specs.declared.address.Address.{Address}
 use Rattle.dw_base.specs.declared.address.DebugInfoRef.{DebugInfoRef}
 use Rattle.dw_base.specs.declared.ids.FileId.{FileId}
@@ -56,10 +55,6 @@ pub record NamesNothing {R E : Type 0} (v : AttributeValue R E) : Type 0 where
 abbrev WantsMemory : Result BuiltValue ConvertError → Type 0
 WantsMemory r = r ≡ Err NoMemory
 
-same_result : (x r : Result BuiltValue ConvertError) → IfOk r (λ v. x ≡ Ok v) → IfErr r (λ e. (e ≡ NoMemory) ⊎ x ≡ Err e) → WantsMemory r ⊎ (r ≡ x)
-same_result x (Ok v) h k = inr (sym h)
-same_result x (Err e) h k = ⊎_elim (λ (n : e ≡ NoMemory). inl (ap Err n)) (λ (s : x ≡ Err e). inr (sym s)) k
-
 module _ (R E : Type 0) (reading : R → Reading) (answers : ℕ → Option Address → Type 0) (entries : ℕ → Option UnitEntryId) (infos : ℕ → Option DebugInfoRef) (u : UnitRef R E) (files : List FileId) where
   abbrev Plain : AttributeValue R E → Result BuiltValue ConvertError → Type 0
   Plain v r = PlainOutcome reading answers entries infos u files (value_of reading v) r
@@ -74,8 +69,8 @@ module _ (R E : Type 0) (reading : R → Reading) (answers : ℕ → Option Addr
   same v r k h = h
 
   -- what names nothing stays what it is
-  pub stays : (v : AttributeValue R E) (r : Result BuiltValue ConvertError) → NamesNothing v → IfOk r (λ x. same_value (value_of reading v) ≡ Ok x) → IfErr r (λ e. (e ≡ NoMemory) ⊎ same_value (value_of reading v) ≡ Err e) → WantsMemory r ⊎ Plain v r
-  stays v r k h e = ⊎_elim (λ (n : WantsMemory r). inl n) (λ (s : r ≡ same_value (value_of reading v)). inr (same v r k s)) (same_result (same_value (value_of reading v)) r h e)
+  pub stays : (v : AttributeValue R E) (r : Result BuiltValue ConvertError) → NamesNothing v → WantsMemory r ⊎ (r ≡ same_value (value_of reading v)) → WantsMemory r ⊎ Plain v r
+  stays v r k h = ⊎_elim (λ (n : WantsMemory r). inl n) (λ (s : r ≡ same_value (value_of reading v)). inr (same v r k s)) h
 
   module _ (big : Bool) (name : ℕ) where
     abbrev Outcome : AttributeValue R E → Result BuiltValue ConvertError → Type 0

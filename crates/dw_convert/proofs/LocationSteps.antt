@@ -11,9 +11,10 @@ use Rattle.dw_lists.specs.declared.range.Range.{Range}
 use Rattle.dw_read.specs.Reading.{Reading, left}
 use Rattle.dw_read.specs.declared.value.Expression.{Expression}
 use Rattle.dw_read_units.specs.declared.unit_ref.UnitRef.{UnitRef}
-use Rattle.dw_sources.specs.RawLists.{Item, location_at}
+use Rattle.dw_read.specs.declared.error.ReadError.{ReadError}
+use Rattle.dw_sources.specs.RawLists.{Item, location_at, location_read}
 use Rattle.dw_sources.specs.RawListViews.{span_of, location_of, HoldsExpression}
-use Rattle.dw_sources.specs.RawListIters.{encoding_in, PassesLocation, ClosesLocations, ReadsLocation}
+use Rattle.dw_sources.specs.RawListIters.{encoding_in, PassesLocation, ClosesLocations, RefusesLocation, ReadsLocation}
 use Rattle.dw_sources.specs.declared.convert_error.ConvertError.{ConvertError}
 use Rattle.dw_sources.specs.declared.location_item.RawLocListEntry.{RawLocListEntry}
 use Rattle.dw_sources.specs.declared.location_item.RawLocListEntry.TheVariants as held
@@ -47,6 +48,11 @@ module _ (R E : Type 0) (reading : R → Reading) (old new : RawLocListIter R E)
       → location_at big e (left (reading old.input)) ≡ Some (None, left (reading new.input))
   closed_here big e b n o h = subst (λ (y : Encoding). location_at big y (left (reading old.input)) ≡ Some (None, left (reading new.input))) n
       (subst (λ (y : Bool). location_at y old.encoding (left (reading old.input)) ≡ Some (None, left (reading new.input))) b (h.is o).value)
+
+  pub refused_here : (big : Bool) (e : Encoding) (r : ReadError) → (reading old.input).is_big ≡ big → old.encoding ≡ e → RefusesLocation reading old new r
+      → location_read big e (left (reading old.input)) ≡ Err r
+  refused_here big e r b n h = subst (λ (y : Encoding). location_read big y (left (reading old.input)) ≡ Err r) n
+      (subst (λ (y : Bool). location_read y old.encoding (left (reading old.input)) ≡ Err r) b h.refused.reason)
 
 module _ (R E : Type 0) (reading : R → Reading) (answers : ℕ → Option Address → Type 0) (entries : ℕ → Option UnitEntryId) (infos : ℕ → Option DebugInfoRef) (u : UnitRef R E) (base : Bool) (y : Result Location ConvertError) where
   -- what an item becomes, its expression being read in an order

@@ -1,5 +1,5 @@
 -- Expressions that are converted, one operation after the other.
-use Rattle.std.proofs.Common.{◌≡◌, sym, ap, subst, ℕ, zero, suc, ◌+◌, ◌-◌, ◌<◌, ◌≤◌, ◌≢◌, List, [], ◌∷◌, ◌++◌, length, take, drop, map, get_or, Option, Result, Ok, Err, Bool, ℤ, IfOk, IfErr, ◌⊎◌, ⊎_elim, inl, inr, refl, arith}
+use Rattle.std.proofs.Common.{◌≡◌, sym, ap, subst, ℕ, zero, suc, ◌+◌, ◌-◌, ◌<◌, ◌≤◌, ◌≢◌, List, [], ◌∷◌, ◌++◌, length, take, drop, map, get_or, Option, Result, Ok, Err, Bool, ℤ, IfOk, IfErr, IsFalse, ◌⊎◌, ⊎_elim, inl, inr, refl, arith}
 use Rattle.std.proofs.lemmas.List.{take_all, length-map}
 use Rattle.std.proofs.lemmas.List.Elements.{All-get_or}
 use Rattle.dw_base.specs.declared.address.Address.{Address}
@@ -7,15 +7,18 @@ use Rattle.dw_base.specs.declared.address.DebugInfoRef.{DebugInfoRef}
 use Rattle.dw_base.specs.declared.common.Encoding.{Encoding}
 use Rattle.dw_base.specs.declared.ids.UnitEntryId.{UnitEntryId}
 use Rattle.dw_expr.specs.Trees.{Node, entry_value, tree_of}
+use Rattle.dw_expr.specs.Views.{node_of}
+use Rattle.dw_expr.specs.declared.op.Operation.{Operation as BuiltOperation}
 use Rattle.dw_read.specs.Reading.{Reading, left}
 use Rattle.dw_read.specs.declared.value.Expression.{Expression}
 use Rattle.dw_sources.specs.OperationViews.{operation_of}
 use Rattle.dw_sources.specs.declared.convert_error.ConvertError.{ConvertError}
+use Rattle.dw_sources.specs.declared.convert_error.ConvertError.TheVariants.{NoMemory}
 use Rattle.dw_sources.specs.declared.operation.Operation.{Operation as HeldOperation}
 use Rattle.dw_sources.specs.declared.operation.Operation.TheVariants as held
 use Rattle.dw_convert.specs.Branches.{TargetOutcome}
 use Rattle.dw_convert.specs.Expressions.{AreOperations, Becomes, RefusesOperation, OutcomeWithin, LevelOutcome}
-use Rattle.dw_convert.specs.Listings.{IsListing, HasOrder, StepOutcome, order_of, step_in, steps_in}
+use Rattle.dw_convert.specs.Listings.{IsListing, HasOrder, StepOutcome, FlatOutcome, StaysAs, leads_on, order_of, step_in, steps_in}
 use Rattle.dw_convert.specs.Operations.{OperationOutcome}
 use Rattle.dw_convert.specs.Steps.{Step, begins}
 use Rattle.dw_convert.specs.declared.listing.Listing.{Listing}
@@ -121,6 +124,88 @@ module _ (R E : Type 0) (reading : R → Reading) (answers : ℕ → Option Addr
 
       pub nested_refused : (why : ConvertError) → Within r.is_big l.encoding depth (left r) (Err why) → StepOutcome reading answers addresses entries infos depth l s (Err why)
       nested_refused why h = becomes (held.EntryValue x) (Err why) e (Err why, moved (Err why) h, refl)
+
+-- an operation that leads on has an arm of its own
+pub record LeadsNowhere {R E : Type 0} (o : HeldOperation R E) : Type 0 where
+  pub address : (x : _) → o ≡ held.Address x → ⊥
+  pub indexed : (x : _) → o ≡ held.AddressIndex x → ⊥
+  pub constant : (x : _) → o ≡ held.ConstantIndex x → ⊥
+  pub typed : (x : _) (y : _) → o ≡ held.ConstantType x y → ⊥
+  pub register : (x : _) (y : _) → o ≡ held.RegisterType x y → ⊥
+  pub deref : (x : _) (y : _) (z : _) → o ≡ held.DerefType x y z → ⊥
+  pub skip : (x : _) → o ≡ held.Skip x → ⊥
+  pub branch : (x : _) → o ≡ held.Branch x → ⊥
+  pub call : (x : _) → o ≡ held.Call x → ⊥
+  pub call_ref : (x : _) → o ≡ held.CallRef x → ⊥
+  pub variable : (x : _) → o ≡ held.VariableValue x → ⊥
+  pub convert : (x : _) → o ≡ held.Convert x → ⊥
+  pub reinterpret : (x : _) → o ≡ held.Reinterpret x → ⊥
+  pub nested : (x : _) → o ≡ held.EntryValue x → ⊥
+  pub implicit : (x : _) → o ≡ held.ImplicitValue x → ⊥
+  pub pointer : (x : _) (y : _) → o ≡ held.ImplicitPointer x y → ⊥
+  pub parameter : (x : _) → o ≡ held.ParameterRef x → ⊥
+
+pub leads_nowhere : {R E : Type 0} (o : HeldOperation R E) → LeadsNowhere o → IsFalse (leads_on o)
+leads_nowhere (held.Address x) h = absurd (h.address x refl)
+leads_nowhere (held.AddressIndex x) h = absurd (h.indexed x refl)
+leads_nowhere (held.ConstantIndex x) h = absurd (h.constant x refl)
+leads_nowhere (held.ConstantType x y) h = absurd (h.typed x y refl)
+leads_nowhere (held.RegisterType x y) h = absurd (h.register x y refl)
+leads_nowhere (held.DerefType x y z) h = absurd (h.deref x y z refl)
+leads_nowhere (held.Skip x) h = absurd (h.skip x refl)
+leads_nowhere (held.Branch x) h = absurd (h.branch x refl)
+leads_nowhere (held.Call x) h = absurd (h.call x refl)
+leads_nowhere (held.CallRef x) h = absurd (h.call_ref x refl)
+leads_nowhere (held.VariableValue x) h = absurd (h.variable x refl)
+leads_nowhere (held.Convert x) h = absurd (h.convert x refl)
+leads_nowhere (held.Reinterpret x) h = absurd (h.reinterpret x refl)
+leads_nowhere (held.EntryValue x) h = absurd (h.nested x refl)
+leads_nowhere (held.ImplicitValue x) h = absurd (h.implicit x refl)
+leads_nowhere (held.ImplicitPointer x y) h = absurd (h.pointer x y refl)
+leads_nowhere (held.ParameterRef x) h = absurd (h.parameter x refl)
+leads_nowhere o h = refl
+
+module _ (R E : Type 0) (reading : R → Reading) (answers : ℕ → Option Address → Type 0) (addresses : ℕ → Result ℕ ConvertError) (entries : ℕ → Option UnitEntryId) (infos : ℕ → Option DebugInfoRef) where
+  -- what leads nowhere stays what it is, wherever it stands
+  stays : (depth behind : ℕ) (e : Encoding) (places : List ℕ) (o : HeldOperation R E) (n : Node) → IsFalse (leads_on o) → StaysAs reading e o n → OperationOutcome answers addresses entries infos e (Within R E reading answers addresses entries infos (order_of reading o) e depth) places behind (operation_of reading o) (Ok n)
+  stays depth behind e places (held.Address x) n f h = absurd (cc)
+  stays depth behind e places (held.AddressIndex x) n f h = absurd (cc)
+  stays depth behind e places (held.ConstantIndex x) n f h = absurd (cc)
+  stays depth behind e places (held.ConstantType x y) n f h = absurd (cc)
+  stays depth behind e places (held.RegisterType x y) n f h = absurd (cc)
+  stays depth behind e places (held.DerefType x y z) n f h = absurd (cc)
+  stays depth behind e places (held.Skip x) n f h = absurd (cc)
+  stays depth behind e places (held.Branch x) n f h = absurd (cc)
+  stays depth behind e places (held.Call x) n f h = absurd (cc)
+  stays depth behind e places (held.CallRef x) n f h = absurd (cc)
+  stays depth behind e places (held.VariableValue x) n f h = absurd (cc)
+  stays depth behind e places (held.Convert x) n f h = absurd (cc)
+  stays depth behind e places (held.Reinterpret x) n f h = absurd (cc)
+  stays depth behind e places (held.EntryValue x) n f h = absurd (cc)
+  stays depth behind e places (held.ImplicitValue x) n f h = absurd (cc)
+  stays depth behind e places (held.ImplicitPointer x y) n f h = absurd (cc)
+  stays depth behind e places (held.ParameterRef x) n f h = absurd (cc)
+  stays depth behind e places o n f h = h
+
+  -- an operation without an expression within it is the same at each depth
+  deeper : (depth behind : ℕ) (e : Encoding) (places : List ℕ) (o : HeldOperation R E) (x : Result Node ConvertError) → OperationOutcome answers addresses entries infos e (Within R E reading answers addresses entries infos (order_of reading o) e 0) places behind (operation_of reading o) x → OperationOutcome answers addresses entries infos e (Within R E reading answers addresses entries infos (order_of reading o) e depth) places behind (operation_of reading o) x
+  deeper depth behind e places (held.EntryValue y) x h = absurd h.1
+  deeper depth behind e places o x h = h
+
+  module _ (l : Listing R E) (s : HeldStep R E) where
+    abbrev Flat : Result BuiltOperation ConvertError → Type 0
+    Flat r = (r ≡ Err NoMemory) ⊎ FlatOutcome reading answers addresses entries infos l s r
+
+    pub stays_flat : (o : BuiltOperation) → LeadsNowhere s.operation → StaysAs reading l.encoding s.operation (node_of o) → FlatOutcome reading answers addresses entries infos l s (Ok o)
+    stays_flat o k h = stays 0 s.behind l.encoding l.begins.items s.operation (node_of o) (leads_nowhere s.operation k) h
+
+    pub flat_ok : (depth : ℕ) (r : Result BuiltOperation ConvertError) → Flat r → IfOk r (λ o. StepOutcome reading answers addresses entries infos depth l s (Ok (node_of o)))
+    flat_ok depth (Ok o) h = ⊎_elim (λ (e : Ok o ≡ Err NoMemory). absurd (cc)) (λ (k : FlatOutcome reading answers addresses entries infos l s (Ok o)). deeper depth s.behind l.encoding l.begins.items s.operation (Ok (node_of o)) k) h
+    flat_ok depth (Err e) h = tt
+
+    pub flat_err : (depth : ℕ) (r : Result BuiltOperation ConvertError) → Flat r → IfErr r (λ e. (e ≡ NoMemory) ⊎ StepOutcome reading answers addresses entries infos depth l s (Err e))
+    flat_err depth (Ok o) h = tt
+    flat_err depth (Err e) h = ⊎_elim (λ (k : Err e ≡ Err NoMemory). inl (cc)) (λ (k : FlatOutcome reading answers addresses entries infos l s (Err e)). inr (deeper depth s.behind l.encoding l.begins.items s.operation (Err e) k)) h
 
 -- an expression around others stands one deeper
 pub at_level : (answers : ℕ → Option Address → Type 0) (addresses : ℕ → Result ℕ ConvertError) (entries : ℕ → Option UnitEntryId) (infos : ℕ → Option DebugInfoRef) (big : Bool) (e : Encoding) (depth : ℕ) (bytes : List ℕ) (x : Result (List Node) ConvertError) → depth ≢ 0

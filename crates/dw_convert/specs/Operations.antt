@@ -31,6 +31,10 @@ Is p r = r ≡ Ok (plain p)
 abbrev pub Of : {A : Type 0} → (Result A ConvertError → Type 0) → (A → Plain) → Result Node ConvertError → Type 0
 Of first f r = Then first (λ x y. y ≡ Ok (plain (f x))) r
 
+-- the constant of a type that has a place
+abbrev pub TypedConstant : (ℕ → Option UnitEntryId) → ℕ → List ℕ → Result Node ConvertError → Type 0
+TypedConstant entries base bytes r = Of (EntryOutcome entries base) (λ b. tree.ConstantType b bytes) r
+
 -- Indices lead to addresses, places to entries of the unit and of .debug_info. Expressions within operations become what `Nested`
 -- says. Operations begin at `places`, and `behind` follows this one.
 module _ (answers : ℕ → Option Address → Type 0) (addresses : ℕ → Result ℕ ConvertError) (entries : ℕ → Option UnitEntryId) (infos : ℕ → Option DebugInfoRef) (e : Encoding) (Nested : List ℕ → Result (List Node) ConvertError → Type 0) (places : List ℕ) where
@@ -42,7 +46,7 @@ module _ (answers : ℕ → Option Address → Type 0) (addresses : ℕ → Resu
   OperationOutcome behind (read.ConstantIndex i) r = Of (λ x. x ≡ addresses i) tree.UnsignedConstant r
   OperationOutcome behind (read.UnsignedConstant n) r = Is (tree.UnsignedConstant n) r
   OperationOutcome behind (read.SignedConstant z) r = Is (tree.SignedConstant z) r
-  OperationOutcome behind (read.ConstantType base bytes) r = Of (EntryOutcome entries base) (λ b. tree.ConstantType b bytes) r
+  OperationOutcome behind (read.ConstantType base bytes) r = TypedConstant entries base bytes r
   OperationOutcome behind (read.FrameOffset z) r = Is (tree.FrameOffset z) r
   OperationOutcome behind (read.RegisterOffset register z) r = Is (tree.RegisterOffset (record { 0 = register }) z) r
   OperationOutcome behind (read.RegisterType register base) r = Of (EntryOutcome entries base) (λ b. tree.RegisterType (record { 0 = register }) b) r

@@ -1,21 +1,22 @@
 //! Expressions, with the expressions within them (DWARF 5, 2.5).
 
-ghost use Rattle.std.specs.Prelude.{◌≡◌, ◌⊎◌, IfOk, IfErr};
+ghost use Rattle.std.specs.Prelude.{◌≡◌, ◌⊎◌, Ok, Err, IfOk, IfErr, IsFalse};
 ghost use Rattle.std.specs.List.Sorted.{IsNonDecreasing};
 ghost use Rattle.dw_expr.specs.Trees.{plain};
 ghost use Rattle.dw_expr.specs.Views.{node_of};
 ghost use Rattle.dw_read.specs.Reading.{left};
+ghost use Rattle.dw_sources.specs.declared.operation.Operation.TheVariants.{EntryValue};
 ghost use Rattle.dw_sources.specs.declared.convert_error.ConvertError.TheVariants.{NoMemory};
 ghost use Rattle.dw_convert.specs.Expressions.{OutcomeWithin, ExpressionOutcome};
-ghost use Rattle.dw_convert.specs.Listings.{StepOutcome};
+ghost use Rattle.dw_convert.specs.Listings.{StepOutcome, FlatOutcome, StaysAs, as_node, leads_on};
 ghost use Rattle.dw_convert.specs.Lookups.{addresses_in};
-ghost use Rattle.dw_convert.specs.Operations.{same_code, deref};
+ghost use Rattle.dw_convert.specs.Operations.{TypedConstant, same_code, deref};
 
 use crate::address::{address_in, converted, indexed_in};
 use crate::listing::{Listing, Step, read_listing, target};
 use crate::references::{ConvertDebugInfoRef, convert_base};
 use dw_base::constants::{DW_OP_GNU_push_tls_address, DW_OP_form_tls_address};
-use dw_base::{Address, DwOp, Encoding};
+use dw_base::{Address, DwOp, Encoding, UnitOffset};
 use dw_expr::{Expression, Operation};
 use dw_read::{Expression as ReadExpression, Reader};
 use dw_read_units::UnitRef;
@@ -108,8 +109,7 @@ fn convert_within<R: Reader, C: ConvertDebugInfoRef, F: Fn(u64) -> Option<Addres
     Ok(Expression::from_operations(alloc, operations))
 }
 
-/// Converts an operation, by the table of the operations that were read. It is one match, since
-/// each of them has a row there.
+/// Converts an operation, with the expression within it where it has one.
 #[cycle(nested)]
 fn convert_operation<R: Reader, C: ConvertDebugInfoRef, F: Fn(u64) -> Option<Address>>(
     alloc: Global,
@@ -130,37 +130,48 @@ fn convert_operation<R: Reader, C: ConvertDebugInfoRef, F: Fn(u64) -> Option<Add
         (C.infos refs.now) depth listing.now step.now (Err e)) }
 {
     match &step.operation {
-        ReadOperation::Simple(code) => Ok(Operation::Simple(same_code(*code))),
+        ReadOperation::EntryValue(expression) => {
+            let inner = ReadExpression(expression.0.duplicate());
+            let encoding = listing.encoding;
+            let inner = convert_within(alloc, inner, encoding, unit, convert_address, refs, depth)?;
+            Ok(Operation::EntryValue(inner))
+        }
+        _ => convert_flat(alloc, step, listing, unit, convert_address, refs),
+    }
+}
+
+/// Converts an operation without an expression within it, by the table of the operations that were
+/// read. It is one match, since each of them has a row there.
+fn convert_flat<R: Reader, C: ConvertDebugInfoRef, F: Fn(u64) -> Option<Address>>(
+    alloc: Global,
+    step: &Step<R>,
+    listing: &Listing<R>,
+    unit: Option<UnitRef<'_, R>>,
+    convert_address: &F,
+    refs: &C,
+) -> ConvertResult<Operation>
+    requires callable { F.IsAlwaysCallable convert_address.now }
+    requires rising { IsNonDecreasing listing.now.begins.items }
+    requires flat { (x : _) → step.now.operation ≡ EntryValue x → ⊥ }
+    ensures { (result ≡ Err NoMemory) ⊎ FlatOutcome R.reading (F.post convert_address.now)
+        (addresses_in R.reading unit.entry) (C.entries refs.now) (C.infos refs.now) listing.now
+        step.now result }
+{
+    match &step.operation {
         ReadOperation::Address(address) => {
-            let address = converted(*address, convert_address)?;
-            Ok(Operation::Address(address))
+            converted(*address, convert_address).map(Operation::Address)
         }
         ReadOperation::AddressIndex(index) => {
-            let address = indexed_in(unit, *index, convert_address)?;
-            Ok(Operation::Address(address))
+            indexed_in(unit, *index, convert_address).map(Operation::Address)
         }
         ReadOperation::ConstantIndex(index) => {
-            let value = address_in(unit, *index)?;
-            Ok(Operation::UnsignedConstant(value))
+            address_in(unit, *index).map(Operation::UnsignedConstant)
         }
-        ReadOperation::UnsignedConstant(value) => Ok(Operation::UnsignedConstant(*value)),
-        ReadOperation::SignedConstant(value) => Ok(Operation::SignedConstant(*value)),
-        ReadOperation::ConstantType(base, value) => {
-            let base = refs.convert_unit_ref(*base)?;
-            let value = copied(alloc, value)?;
-            Ok(Operation::ConstantType(base, value))
-        }
-        ReadOperation::FrameOffset(offset) => Ok(Operation::FrameOffset(*offset)),
-        ReadOperation::RegisterOffset(register, offset) => {
-            Ok(Operation::RegisterOffset(*register, *offset))
-        }
+        ReadOperation::ConstantType(base, value) => constant_type(alloc, *base, value, refs),
         ReadOperation::RegisterType(register, base) => {
             let base = refs.convert_unit_ref(*base)?;
             Ok(Operation::RegisterType(*register, base))
         }
-        ReadOperation::Pick(index) => Ok(Operation::Pick(*index)),
-        ReadOperation::Deref { space } => Ok(Operation::Deref { space: *space }),
-        ReadOperation::DerefSize { space, size } => Ok(deref(*space, *size, listing.encoding)),
         ReadOperation::DerefType { space, size, base } => {
             let base = refs.convert_unit_ref(*base)?;
             Ok(Operation::DerefType {
@@ -169,7 +180,6 @@ fn convert_operation<R: Reader, C: ConvertDebugInfoRef, F: Fn(u64) -> Option<Add
                 base,
             })
         }
-        ReadOperation::PlusConstant(value) => Ok(Operation::PlusConstant(*value)),
         ReadOperation::Skip(distance) => {
             let target = target(&listing.begins, step.behind, *distance)?;
             Ok(Operation::Skip(Some(target)))
@@ -178,37 +188,17 @@ fn convert_operation<R: Reader, C: ConvertDebugInfoRef, F: Fn(u64) -> Option<Add
             let target = target(&listing.begins, step.behind, *distance)?;
             Ok(Operation::Branch(Some(target)))
         }
-        ReadOperation::Call(entry) => {
-            let entry = refs.convert_unit_ref(*entry)?;
-            Ok(Operation::Call(entry))
-        }
+        ReadOperation::Call(entry) => refs.convert_unit_ref(*entry).map(Operation::Call),
         ReadOperation::CallRef(entry) => {
-            let entry = refs.convert_debug_info_ref(*entry)?;
-            Ok(Operation::CallRef(entry))
+            refs.convert_debug_info_ref(*entry).map(Operation::CallRef)
         }
         ReadOperation::VariableValue(entry) => {
-            let entry = refs.convert_debug_info_ref(*entry)?;
-            Ok(Operation::VariableValue(entry))
+            refs.convert_debug_info_ref(*entry)
+                .map(Operation::VariableValue)
         }
-        ReadOperation::Convert(base) => {
-            let base = convert_base(*base, refs)?;
-            Ok(Operation::Convert(base))
-        }
-        ReadOperation::Reinterpret(base) => {
-            let base = convert_base(*base, refs)?;
-            Ok(Operation::Reinterpret(base))
-        }
-        ReadOperation::EntryValue(expression) => {
-            let inner = ReadExpression(expression.0.duplicate());
-            let encoding = listing.encoding;
-            let inner = convert_within(alloc, inner, encoding, unit, convert_address, refs, depth)?;
-            Ok(Operation::EntryValue(inner))
-        }
-        ReadOperation::Register(register) => Ok(Operation::Register(*register)),
-        ReadOperation::ImplicitValue(bytes) => {
-            let bytes = copied(alloc, bytes)?;
-            Ok(Operation::ImplicitValue(bytes))
-        }
+        ReadOperation::Convert(base) => convert_base(*base, refs).map(Operation::Convert),
+        ReadOperation::Reinterpret(base) => convert_base(*base, refs).map(Operation::Reinterpret),
+        ReadOperation::ImplicitValue(bytes) => copied(alloc, bytes).map(Operation::ImplicitValue),
         ReadOperation::ImplicitPointer { entry, byte_offset } => {
             let entry = refs.convert_debug_info_ref(*entry)?;
             Ok(Operation::ImplicitPointer {
@@ -216,23 +206,60 @@ fn convert_operation<R: Reader, C: ConvertDebugInfoRef, F: Fn(u64) -> Option<Add
                 byte_offset: *byte_offset,
             })
         }
-        ReadOperation::Piece { size_in_bytes } => Ok(Operation::Piece {
+        ReadOperation::ParameterRef(entry) => {
+            refs.convert_unit_ref(*entry).map(Operation::ParameterRef)
+        }
+        other => Ok(plain_operation(other, listing.encoding)),
+    }
+}
+
+/// A constant of a type, which has a place in the unit.
+fn constant_type<R: Reader, C: ConvertDebugInfoRef>(
+    alloc: Global,
+    base: UnitOffset,
+    value: &R,
+    refs: &C,
+) -> ConvertResult<Operation>
+    ensures { (result ≡ Err NoMemory) ⊎ TypedConstant (C.entries refs.now) base.0
+        (left (R.reading value.now)) (as_node result) }
+{
+    let base = refs.convert_unit_ref(base)?;
+    let value = copied(alloc, value)?;
+    Ok(Operation::ConstantType(base, value))
+}
+
+/// An operation that leads to nothing that is converted, so that it stays what it is.
+fn plain_operation<R: Reader>(operation: &ReadOperation<R>, encoding: Encoding) -> Operation
+    requires { IsFalse (leads_on operation.now) }
+    ensures { StaysAs R.reading encoding operation.now (node_of result) }
+{
+    match operation {
+        ReadOperation::Simple(code) => Operation::Simple(same_code(*code)),
+        ReadOperation::UnsignedConstant(value) => Operation::UnsignedConstant(*value),
+        ReadOperation::SignedConstant(value) => Operation::SignedConstant(*value),
+        ReadOperation::FrameOffset(offset) => Operation::FrameOffset(*offset),
+        ReadOperation::RegisterOffset(register, offset) => {
+            Operation::RegisterOffset(*register, *offset)
+        }
+        ReadOperation::Pick(index) => Operation::Pick(*index),
+        ReadOperation::Deref { space } => Operation::Deref { space: *space },
+        ReadOperation::DerefSize { space, size } => deref(*space, *size, encoding),
+        ReadOperation::PlusConstant(value) => Operation::PlusConstant(*value),
+        ReadOperation::Register(register) => Operation::Register(*register),
+        ReadOperation::Piece { size_in_bytes } => Operation::Piece {
             size_in_bytes: *size_in_bytes,
-        }),
+        },
         ReadOperation::BitPiece {
             size_in_bits,
             bit_offset,
-        } => Ok(Operation::BitPiece {
+        } => Operation::BitPiece {
             size_in_bits: *size_in_bits,
             bit_offset: *bit_offset,
-        }),
-        ReadOperation::ParameterRef(entry) => {
-            let entry = refs.convert_unit_ref(*entry)?;
-            Ok(Operation::ParameterRef(entry))
-        }
-        ReadOperation::WasmLocal(index) => Ok(Operation::WasmLocal(*index)),
-        ReadOperation::WasmGlobal(index) => Ok(Operation::WasmGlobal(*index)),
-        ReadOperation::WasmStack(index) => Ok(Operation::WasmStack(*index)),
+        },
+        ReadOperation::WasmLocal(index) => Operation::WasmLocal(*index),
+        ReadOperation::WasmGlobal(index) => Operation::WasmGlobal(*index),
+        ReadOperation::WasmStack(index) => Operation::WasmStack(*index),
+        _ => unreachable!(),
     }
 }
 

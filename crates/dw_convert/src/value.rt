@@ -98,7 +98,7 @@ fn plain_value<R: Reader, C: ConvertDebugInfoRef, F: Fn(u64) -> Option<Address>>
             convert_file_index(unit.encoding().version, files, index).map(AttributeValue::FileIndex)
         }
         ReadValue::DebugLineRef(offset) => program_image(unit.unit.line_program, offset),
-        other => same_value(alloc, other),
+        other => same_value(alloc, &other),
     }
 }
 

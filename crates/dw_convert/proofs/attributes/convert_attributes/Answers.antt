@@ -1,8 +1,9 @@
 use Rattle.std.proofs.Common.{◌∙◌, sym, ap, ⊎_elim, inl, inr}
 use Rattle.dw_base.specs.declared.constants.DwAt.{DwAt}
 use Rattle.dw_convert.specs.AttributeLists.{is_dropped, put}
+use Rattle.dw_convert.specs.Tables.{tables}
 use Rattle.dw_convert.proofs.Addresses.{is_err}
-use Rattle.dw_convert.proofs.Converting.{one_more, one_refused}
+use Rattle.dw_convert.proofs.Converting.{none_yet, passed, one_more, one_refused, all_done}
 use Rattle.dw_convert.proofs.attributes.convert_attributes.Goals as goal
 
 pub returns-in_err-value-clause-err : goal.returns-in_err-value-clause-err
@@ -18,3 +19,14 @@ attributes-preserved g c =
     let v = c.in_ok-value.value in
     let p = c.in_ok-put.ensures.ok ∙ ap (λ (n : DwAt). put n v c.attributes.converted.items) c.name-in-attributes.ensures in
     one_more _ _ g.R.Reader.reading _ _ _ c.args.unit c.args.files.now c.args.attributes.now c.attributes.attribute-index c.attribute-item.result _ c.attributes-test.true c.attribute-item.is _ _ _ c.attributes.invariant d v _ c.put.new.attributes.items c.in_ok-value.ensures.ok p
+
+pub attributes-init : goal.attributes-init
+attributes-init g c = none_yet _ _ g.R.Reader.reading (goal.F-post g c.args.convert_address.now) (g.C.ConvertDebugInfoRef.entries c.args.refs.now) (g.C.ConvertDebugInfoRef.infos c.args.refs.now) c.args.unit c.args.files.now c.args.attributes.now (tables c.args.strings.now c.args.line_strings.now c.args.ranges.now c.args.locations.now) c.new-converted.result.items c.new-converted.ensures.items
+
+pub attributes-preserved-then-is_dropped : goal.attributes-preserved-then-is_dropped
+attributes-preserved-then-is_dropped g c =
+    let d = sym (ap (λ (n : DwAt). is_dropped n.0) c.name.ensures) ∙ sym c.is_dropped.ensures ∙ c.if-is_dropped.true in
+    passed _ _ g.R.Reader.reading _ _ _ c.args.unit c.args.files.now c.args.attributes.now c.attributes.attribute-index c.attribute-item.result _ c.attributes-test.true c.attribute-item.is _ _ _ c.attributes.invariant d
+
+pub returns-clause-ok : goal.returns-clause-ok
+returns-clause-ok g c = all_done _ _ g.R.Reader.reading (goal.F-post g c.args.convert_address.now) (g.C.ConvertDebugInfoRef.entries c.args.refs.now) (g.C.ConvertDebugInfoRef.infos c.args.refs.now) c.args.unit c.args.files.now c.args.attributes.now c.attributes.attribute-index _ _ _ c.attributes-test.false c.attributes.invariant

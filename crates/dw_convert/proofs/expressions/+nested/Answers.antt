@@ -1,41 +1,22 @@
-use Rattle.std.proofs.Common.{◌≡◌, ◌∙◌, ◌+◌, ◌-◌, sym, ap, subst, List, [], ◌∷◌, ◌++◌, Ok, Err, SFits, w16, to_z, of_z, ⊎_elim, inl, inr, rules}
-use Rattle.std.proofs.lemmas.Int.{to_z-of_z}
+use Rattle.std.proofs.Common.{◌≡◌, ◌∙◌, ◌+◌, ◌-◌, sym, ap, subst, List, [], ◌∷◌, ◌++◌, Ok, Err, ⊎_elim, inl, inr}
 use Rattle.std.proofs.lemmas.List.{map-append}
 use Rattle.dw_expr.specs.Trees.{Node}
 use Rattle.dw_expr.specs.Views.{node_of, nodes_in}
 use Rattle.dw_convert.specs.Lookups.{addresses_in}
 use Rattle.dw_convert.proofs.Addresses.{is_err}
-use Rattle.dw_convert.proofs.Nesting.{AreSoFar, none_yet, one_more, one_refused, all_done, skip_refused, branch_refused, nested_converted, nested_refused, at_level}
+use Rattle.dw_convert.proofs.Nesting.{AreSoFar, none_yet, one_more, one_refused, all_done, nested_converted, nested_refused, flat_ok, flat_err, at_level}
 use Rattle.dw_convert.proofs.expressions.+nested.Goals as goal
 
-pub convert_operation-returns-in_err-target-in-Skip-clause-err : goal.convert_operation-returns-in_err-target-in-Skip-clause-err
-convert_operation-returns-in_err-target-in-Skip-clause-err g t c =
-    let why = c.in_err-target-in-Skip.field-0.0 in
-    let e : c.from_residual-in_err-target-in-Skip.result ≡ Err why = is_err _ _ c.from_residual-in_err-target-in-Skip.ensures in
-    let reading = g.R.Reader.reading in
-    let answers = goal.F-post g c.args.convert_address.now in
-    let addresses = addresses_in reading c.args.unit in
-    let entries = g.C.ConvertDebugInfoRef.entries c.args.refs.now in
-    let infos = g.C.ConvertDebugInfoRef.infos c.args.refs.now in
-    let fits : SFits w16 c.in-Skip.distance = search rules in
-    rw e (inr (skip_refused _ _ reading answers addresses entries infos c.args.listing.now c.args.step.now c.args.depth c.deref-in-Skip.result.now c.deref-in-Skip.ensures.value c.in-Skip.distance (to_z w16 (of_z w16 c.in-Skip.distance)) (to_z-of_z w16 c.in-Skip.distance fits) why c.in_err-target-in-Skip.ensures c.in-Skip.is))
+pub convert_operation-returns-in_default-clause-ok : goal.convert_operation-returns-in_default-clause-ok
+convert_operation-returns-in_default-clause-ok g t c = flat_ok _ _ g.R.Reader.reading (goal.F-post g c.args.convert_address.now) (addresses_in g.R.Reader.reading c.args.unit) (g.C.ConvertDebugInfoRef.entries c.args.refs.now) (g.C.ConvertDebugInfoRef.infos c.args.refs.now) c.args.listing.now c.args.step.now c.args.depth c.convert_flat.result c.convert_flat.ensures
 
-pub convert_operation-returns-in_err-target-in-Branch-clause-err : goal.convert_operation-returns-in_err-target-in-Branch-clause-err
-convert_operation-returns-in_err-target-in-Branch-clause-err g t c =
-    let why = c.in_err-target-in-Branch.field-0.0 in
-    let e : c.from_residual-in_err-target-in-Branch.result ≡ Err why = is_err _ _ c.from_residual-in_err-target-in-Branch.ensures in
-    let reading = g.R.Reader.reading in
-    let answers = goal.F-post g c.args.convert_address.now in
-    let addresses = addresses_in reading c.args.unit in
-    let entries = g.C.ConvertDebugInfoRef.entries c.args.refs.now in
-    let infos = g.C.ConvertDebugInfoRef.infos c.args.refs.now in
-    let fits : SFits w16 c.in-Branch.distance = search rules in
-    rw e (inr (branch_refused _ _ reading answers addresses entries infos c.args.listing.now c.args.step.now c.args.depth c.deref-in-Branch.result.now c.deref-in-Branch.ensures.value c.in-Branch.distance (to_z w16 (of_z w16 c.in-Branch.distance)) (to_z-of_z w16 c.in-Branch.distance fits) why c.in_err-target-in-Branch.ensures c.in-Branch.is))
+pub convert_operation-returns-in_default-clause-err : goal.convert_operation-returns-in_default-clause-err
+convert_operation-returns-in_default-clause-err g t c = flat_err _ _ g.R.Reader.reading (goal.F-post g c.args.convert_address.now) (addresses_in g.R.Reader.reading c.args.unit) (g.C.ConvertDebugInfoRef.entries c.args.refs.now) (g.C.ConvertDebugInfoRef.infos c.args.refs.now) c.args.listing.now c.args.step.now c.args.depth c.convert_flat.result c.convert_flat.ensures
 
 pub convert_operation-returns-in_err-inner-in-EntryValue-clause-err : goal.convert_operation-returns-in_err-inner-in-EntryValue-clause-err
 convert_operation-returns-in_err-inner-in-EntryValue-clause-err g t c =
     let why = c.in_err-inner-in-EntryValue.field-0.0 in
-    let e : c.from_residual-in_err-inner-in-EntryValue.result ≡ Err why = is_err _ _ c.from_residual-in_err-inner-in-EntryValue.ensures in
+    let e : c.from_residual.result ≡ Err why = is_err _ _ c.from_residual.ensures in
     rw e (⊎_elim (λ n. inl n) (λ h. inr (nested_refused _ _ g.R.Reader.reading _ _ _ _ c.args.listing.now c.args.step.now c.args.depth c.in-EntryValue.expression c.in-EntryValue.is (g.R.Reader.reading c.duplicate.result) c.duplicate.ensures why h)) c.in_err-inner-in-EntryValue.ensures.err)
 
 pub convert_operation-returns-in_ok-inner-in-EntryValue-clause-ok : goal.convert_operation-returns-in_ok-inner-in-EntryValue-clause-ok

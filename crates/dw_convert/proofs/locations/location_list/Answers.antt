@@ -10,7 +10,7 @@ use Rattle.dw_convert.specs.RangeLists.{has_base}
 use Rattle.dw_convert.proofs.Addresses.{is_err}
 use Rattle.dw_convert.proofs.Growing.{begun_more, based_more}
 use Rattle.dw_convert.proofs.WrittenWalks.{locations_written}
-use Rattle.dw_convert.proofs.LocationSteps.{passes, closes, read_here, closed_here, from_parts}
+use Rattle.dw_convert.proofs.LocationSteps.{passes, closes, read_here, closed_here, refused_here, from_parts}
 use Rattle.dw_convert.proofs.locations.location_list.Goals as goal
 
 pub items-init : goal.items-init
@@ -103,3 +103,20 @@ returns-clause-written g c =
       };
       is = i.kept;
     })
+
+pub returns-in_err-items-clause-err : goal.returns-in_err-items-clause-err
+returns-in_err-items-clause-err g c =
+    let e = is_err _ _ c.from_residual.ensures in
+    rw e (inr (inl (record { error = c.in_err-items.field-0.0; reason = c.in_err-items.ensures.err.reason; is = refl })))
+
+pub returns-in_err-item-clause-err : goal.returns-in_err-item-clause-err
+returns-in_err-item-clause-err g c =
+    let i = c.items.invariant in
+    let reading = g.R.Reader.reading in
+    let e = is_err _ _ c.from_residual-in_err-item.ensures in
+    rw e (inr (inr (record {
+      rest = left (reading c.items.items.input);
+      images = i.images;
+      begun = i.begun;
+      cause = inl (record { error = c.in_err-item.field-0.0; reason = refused_here _ _ reading _ _ _ _ _ i.order i.encoding c.in_err-item.ensures; is = refl });
+    })))

@@ -1,4 +1,4 @@
-use Rattle.std.proofs.Common.{◌∙◌, sym, ap, ap₂, ◌||◌, subst, refl, inr, Bool, [], ◌∷◌, ◌++◌, Ok, Err}
+use Rattle.std.proofs.Common.{◌∙◌, sym, ap, ap₂, ◌||◌, subst, refl, inl, inr, Bool, [], ◌∷◌, ◌++◌, Ok, Err}
 use Rattle.std.proofs.lemmas.List.Elements.{filter-append}
 use Rattle.dw_read.specs.Reading.{left}
 use Rattle.dw_read.proofs.Lefts.{left_passed, same_order}
@@ -9,7 +9,7 @@ use Rattle.dw_convert.specs.RangeLists.{has_base}
 use Rattle.dw_convert.proofs.Addresses.{is_err}
 use Rattle.dw_convert.proofs.Growing.{begun_more, based_more}
 use Rattle.dw_convert.proofs.WrittenWalks.{ranges_written}
-use Rattle.dw_convert.proofs.RangeSteps.{passes, closes, read_here, closed_here}
+use Rattle.dw_convert.proofs.RangeSteps.{passes, closes, read_here, closed_here, refused_here}
 use Rattle.dw_convert.proofs.ranges.range_list.Goals as goal
 
 pub items-init : goal.items-init
@@ -88,3 +88,20 @@ returns-clause-written g c =
       };
       is = i.kept;
     })
+
+pub returns-in_err-items-clause-err : goal.returns-in_err-items-clause-err
+returns-in_err-items-clause-err g c =
+    let e = is_err _ _ c.from_residual.ensures in
+    rw e (inr (inl (record { error = c.in_err-items.field-0.0; reason = c.in_err-items.ensures.err.reason; is = refl })))
+
+pub returns-in_err-item-clause-err : goal.returns-in_err-item-clause-err
+returns-in_err-item-clause-err g c =
+    let i = c.items.invariant in
+    let reading = g.R.Reader.reading in
+    let e = is_err _ _ c.from_residual-in_err-item.ensures in
+    rw e (inr (inr (record {
+      rest = left (reading c.items.items.input);
+      images = i.images;
+      begun = i.begun;
+      cause = inl (record { error = c.in_err-item.field-0.0; reason = refused_here _ _ reading _ _ _ _ _ i.order i.encoding c.in_err-item.ensures; is = refl });
+    })))

@@ -9,4 +9,4 @@ returns-in_default g c = stays _ _ g.R.Reader.reading (goal.F-post g c.args.conv
   info = c.in_default.not-DebugInfoRef;
   file = c.in_default.not-FileIndex;
   program = c.in_default.not-DebugLineRef;
-}) c.same_value.ensures.ok c.same_value.ensures.err
+}) c.same_value.ensures
