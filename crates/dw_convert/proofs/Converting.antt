@@ -13,9 +13,8 @@ use Rattle.dw_read.specs.declared.attribute.Attribute.{Attribute}
 use Rattle.dw_read_units.specs.declared.unit_ref.UnitRef.{UnitRef}
 use Rattle.dw_sources.specs.declared.convert_error.ConvertError.{ConvertError}
 use Rattle.dw_convert.specs.Attributes.{Seen, seen, IsImage, IsRefused}
-use Rattle.dw_convert.specs.AttributeLists.{is_dropped, kept, put, AreImages, AreConverted, RefusesAttribute}
+use Rattle.dw_convert.specs.AttributeLists.{is_dropped, kept, once, AreImages, AreConverted, RefusesAttribute}
 use Rattle.dw_convert.specs.Tables.{Tables}
-use Rattle.dw_convert.proofs.Onces.{once_more}
 
 -- a list around one of its elements
 around : {A : Type 0} (xs : List A) (i : ℕ) (x d : A) → i < length xs → x ≡ get_or xs i d → xs ≡ take i xs ++ x ∷ drop (suc i) xs
@@ -33,9 +32,9 @@ module _ (R E : Type 0) (reading : R → Reading) (answers : ℕ → Option Addr
   abbrev Are : List Seen → Tables → List (DwAt × AttributeValue) → Tables → Type 0
   Are all t xs end = AreConverted reading answers entries infos u files all t xs end
 
-  -- what the loop knows
+  -- what the loop knows: the values of the attributes so far, each name as often as it stands
   abbrev pub AreSoFar : List (Attribute R E) → ℕ → Tables → List (DwAt × AttributeValue) → Tables → Type 0
-  AreSoFar all i t xs end = Are (map (seen reading) (take i all)) t xs end
+  AreSoFar all i t xs end = Images (kept (map (seen reading) (take i all))) t xs end
 
   images_more : (all : List Seen) (t : Tables) (xs : List (DwAt × AttributeValue)) (m : Tables) (a : Seen) (n : DwAt) (v : AttributeValue) (end : Tables) → Images all t xs m → n.0 ≡ a.1.name → Image a m v end → Images (all ++ a ∷ []) t (xs ++ (n, v) ∷ []) end
   images_more [] t [] m a n v end h e i = (end, e, subst (λ (x : Tables). Image a x v end) h i, refl)
@@ -45,7 +44,7 @@ module _ (R E : Type 0) (reading : R → Reading) (answers : ℕ → Option Addr
 
   -- before the first one
   pub none_yet : (all : List (Attribute R E)) (t : Tables) (xs : List (DwAt × AttributeValue)) → xs ≡ [] → AreSoFar all 0 t xs t
-  none_yet all t xs h = record { images = []; are = refl; is = h }
+  none_yet all t xs h = subst (λ (ys : List (DwAt × AttributeValue)). Images [] t ys t) (sym h) refl
 
   module _ (all : List (Attribute R E)) (i : ℕ) (a blank : Attribute R E) (within : i < length all) (there : a ≡ get_or all i blank) (t : Tables) (xs : List (DwAt × AttributeValue)) (m : Tables) (far : AreSoFar all i t xs m) where
     kept_more : (b : Bool) → is_dropped a.name.0 ≡ b → kept (map (seen reading) (take (i + 1) all)) ≡ kept (map (seen reading) (take i all)) ++ cond (not b) (seen reading a ∷ []) []
@@ -58,15 +57,13 @@ module _ (R E : Type 0) (reading : R → Reading) (answers : ℕ → Option Addr
     pub passed : is_dropped a.name.0 ≡ true → AreSoFar all (i + 1) t xs m
     passed d =
         let e : kept (map (seen reading) (take (i + 1) all)) ≡ kept (map (seen reading) (take i all)) = kept_more true d ∙ append-nil (kept (map (seen reading) (take i all))) in
-        record { images = far.images; are = subst (λ (ys : List Seen). Images ys t far.images m) (sym e) far.are; is = far.is }
+        subst (λ (ys : List Seen). Images ys t xs m) (sym e) far
 
     -- one that becomes a value
-    pub one_more : is_dropped a.name.0 ≡ false → (v : AttributeValue) (end : Tables) (ys : List (DwAt × AttributeValue)) → Image (seen reading a) m v end → ys ≡ put a.name v xs → AreSoFar all (i + 1) t ys end
-    one_more d v end ys h p = record {
-      images = far.images ++ (a.name, v) ∷ [];
-      are = subst (λ (zs : List Seen). Images zs t (far.images ++ (a.name, v) ∷ []) end) (sym (kept_more false d)) (images_more (kept (map (seen reading) (take i all))) t far.images m (seen reading a) a.name v end far.are refl h);
-      is = p ∙ ap (put a.name v) far.is ∙ sym (once_more far.images a.name v);
-    }
+    pub one_more : is_dropped a.name.0 ≡ false → (v : AttributeValue) (end : Tables) (ys : List (DwAt × AttributeValue)) → Image (seen reading a) m v end → ys ≡ xs ++ (a.name, v) ∷ [] → AreSoFar all (i + 1) t ys end
+    one_more d v end ys h p =
+        subst (λ (zs : List Seen). Images zs t ys end) (sym (kept_more false d))
+        (subst (λ (zs : List (DwAt × AttributeValue)). Images (kept (map (seen reading) (take i all)) ++ seen reading a ∷ []) t zs end) (sym p) (images_more (kept (map (seen reading) (take i all))) t xs m (seen reading a) a.name v end far refl h))
 
     -- one that becomes nothing
     pub one_refused : is_dropped a.name.0 ≡ false → (e : ConvertError) → IsRefused reading answers entries infos u files (seen reading a) e → RefusesAttribute reading answers entries infos u files (map (seen reading) all) t e
@@ -79,11 +76,15 @@ module _ (R E : Type 0) (reading : R → Reading) (answers : ℕ → Option Addr
           ∙ ap kept (map-append (seen reading) (take i all) (a ∷ drop (suc i) all))
           ∙ filter-append (λ (x : Seen). not (is_dropped x.1.name)) (map (seen reading) (take i all)) (map (seen reading) (a ∷ drop (suc i) all))
           ∙ ap (λ (b : Bool). kept (map (seen reading) (take i all)) ++ cond (not b) (seen reading a ∷ kept (map (seen reading) (drop (suc i) all))) (kept (map (seen reading) (drop (suc i) all)))) d;
-      images = far.images;
+      images = xs;
       tables = m;
-      before = far.are;
+      before = far;
       refused = h;
     }
 
-  pub all_done : (all : List (Attribute R E)) (i : ℕ) (t : Tables) (xs : List (DwAt × AttributeValue)) (end : Tables) → length all ≤ i → AreSoFar all i t xs end → Are (map (seen reading) all) t xs end
-  all_done all i t xs end past h = subst (λ (ys : List (Attribute R E)). Are (map (seen reading) ys) t xs end) (take_all i all past) h
+  pub all_done : (all : List (Attribute R E)) (i : ℕ) (t : Tables) (xs ys : List (DwAt × AttributeValue)) (end : Tables) → length all ≤ i → AreSoFar all i t xs end → ys ≡ once xs → Are (map (seen reading) all) t ys end
+  all_done all i t xs ys end past h e = record {
+    images = xs;
+    are = subst (λ (read : List (Attribute R E)). Images (kept (map (seen reading) read)) t xs end) (take_all i all past) h;
+    is = e;
+  }

@@ -1,6 +1,12 @@
 -- Of several attributes of one name the last counts, in the place of the first.
 use Rattle.std.proofs.Common.{◌≡◌, ◌∙◌, sym, ap, ℕ, zero, suc, ◌+◌, ◌<◌, ◌≤◌, Bool, true, false, List, [], ◌∷◌, ◌++◌, length, Some, None, refl, arith, cond, not}
 use Rattle.std.proofs.Math.ListN.{get_or}
+use Rattle.std.proofs.Math.Seq.{take-suc}
+use Rattle.std.proofs.Common.{take, Option}
+use Rattle.std.specs.Prelude.{MatchOption}
+use Rattle.std.proofs.lemmas.List.{append-nil, append_assoc}
+use Rattle.std.specs.Option.{is_some}
+use Rattle.indexmap.specs.IndexMap.{insert_entry}
 use Rattle.std.specs.List.{position_or_len}
 use Rattle.std.proofs.lemmas.List.Quantifiers.{position-Some}
 use Rattle.std.specs.Prelude.{◌==◌, if◌then◌else◌, slice_set, position}
@@ -10,7 +16,7 @@ use Rattle.dw_entries.specs.declared.value.AttributeValue.{AttributeValue}
 use Rattle.dw_read.specs.Values.{is_among}
 use Rattle.dw_convert.specs.AttributeLists.{last_or, once_but, once, put, has_name}
 
-abbrev Named : Type 0
+abbrev pub Named : Type 0
 Named = DwAt × AttributeValue
 
 same : (x y : DwAt) → x.0 ≡ y.0 → x ≡ y
@@ -117,3 +123,35 @@ put_past n v (x ∷ xs) h = go (has_name n.0 x) refl (put_past n v xs) h
 
 pub put_missing : (n : DwAt) (v : AttributeValue) (xs : List Named) → None ≡ position (has_name n.0) xs → xs ++ (n, v) ∷ [] ≡ put n v xs
 put_missing n v xs e = put_past n v xs (past_none n xs e)
+
+-- none has the name of one that stands behind those before it
+pub once_so_far : (all : List Named) (i : ℕ) (x : Named) → i < length all → x ≡ get_or all i x → None ≡ position (has_name x.0.0) (take i all) → once (take i all) ≡ take i all → once (take (i + 1) all) ≡ take (i + 1) all
+once_so_far all i x within there none h =
+    let one : i + 1 ≡ suc i = omega arith in
+    let more : take (i + 1) all ≡ take i all ++ x ∷ [] = ap (λ (n : ℕ). take n all) one ∙ take-suc all i x within ∙ ap (λ (y : Named). take i all ++ y ∷ []) (sym there) in
+    ap once more ∙ once_more (take i all) x.0 x.1 ∙ ap (put x.0 x.1) h ∙ sym (put_missing x.0 x.1 (take i all) none) ∙ sym more
+
+-- a map puts a value under a name where it stands, or behind the others
+pub insert_put : (n : DwAt) (v : AttributeValue) (xs : List Named) → insert_entry (λ (a : DwAt) (b : DwAt). a.0 == b.0) xs n v ≡ put n v xs
+insert_put n v [] = refl
+insert_put n v (x ∷ xs) = go (n.0 == x.0.0) refl (insert_put n v xs)
+  where
+    go : (b : Bool) → (n.0 == x.0.0) ≡ b → insert_entry (λ (a : DwAt) (b : DwAt). a.0 == b.0) xs n v ≡ put n v xs → (if b then (x.0, v) ∷ xs else x ∷ insert_entry (λ (a : DwAt) (b : DwAt). a.0 == b.0) xs n v) ≡ put n v (x ∷ xs)
+    go true e rest = ap (λ (m : DwAt). (m, v) ∷ xs) (sym (same n x.0 (eqb-true n.0 x.0.0 e))) ∙ sym (put_step n v x xs true (flipped n.0 x.0.0 true e))
+    go false e rest = ap (λ ys. x ∷ ys) rest ∙ sym (put_step n v x xs false (flipped n.0 x.0.0 false e))
+
+pub is_none : {X : Type 0} (o : Option X) → is_some o ≡ false → o ≡ None
+is_none None h = refl
+is_none (Some x) h = absurd (true≢false h)
+
+-- what is taken from the front and put behind others leaves all as they were
+pub first_taken : (s t xs ys : List Named) (x : Named) (o : Option Named) → Some x ≡ o → MatchOption o ((s ≡ []) × (t ≡ [])) (λ y. s ≡ y ∷ t) → ys ≡ xs ++ x ∷ [] → ys ++ t ≡ xs ++ s
+first_taken s t xs ys x None h m e = let clash : Some x ≡ None = h in absurd cc
+first_taken s t xs ys x (Some y) h m e =
+    let is : x ≡ y = cc in
+    ap (λ (zs : List Named). zs ++ t) e ∙ append_assoc xs (x ∷ []) t ∙ ap (λ (z : Named). xs ++ z ∷ t) is ∙ ap (λ (zs : List Named). xs ++ zs) (sym m)
+
+-- and once nothing is left there, all is behind the others
+pub none_left : (s t xs : List Named) (o : Option Named) → None ≡ o → MatchOption o ((s ≡ []) × (t ≡ [])) (λ y. s ≡ y ∷ t) → xs ≡ xs ++ s
+none_left s t xs None h m = sym (ap (λ (zs : List Named). xs ++ zs) m.0 ∙ append-nil xs)
+none_left s t xs (Some y) h m = let clash : None ≡ Some y = h in absurd cc

@@ -1,12 +1,13 @@
 //! The attributes of an entry.
 
-ghost use Rattle.std.specs.Prelude.{◌≡◌, ◌⊎◌, IfOk, IfErr, OnOk, map, position};
+ghost use Rattle.std.specs.Prelude.{◌≡◌, ◌⊎◌, IfOk, IfErr, map};
 ghost use Rattle.dw_sources.specs.declared.convert_error.ConvertError.TheVariants.{NoMemory};
 ghost use Rattle.dw_convert.specs.Attributes.{seen};
-ghost use Rattle.dw_convert.specs.AttributeLists.{is_dropped, AreConverted, RefusesAttribute, put, has_name};
+ghost use Rattle.dw_convert.specs.AttributeLists.{is_dropped, AreConverted, RefusesAttribute};
 ghost use Rattle.dw_convert.specs.Tables.{tables};
 
 use crate::attribute::convert_attribute_value;
+use crate::once::once;
 use crate::references::ConvertDebugInfoRef;
 use dw_base::constants::*;
 use dw_base::{Address, DwAt, FileId};
@@ -85,31 +86,7 @@ pub fn convert_attributes<R: Reader, C: ConvertDebugInfoRef, F: Fn(u64) -> Optio
             ranges,
             locations,
         )?;
-        put(&mut converted, attribute.name(), value)?;
+        converted.push((attribute.name(), value))?;
     }
-    Ok(converted)
-}
-
-/// Puts a value under a name in its position, or behind the others.
-fn put(
-    attributes: &mut Vec<(DwAt, AttributeValue)>,
-    name: DwAt,
-    value: AttributeValue,
-) -> ConvertResult<()>
-    ensures ok { OnOk result (attributes.new.items ≡ put name value attributes.old.items) }
-    ensures err { IfErr result (λ e. e ≡ NoMemory) }
-{
-    match position_of(attributes, name) {
-        Some(index) => attributes[index] = (name, value),
-        None => attributes.push((name, value))?,
-    }
-    Ok(())
-}
-
-fn position_of(attributes: &[(DwAt, AttributeValue)], name: DwAt) -> Option<usize>
-    ensures { result ≡ position (has_name name.0) attributes.now }
-{
-    attributes
-        .iter()
-        .position(|attribute| attribute.0.0 == name.0)
+    once(alloc, converted)
 }

@@ -13,6 +13,7 @@ mod image;
 mod listing;
 mod location;
 mod locations;
+mod once;
 mod range;
 mod ranges;
 mod references;
