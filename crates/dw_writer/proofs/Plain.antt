@@ -3,6 +3,7 @@ use Rattle.std.specs.Prelude.{◌≡◌, ◌⊎◌, ℕ, suc, zero, ◌+◌, ◌
 use Rattle.std.specs.List.{list_all}
 use Rattle.std.specs.Int.{byte_at, bytes_low_first, bytes_high_first}
 use Rattle.std.proofs.Common.{sym, ◌∙◌, ap, subst, inl, inr, arith, add-zero}
+use Rattle.std.proofs.lemmas.Bool.{and_from}
 use Rattle.dw_base.specs.Numbers.{num, is_width, fits}
 use Rattle.dw_writer.specs.Texts.{Text, followed, num_text, patched}
 use Rattle.dw_writer.specs.Resolved.{resolved, put_records}
@@ -16,7 +17,7 @@ use Rattle.dw_base.specs.declared.error.Error.TheVariants.{NoMemory, WriteFault,
 use Rattle.dw_base.proofs.NumberLaws.{length-num}
 use Rattle.dw_writer.proofs.Laws.{length-bytes_high_first, length-num_text}
 use Rattle.dw_writer.proofs.Steps.{Adds-appends, Replaces-patches, Appends-by, Patches-by}
-use Rattle.dw_writer.proofs.Outcomes.{IfErr-map}
+use Rattle.dw_writer.proofs.Outcomes.{OnOk-map, IfErr-map}
 
 -- after a number was found to fit, only the bytes can be refused
 pub NumberRefused-bytes : (a b : Meaning) (w : ℕ) (fit : Bool) → IsTrue (is_width w) → IsTrue fit → (e : Error) → BytesRefused a b e → NumberRefused w fit (BytesRefused a b) e
@@ -146,20 +147,22 @@ part-high w n h =
     ∙ take-all w (bytes_high_first w n) (length-bytes_high_first w n)
 
 -- The calls of a plain writer for an offset and a constant, from what its `write` and `write_at` ensure.
-pub Adds-offset_ok : {T : Type 0} (r : Result T Error) (a b : Meaning) (xs : List ℕ) (w n : ℕ) (section : SectionId) → OnOk r (Adds a b xs) → xs ≡ num a.is_big w n →
-    a.is_plain ≡ true → IsTrue (is_width w) → IsTrue (fits w n) → OnOk r (Appends a b w (offset_text w section n))
-Adds-offset_ok (Ok x) a b xs w n section h e plain i j = Adds-offset w n section (subst (λ ys. Adds a b ys) e h) plain i j
-Adds-offset_ok (Err x) a b xs w n section h e plain i j = tt
+pub Adds-offset_ok : {T : Type 0} (r : Result T Error) (a b : Meaning) (w n : ℕ) (section : SectionId) → OnOk r (Adds a b (num a.is_big w n)) → OnOk r (IsTrue (is_width w) × IsTrue (fits w n)) →
+    a.is_plain ≡ true → OnOk r (Appends a b w (offset_text w section n))
+Adds-offset_ok (Ok x) a b w n section h fit plain = Adds-offset w n section h plain fit.0 fit.1
+Adds-offset_ok (Err x) a b w n section h fit plain = tt
 
 pub Replaces-offset_ok : {T : Type 0} (r : Result T Error) (a b : Meaning) (p : ℕ) (xs : List ℕ) (w n : ℕ) (section : SectionId) → OnOk r (Replaces a b p xs) → xs ≡ num a.is_big w n →
     a.is_plain ≡ true → IsTrue (is_width w) → IsTrue (fits w n) → OnOk r (Patches a b p w (offset_text w section n))
 Replaces-offset_ok (Ok x) a b p xs w n section h e plain i j = Replaces-offset w n section (subst (λ ys. Replaces a b p ys) e h) plain i j
 Replaces-offset_ok (Err x) a b p xs w n section h e plain i j = tt
 
-pub Adds-constant_ok : {T : Type 0} (r : Result T Error) (a b : Meaning) (xs : List ℕ) (w n : ℕ) → OnOk r (Adds a b xs) → xs ≡ num a.is_big w n →
-    IsTrue (is_width w) → IsTrue (fits w n) → OnOk r (Appends a b w (address_text w (Constant n)))
-Adds-constant_ok (Ok x) a b xs w n h e i j = Adds-constant w n (subst (λ ys. Adds a b ys) e h) i j
-Adds-constant_ok (Err x) a b xs w n h e i j = tt
+pub constant-fits : {T : Type 0} (r : Result T Error) (w n : ℕ) → OnOk r (IsTrue (is_width w) × IsTrue (fits w n)) → OnOk r (IsTrue (is_width w && fits w n))
+constant-fits r w n h = OnOk-map r h (λ fit. and_from (is_width w) (fits w n) fit.0 fit.1)
+
+pub Adds-constant_ok : {T : Type 0} (r : Result T Error) (a b : Meaning) (w n : ℕ) → OnOk r (Adds a b (num a.is_big w n)) → OnOk r (IsTrue (is_width w) × IsTrue (fits w n)) → OnOk r (Appends a b w (address_text w (Constant n)))
+Adds-constant_ok (Ok x) a b w n h fit = Adds-constant w n h fit.0 fit.1
+Adds-constant_ok (Err x) a b w n h fit = tt
 
 pub Patch_refused : {T : Type 0} (r : Result T Error) (size : ℕ) (rise : Type 0) (p : ℕ) (xs : List ℕ) (big : Bool) (w n : ℕ) (fit : Bool) → IfErr r (PatchCause size rise p (length xs)) → xs ≡ num big w n →
     IsTrue (is_width w) → IsTrue fit → IfErr r (NumberRefused w fit (PatchCause size rise p w))

@@ -1,9 +1,10 @@
 //! A writer into memory.
 
-ghost use Rattle.std.specs.Prelude.{◌≡◌, ℕ, ◌+◌, ◌<◌, ◌≤◌, ◌++◌, [], length, true, refl, Some, vec_len, OnOk, OnErr, IfErr};
+ghost use Rattle.std.specs.Prelude.{◌≡◌, ℕ, ◌+◌, ◌<◌, ◌≤◌, ◌++◌, [], length, true, refl, Some, IsTrue, vec_len, OnOk, OnErr, IfErr};
+ghost use Rattle.dw_base.specs.Numbers.{num, is_width, fits};
 ghost use Rattle.dw_writer.specs.Texts.{overwrite};
-ghost use Rattle.dw_writer.specs.Causes.{PlaceRefused};
-ghost use Rattle.dw_writer.specs.Meaning.{Meaning};
+ghost use Rattle.dw_writer.specs.Causes.{BytesRefused, NumberRefused, PlaceRefused};
+ghost use Rattle.dw_writer.specs.Meaning.{Meaning, IsSameWriter, Adds, AddsSome, spelled_num};
 
 use crate::number::number_bytes;
 use crate::writer::Writer;
@@ -53,6 +54,28 @@ impl<E: Endianity> EndianVec<E> {
         let EndianVec { bytes, endian: _ } = self;
         bytes
     }
+
+    /// Adds an unsigned number in `size` bytes.
+    fn add_number(&mut self, val: u64, size: u8) -> Result<()>
+        ensures fits { OnOk result (IsTrue (is_width size) × IsTrue (fits size val)) }
+        ensures ok { OnOk result
+            (Adds (⟦<EndianVec<E> as Writer>⟧.meaning self.old)
+            (⟦<EndianVec<E> as Writer>⟧.meaning self.new)
+            (num (⟦<EndianVec<E> as Writer>⟧.meaning self.old).is_big size val)) }
+        ensures err { IfErr result
+            (NumberRefused size (fits size val)
+            (BytesRefused (⟦<EndianVec<E> as Writer>⟧.meaning self.old)
+            (⟦<EndianVec<E> as Writer>⟧.meaning self.new))) }
+        ensures partly { OnErr result
+            (AddsSome (⟦<EndianVec<E> as Writer>⟧.meaning self.old)
+            (⟦<EndianVec<E> as Writer>⟧.meaning self.new)
+            (spelled_num (⟦<EndianVec<E> as Writer>⟧.meaning self.old).is_big size val)) }
+        ensures same { IsSameWriter (⟦<EndianVec<E> as Writer>⟧.meaning self.old)
+            (⟦<EndianVec<E> as Writer>⟧.meaning self.new) }
+    {
+        let number = number_bytes(self.endian.is_big_endian(), val, size)?;
+        self.write(number.slice())
+    }
 }
 
 impl<E: Endianity> Clone for EndianVec<E> {
@@ -99,8 +122,7 @@ impl<E: Endianity> Writer for EndianVec<E> {
     }
 
     fn write_offset(&mut self, val: usize, _section: SectionId, size: u8) -> Result<()> {
-        let number = number_bytes(self.endian.is_big_endian(), val as u64, size)?;
-        self.write(number.slice())
+        self.add_number(val as u64, size)
     }
 
     fn write_offset_at(
@@ -116,10 +138,7 @@ impl<E: Endianity> Writer for EndianVec<E> {
 
     fn write_address(&mut self, address: Address, size: u8) -> Result<()> {
         match address {
-            Address::Constant(val) => {
-                let number = number_bytes(self.endian.is_big_endian(), val, size)?;
-                self.write(number.slice())
-            }
+            Address::Constant(val) => self.add_number(val, size),
             Address::Symbol { .. } => Err(Error::InvalidAddress),
         }
     }

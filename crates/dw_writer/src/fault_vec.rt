@@ -1,9 +1,10 @@
 //! A writer into memory that fails at chosen calls.
 
 ghost use Rattle.std.specs.Prelude.{◌≡◌, ◌≤◌, ◌↔◌, [], length, true, refl, Some, IsTrue, IsErrOf, OnOk, OnErr, IfErr};
+ghost use Rattle.dw_base.specs.Numbers.{num, is_width, fits};
 ghost use Rattle.dw_base.specs.Faults.{FailsNext, after_call, after_fault};
-ghost use Rattle.dw_writer.specs.Causes.{IsNotMemory, KeptOutside, BytesRefused, PatchRefused};
-ghost use Rattle.dw_writer.specs.Meaning.{IsSameWriter, Adds, AddsSome, Replaces, ReplacesSome};
+ghost use Rattle.dw_writer.specs.Causes.{IsNotMemory, KeptOutside, BytesRefused, NumberRefused, PatchRefused};
+ghost use Rattle.dw_writer.specs.Meaning.{IsSameWriter, Adds, AddsSome, Replaces, ReplacesSome, spelled_num};
 ghost use Rattle.dw_writer.specs.Relocating.{with_faults};
 
 use crate::endian_vec::EndianVec;
@@ -22,7 +23,7 @@ pub struct FaultVec<E: Endianity> {
 }
 
 impl<E: Endianity> FaultVec<E> {
-    ghost use Rattle.dw_writer.specs.Faulty.{fault_plan};
+    ghost use Rattle.dw_writer.specs.Faulty.{fault_plan, faulty};
 
     /// A writer with no bytes. Its calls with the numbers in `failing` are to fail.
     pub fn new(alloc: Global, endian: E, failing: Vec<u64>) -> FaultVec<E>
@@ -50,6 +51,28 @@ impl<E: Endianity> FaultVec<E> {
         ensures size { (⟦<FaultVec<E> as Writer>⟧.meaning self.now).size ≡ length result.now }
     {
         self.vec.slice()
+    }
+
+    /// Adds an unsigned number in `size` bytes.
+    fn add_number(&mut self, val: u64, size: u8) -> Result<()>
+        ensures fits { OnOk result (IsTrue (is_width size) × IsTrue (fits size val)) }
+        ensures ok { OnOk result
+            (Adds (faulty ⟦<EndianVec<E> as Writer>⟧.meaning self.old)
+            (faulty ⟦<EndianVec<E> as Writer>⟧.meaning self.new)
+            (num (faulty ⟦<EndianVec<E> as Writer>⟧.meaning self.old).is_big size val)) }
+        ensures err { IfErr result
+            (NumberRefused size (fits size val)
+            (BytesRefused (faulty ⟦<EndianVec<E> as Writer>⟧.meaning self.old)
+            (faulty ⟦<EndianVec<E> as Writer>⟧.meaning self.new))) }
+        ensures partly { OnErr result
+            (AddsSome (faulty ⟦<EndianVec<E> as Writer>⟧.meaning self.old)
+            (faulty ⟦<EndianVec<E> as Writer>⟧.meaning self.new)
+            (spelled_num (faulty ⟦<EndianVec<E> as Writer>⟧.meaning self.old).is_big size val)) }
+        ensures same { IsSameWriter (faulty ⟦<EndianVec<E> as Writer>⟧.meaning self.old)
+            (faulty ⟦<EndianVec<E> as Writer>⟧.meaning self.new) }
+    {
+        let number = number_bytes(self.vec.endian().is_big_endian(), val, size)?;
+        self.write(number.slice())
     }
 }
 
@@ -142,8 +165,7 @@ impl<E: Endianity> Writer for FaultVec<E> {
     }
 
     fn write_offset(&mut self, val: usize, _section: SectionId, size: u8) -> Result<()> {
-        let number = number_bytes(self.vec.endian().is_big_endian(), val as u64, size)?;
-        self.write(number.slice())
+        self.add_number(val as u64, size)
     }
 
     fn write_offset_at(
@@ -159,10 +181,7 @@ impl<E: Endianity> Writer for FaultVec<E> {
 
     fn write_address(&mut self, address: Address, size: u8) -> Result<()> {
         match address {
-            Address::Constant(val) => {
-                let number = number_bytes(self.vec.endian().is_big_endian(), val, size)?;
-                self.write(number.slice())
-            }
+            Address::Constant(val) => self.add_number(val, size),
             Address::Symbol { .. } => Err(Error::InvalidAddress),
         }
     }
