@@ -1,14 +1,16 @@
 -- What pointers of call frame tables come to.
-use Rattle.std.specs.Prelude.{◌≡◌, ℕ, ◌+◌, ◌*◌, ◌/◌, ◌%◌, ◌^◌, Bool, true, false, ◌&&◌, List, [], length, Option, Some, None, refl, ℤ, IsTrue, IsSome, if◌then◌else◌, bit_and, Result, Ok, Err, OnOk, OnErr}
+use Rattle.std.specs.Prelude.{◌≡◌, ◌==◌, ℕ, ◌+◌, ◌*◌, ◌/◌, ◌%◌, ◌^◌, Bool, true, false, ◌&&◌, List, [], length, Option, Some, None, refl, ℤ, IsTrue, IsSome, if◌then◌else◌, bit_and, Result, Ok, Err, OnOk, OnErr, IfErr}
 use Rattle.std.specs.Option.{unwrap_or, is_some}
 use Rattle.std.proofs.Common.{sym, ◌∙◌, ap, subst, arith}
 use Rattle.std.proofs.lemmas.Nat.{and_mask, and_block}
-use Rattle.dw_base.specs.Pointers.{format_of, application_of, signed_of}
+use Rattle.dw_base.specs.Pointers.{format_of, application_of, pointer_width, is_signed, signed_of}
+use Rattle.dw_base.specs.declared.constants.TheConstants.{DW_EH_PE_uleb128, DW_EH_PE_sleb128}
 use Rattle.dw_base.specs.Leb128.{uleb, sleb}
 use Rattle.dw_base.specs.Numbers.{◌>>=◌, num, is_width, fits}
 use Rattle.dw_base.specs.declared.error.Error.{Error}
 use Rattle.dw_base.specs.declared.address.Address.TheVariants.{Constant}
 use Rattle.dw_base.specs.declared.constants.DwEhPe.{DwEhPe}
+use Rattle.dw_writer.specs.Causes.{EncodingRefused, LaidRefused, DataRefused, CountedRefused, PointerRefused}
 use Rattle.dw_writer.specs.Texts.{Text, num_text}
 use Rattle.dw_writer.specs.SignedNumbers.{signed_fits, signed_num}
 use Rattle.dw_writer.specs.Pointers.{signed_text, layout_by, laid_out, laid_size, data_text, counted, constant_pointer}
@@ -175,3 +177,46 @@ pub pointer_partly-constant : {T : Type 0} (r : Result T Error) (a b : Meaning) 
     AddsSomeWith a b (pointer_bytes a.is_plain a.is_big size encoding.0 a.size (Constant n)) (pointer_records a.is_plain size encoding a.size (Constant n))
 unfolding pointer_records
 pointer_partly-constant r a b size format n k encoding p q f e = AddsSome-with (AddsSome-either r a b _ _ p q (pointer_spelled a.is_plain a.is_big size encoding.0 format a.size n k f e))
+
+-- Why such a number is refused
+
+pub DataRefused-none : (size format n : ℕ) (more : Error → Type 0) (e : Error) → EncodingRefused format e → layout_by size format ≡ None → DataRefused size format n more e
+DataRefused-none size format n more e h none = subst (λ o. LaidRefused o format n more e) (sym none) h
+
+pub DataRefused-by : {T : Type 0} (r : Result T Error) (size format n : ℕ) (more : Error → Type 0) (layout : PointerLayout) → layout_by size format ≡ Some layout → IfErr r (LaidRefused (Some layout) format n more) → IfErr r (DataRefused size format n more)
+DataRefused-by r size format n more layout e h = subst (λ o. IfErr r (LaidRefused o format n more)) (sym e) h
+
+pub PointerRefused-none : (plain : Bool) (size encoding place n : ℕ) (more : Error → Type 0) (e : Error) → EncodingRefused encoding e → counted encoding place n ≡ None → PointerRefused plain size encoding place (Constant n) more e
+PointerRefused-none plain size encoding place n more e h none = subst (λ o. CountedRefused o size encoding more e) (sym none) h
+
+pub PointerRefused-some : {T : Type 0} (r : Result T Error) (plain : Bool) (size encoding format place n k : ℕ) (more : Error → Type 0) → IfErr r (DataRefused size format k more) → format ≡ format_of encoding → counted encoding place n ≡ Some k →
+    IfErr r (PointerRefused plain size encoding place (Constant n) more)
+PointerRefused-some r plain size encoding format place n k more h f e =
+    subst (λ o. IfErr r (CountedRefused o size encoding more)) (sym e) (subst (λ q. IfErr r (DataRefused size q k more)) f h)
+
+-- The width of a pointer, from its layout
+
+width_of : (a b s : Bool) (o : Option ℕ) (w : ℕ) (layout : PointerLayout) → ((k : ℕ) → (if s then Signed k else Unsigned k) ≡ layout → k ≡ w) → (Uleb128 ≡ layout → ⊥) → (Sleb128 ≡ layout → ⊥) →
+    ◌≡◌ {A = Option PointerLayout} (if a then Some Uleb128 else (if b then Some Sleb128 else (o >>= λ k. Some (if s then Signed k else Unsigned k)))) (Some layout) → o ≡ Some w
+width_of true b s o w layout f u v e = let h : Uleb128 ≡ layout = cc in absurd (u h)
+width_of false true s o w layout f u v e = let h : Sleb128 ≡ layout = cc in absurd (v h)
+width_of false false s None w layout f u v e = cc
+width_of false false s (Some k) w layout f u v e = let h : (if s then Signed k else Unsigned k) ≡ layout = cc in ap Some (f k h)
+
+unsigned-is : (s : Bool) (k w : ℕ) → (if s then Signed k else Unsigned k) ≡ Unsigned w → k ≡ w
+unsigned-is true k w e = cc
+unsigned-is false k w e = cc
+
+signed-is : (s : Bool) (k w : ℕ) → (if s then Signed k else Unsigned k) ≡ Signed w → k ≡ w
+signed-is true k w e = cc
+signed-is false k w e = cc
+
+pub unsigned_width : (size encoding format w : ℕ) → format ≡ format_of encoding → layout_by size format ≡ Some (Unsigned w) → pointer_width size (format_of encoding) ≡ Some w
+unsigned_width size encoding format w f e =
+    ap (pointer_width size) (sym f)
+    ∙ width_of (format == DW_EH_PE_uleb128.0) (format == DW_EH_PE_sleb128.0) (is_signed format) (pointer_width size format) w (Unsigned w) (λ k. unsigned-is (is_signed format) k w) (λ h. cc) (λ h. cc) e
+
+pub signed_width : (size encoding format w : ℕ) → format ≡ format_of encoding → layout_by size format ≡ Some (Signed w) → pointer_width size (format_of encoding) ≡ Some w
+signed_width size encoding format w f e =
+    ap (pointer_width size) (sym f)
+    ∙ width_of (format == DW_EH_PE_uleb128.0) (format == DW_EH_PE_sleb128.0) (is_signed format) (pointer_width size format) w (Signed w) (λ k. signed-is (is_signed format) k w) (λ h. cc) (λ h. cc) e

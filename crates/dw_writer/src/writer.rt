@@ -179,7 +179,7 @@ pub trait Writer {
             (AddsSome (meaning self.old) (meaning self.new) (num (meaning self.old).is_big 2 val)) }
         ensures same { IsSameWriter (meaning self.old) (meaning self.new) }
     {
-        let big = self.endian().is_big_endian();
+        let big = is_big(self);
         self.write(&bytes_of_u16(big, val))
     }
 
@@ -192,7 +192,7 @@ pub trait Writer {
             (AddsSome (meaning self.old) (meaning self.new) (num (meaning self.old).is_big 4 val)) }
         ensures same { IsSameWriter (meaning self.old) (meaning self.new) }
     {
-        let big = self.endian().is_big_endian();
+        let big = is_big(self);
         self.write(&bytes_of_u32(big, val))
     }
 
@@ -205,7 +205,7 @@ pub trait Writer {
             (AddsSome (meaning self.old) (meaning self.new) (num (meaning self.old).is_big 8 val)) }
         ensures same { IsSameWriter (meaning self.old) (meaning self.new) }
     {
-        let big = self.endian().is_big_endian();
+        let big = is_big(self);
         self.write(&bytes_of_u64(big, val))
     }
 
@@ -219,7 +219,7 @@ pub trait Writer {
             (num (meaning self.old).is_big 16 val)) }
         ensures same { IsSameWriter (meaning self.old) (meaning self.new) }
     {
-        let big = self.endian().is_big_endian();
+        let big = is_big(self);
         self.write(&bytes_of_u128(big, val))
     }
 
@@ -252,7 +252,7 @@ pub trait Writer {
             (num (meaning self.old).is_big 2 val)) }
         ensures same { IsSameWriter (meaning self.old) (meaning self.new) }
     {
-        let big = self.endian().is_big_endian();
+        let big = is_big(self);
         self.write_at(offset, &bytes_of_u16(big, val))
     }
 
@@ -269,7 +269,7 @@ pub trait Writer {
             (num (meaning self.old).is_big 4 val)) }
         ensures same { IsSameWriter (meaning self.old) (meaning self.new) }
     {
-        let big = self.endian().is_big_endian();
+        let big = is_big(self);
         self.write_at(offset, &bytes_of_u32(big, val))
     }
 
@@ -286,7 +286,7 @@ pub trait Writer {
             (num (meaning self.old).is_big 8 val)) }
         ensures same { IsSameWriter (meaning self.old) (meaning self.new) }
     {
-        let big = self.endian().is_big_endian();
+        let big = is_big(self);
         self.write_at(offset, &bytes_of_u64(big, val))
     }
 
@@ -304,7 +304,7 @@ pub trait Writer {
             (spelled_num (meaning self.old).is_big size val)) }
         ensures same { IsSameWriter (meaning self.old) (meaning self.new) }
     {
-        let number = number_bytes(self.endian().is_big_endian(), val, size)?;
+        let number = number_bytes(is_big(self), val, size)?;
         self.write(number.slice())
     }
 
@@ -323,7 +323,7 @@ pub trait Writer {
             (spelled_signed (meaning self.old).is_big size val)) }
         ensures same { IsSameWriter (meaning self.old) (meaning self.new) }
     {
-        let number = signed_number_bytes(self.endian().is_big_endian(), val, size)?;
+        let number = signed_number_bytes(is_big(self), val, size)?;
         self.write(number.slice())
     }
 
@@ -344,7 +344,7 @@ pub trait Writer {
             (spelled_num (meaning self.old).is_big size val)) }
         ensures same { IsSameWriter (meaning self.old) (meaning self.new) }
     {
-        let number = number_bytes(self.endian().is_big_endian(), val, size)?;
+        let number = number_bytes(is_big(self), val, size)?;
         self.write_at(offset, number.slice())
     }
 
@@ -496,4 +496,11 @@ pub trait Writer {
     // A writer that puts offsets as they are records nothing.
     ghost plain_records_nothing: { (w : Self) →
         (meaning w).is_plain ≡ true → (meaning w).records ≡ [] };
+}
+
+/// Whether a writer puts the highest byte of a number first.
+fn is_big<W: Writer>(writer: &W) -> bool
+    ensures { result ≡ (W.meaning writer.now).is_big }
+{
+    writer.endian().is_big_endian()
 }
