@@ -1,24 +1,27 @@
 -- What the calls of relocating writers come to, and those of writers that fail at chosen calls.
 use Rattle.std.specs.Option.{unwrap_or}
-use Rattle.std.specs.Prelude.{◌≡◌, ℕ, ◌+◌, Bool, true, false, List, [], ◌∷◌, ◌++◌, Option, Some, None, refl, slice_get, ℤ, pos, ◌+ℤ◌, IsTrue, if◌then◌else◌, Result, Ok, Err, OnOk, OnErr}
+use Rattle.std.specs.Prelude.{◌≡◌, ℕ, ◌+◌, Bool, true, false, List, [], ◌∷◌, ◌++◌, Option, Some, None, refl, slice_get, ℤ, pos, ◌+ℤ◌, IsTrue, Result, Ok, Err, OnOk, OnErr, IfErr}
 use Rattle.std.proofs.Common.{sym, ◌∙◌, ap, subst, inl, arith, append_assoc, append-nil, zero-add}
 use Rattle.std.proofs.Math.IntN.{+ℤ_idl}
 use Rattle.dw_base.specs.Numbers.{◌>>=◌, num, is_width, fits}
 use Rattle.dw_base.specs.Pointers.{format_of, pointer_width}
 use Rattle.dw_base.specs.declared.constants.DwEhPe.{DwEhPe}
 use Rattle.dw_base.specs.declared.error.Error.{Error}
+use Rattle.dw_base.specs.declared.error.Error.TheVariants.{OffsetOutOfBounds, LengthOutOfBounds}
 use Rattle.dw_base.specs.declared.section_id.SectionId.{SectionId}
 use Rattle.dw_base.specs.declared.address.Address.TheVariants.{Constant, Symbol}
+use Rattle.dw_writer.specs.Causes.{KeptOutside, EncodingRefused, NumberRefused, RecordRefused, PointerRefused, offset_fits}
 use Rattle.dw_writer.specs.Texts.{Text, zeros, num_text, int_text}
 use Rattle.dw_writer.specs.Resolved.{sum_text, record_text}
 use Rattle.dw_writer.specs.Pointers.{address_of, pointer_text}
 use Rattle.dw_writer.specs.SectionTexts.{offset_text, address_text, eh_pointer_text, eh_pointer_size}
-use Rattle.dw_writer.specs.Meaning.{Layout, Meaning, IsSameWriter, Records, Adds, AddsWith, AddsSome, AddsSomeWith, Replaces, ReplacesWith, ReplacesSome, ReplacesSomeWith, Appends, Patches, start_of, spelled_num, pointer_bytes, pointer_records, pointer_zeros, pointer_record}
+use Rattle.dw_writer.specs.Meaning.{Layout, Meaning, IsSameWriter, Records, Adds, AddsWith, AddsSome, AddsSomeWith, Replaces, ReplacesWith, ReplacesSome, ReplacesSomeWith, Appends, Patches, start_of, spelled_num, pointer_bytes, pointer_records, pointer_zeros, pointer_record, pointer_fits, has_width, offset_bytes, address_bytes}
 use Rattle.dw_writer.specs.Relocating.{relocating, record_at, record_by}
 use Rattle.dw_writer.specs.declared.relocate.Relocation.{Relocation}
 use Rattle.dw_writer.specs.declared.relocate.RelocationTarget.{RelocationTarget}
 use Rattle.dw_writer.specs.declared.relocate.RelocationTarget.TheVariants as to
-use Rattle.dw_writer.proofs.Parts.{followed-nothing, patched-nothing, AddsSome-either, num-spelled}
+use Rattle.dw_writer.proofs.Parts.{followed-nothing, patched-nothing, AddsSome-either, num-spelled, both, if_true}
+use Rattle.dw_writer.proofs.Outcomes.{OnOk-always}
 use Rattle.dw_writer.proofs.Plain.{Adds-constant}
 use Rattle.dw_writer.proofs.RecordSteps.{Records-appends, Records-patches}
 use Rattle.dw_writer.proofs.Steps.{Appends-as, Patches-as}
@@ -32,6 +35,38 @@ relocated a b rs xs p = record {
   told = p.told;
   records = ap (λ k. k ++ rs) p.records;
 }
+
+-- What a call of the inner writer does, beside the records
+
+pub behind : {I : Type 0} (meaning : I → Meaning) (R : Meaning → Meaning → Type 0) (rs : List Relocation) {s t w i : I} {qs ps : List Relocation} → t ≡ s → i ≡ w → ps ≡ qs → R (relocating (meaning t) rs) (relocating (meaning w) qs) →
+    R (relocating (meaning s) rs) (relocating (meaning i) ps)
+behind meaning R rs {s} {t} {w} {i} {qs} {ps} old new records h =
+    subst (λ k. R (relocating (meaning k) rs) (relocating (meaning i) ps)) old
+    (subst (λ k. R (relocating (meaning t) rs) (relocating (meaning k) ps)) (sym new) (subst (λ k. R (relocating (meaning t) rs) (relocating (meaning w) k)) (sym records) h))
+
+pub relocated_by : {I : Type 0} (meaning : I → Meaning) (R : Meaning → Meaning → Type 0) (lift : (a b : Meaning) (rs : List Relocation) → R a b → R (relocating a rs) (relocating b rs))
+    {s t w i : I} {rs qs : List Relocation} → t ≡ s → i ≡ w → qs ≡ rs → R (meaning t) (meaning w) → R (relocating (meaning s) rs) (relocating (meaning i) qs)
+relocated_by meaning R lift {s} {t} {w} {i} {rs} {qs} old new records h = behind meaning R rs old new records (lift (meaning t) (meaning w) rs h)
+
+pub relocated_some : (bytes : List ℕ) (a b : Meaning) (rs : List Relocation) → AddsSome a b bytes → AddsSome (relocating a rs) (relocating b rs) bytes
+relocated_some bytes a b rs p = record { count = p.count; size = p.size; told = p.told; records = ap (λ k. k ++ rs) p.records }
+
+pub relocated_replaces : (p : ℕ) (bytes : List ℕ) (a b : Meaning) (rs : List Relocation) → Replaces a b p bytes → Replaces (relocating a rs) (relocating b rs) p bytes
+relocated_replaces p bytes a b rs h = record {
+  same = record { order = h.same.order; kind = refl; faults = h.same.faults };
+  within = h.within;
+  size = h.size;
+  told = h.told;
+  records = ap (λ k. k ++ rs) h.records;
+}
+
+pub relocated_replaces_some : (p : ℕ) (bytes : List ℕ) (a b : Meaning) (rs : List Relocation) → ReplacesSome a b p bytes → ReplacesSome (relocating a rs) (relocating b rs) p bytes
+relocated_replaces_some p bytes a b rs h = record { count = h.count; size = h.size; told = h.told; records = ap (λ k. k ++ rs) h.records }
+
+pub relocated_kept : (a b : Meaning) (rs : List Relocation) (e : Error) → KeptOutside a b e → KeptOutside (relocating a rs) (relocating b rs) e
+relocated_kept a b rs OffsetOutOfBounds h = ap (λ m. relocating m rs) h
+relocated_kept a b rs LengthOutOfBounds h = ap (λ m. relocating m rs) h
+relocated_kept a b rs _ h = tt
 
 -- what the inner writer has added, behind a record
 pub relocated_ok : {T : Type 0} (r : Result T Error) (a b : Meaning) (rs qs more : List Relocation) (xs : List ℕ) → OnOk r (Adds a b xs) → qs ≡ rs ++ more →
@@ -146,15 +181,11 @@ pointer_added (Ok x) a b size w s encoding addend z p e width k =
     (λ big l. pointer_record_text big l size a.size w s encoding addend k)
 pointer_added (Err x) a b size w s encoding addend z p e width k = tt
 
-if_width : (b : Bool) (xs : List ℕ) → IsTrue b → xs ≡ (if b then xs else [])
-if_width true xs h = refl
-if_width false xs h = cc
-
 -- what such a pointer puts in its place
 pub pointer_zeros-are : (size place w s : ℕ) (big : Bool) (encoding : DwEhPe) (addend : ℤ) → IsTrue (is_width w) → pointer_width size (format_of encoding.0) ≡ Some w →
     zeros w ≡ pointer_bytes false big size encoding.0 place (Symbol s addend)
 unfolding pointer_bytes
-pointer_zeros-are size place w s big encoding addend width k = if_width (is_width w) (zeros w) width ∙ sym (ap pointer_zeros k)
+pointer_zeros-are size place w s big encoding addend width k = if_true (is_width w) (zeros w) width ∙ sym (ap pointer_zeros k)
 
 pub pointer_record-is : (size place w s : ℕ) (encoding : DwEhPe) (addend z : ℤ) → z ≡ addend → pointer_width size (format_of encoding.0) ≡ Some w →
     record_by (Some encoding) place w (to.Symbol s) z ≡ pointer_records false size encoding place (Symbol s addend)
@@ -216,3 +247,30 @@ AddsWith-is r a b xs ys rs qs p e f = subst (λ k. OnOk r (AddsWith a b k qs)) e
 
 pub AddsSomeWith-is : (a b : Meaning) (xs ys : List ℕ) (rs qs : List Relocation) → AddsSomeWith a b xs rs → xs ≡ ys → rs ≡ qs → AddsSomeWith a b ys qs
 AddsSomeWith-is a b xs ys rs qs p e f = subst (λ k. AddsSomeWith a b k qs) e (subst (λ k. AddsSomeWith a b xs k) f p)
+
+pub ReplacesWith-is : {T : Type 0} (r : Result T Error) (a b : Meaning) (p : ℕ) (xs ys : List ℕ) (rs qs : List Relocation) → OnOk r (ReplacesWith a b p xs rs) → xs ≡ ys → rs ≡ qs → OnOk r (ReplacesWith a b p ys qs)
+ReplacesWith-is r a b p xs ys rs qs h e f = subst (λ k. OnOk r (ReplacesWith a b p k qs)) e (subst (λ k. OnOk r (ReplacesWith a b p xs k)) f h)
+
+pub ReplacesSomeWith-is : {T : Type 0} (r : Result T Error) (a b : Meaning) (p : ℕ) (xs ys : List ℕ) (rs qs : List Relocation) → OnErr r (ReplacesSomeWith a b p xs rs) → xs ≡ ys → rs ≡ qs → OnErr r (ReplacesSomeWith a b p ys qs)
+ReplacesSomeWith-is r a b p xs ys rs qs h e f = subst (λ k. OnErr r (ReplacesSomeWith a b p k qs)) e (subst (λ k. OnErr r (ReplacesSomeWith a b p xs k)) f h)
+
+-- what an offset and a symbol's address put in their places
+pub offset_zeros-are : (big : Bool) (w n : ℕ) → IsTrue (is_width w) × IsTrue (offset_fits false w n) → zeros w ≡ offset_bytes false big w n
+offset_zeros-are big w n fit = both (is_width w) (offset_fits false w n) (zeros w) fit.0 fit.1
+
+pub symbol_zeros-are : (big : Bool) (w s : ℕ) (addend : ℤ) → IsTrue (is_width w) → zeros w ≡ address_bytes false big w (Symbol s addend)
+symbol_zeros-are big w s addend width = if_true (is_width w) (zeros w) width
+
+-- why the record of a pointer is refused
+pub RecordRefused-none : (size encoding place s : ℕ) (addend : ℤ) (more : Error → Type 0) (e : Error) → EncodingRefused encoding e → pointer_width size (format_of encoding) ≡ None → PointerRefused false size encoding place (Symbol s addend) more e
+RecordRefused-none size encoding place s addend more e h none = subst (λ o. RecordRefused o encoding more e) (sym none) h
+
+pub RecordRefused-some : {T : Type 0} (r : Result T Error) (size encoding place s w : ℕ) (addend : ℤ) (more : Error → Type 0) → pointer_width size (format_of encoding) ≡ Some w → IfErr r (NumberRefused w true more) →
+    IfErr r (PointerRefused false size encoding place (Symbol s addend) more)
+RecordRefused-some r size encoding place s w addend more width h = subst (λ o. IfErr r (RecordRefused o encoding more)) (sym width) h
+
+has_width-of : (o : Option ℕ) (w : ℕ) → o ≡ Some w → IsTrue (is_width w) → IsTrue (has_width o)
+has_width-of o w e h = subst (λ k. IsTrue (has_width k)) (sym e) h
+
+pub symbol-fits : {T : Type 0} (r : Result T Error) (big : Bool) (size encoding place s w : ℕ) (addend : ℤ) → pointer_width size (format_of encoding) ≡ Some w → IsTrue (is_width w) → OnOk r (IsTrue (pointer_fits false big size encoding place (Symbol s addend)))
+symbol-fits r big size encoding place s w addend width is = OnOk-always r (has_width-of (pointer_width size (format_of encoding)) w width is)

@@ -1,33 +1,45 @@
-use Rattle.std.proofs.Common.{◌≡◌, false, refl, ◌∙◌, rules, to_z, of_z, w64}
-use Rattle.dw_writer.proofs.Outcomes.{OnErr-always}
-use Rattle.dw_writer.proofs.Parts.{ReplacesSomeWith-none, IfErr-kept}
-use Rattle.dw_writer.proofs.Relocating.{offset_patched}
-use Rattle.std.proofs.lemmas.Result.{err_from_is_err_and}
+use Rattle.std.proofs.Common.{◌≡◌, false, refl, ◌∙◌, ap, rules, to_z, of_z, w64}
 use Rattle.dw_writer.specs.Causes.{PatchRefused, offset_fits}
-use Rattle.dw_writer.proofs.Refusals.{NumberRefused-only, NumberRefused-patched}
+use Rattle.dw_writer.specs.Relocating.{record_at}
+use Rattle.dw_writer.specs.declared.relocate.RelocationTarget.TheVariants as to
+use Rattle.dw_writer.proofs.Outcomes.{OnOk-always, OnErr-always}
+use Rattle.dw_writer.proofs.Refusals.{NumberRefused-exit, NumberRefused-patched}
+use Rattle.dw_writer.proofs.Parts.{IfErr-kept, ReplacesSomeWith-none}
+use Rattle.dw_writer.proofs.Relocating.{offset_patched, offset_zeros-are, ReplacesWith-is, ReplacesSomeWith-is}
 use Rattle.dw_writer.proofs.relocate.AnyWriter.write_offset_at.Goals as goal
+
+pub returns-in_err-addend-clause-err : goal.returns-in_err-addend-clause-err
+returns-in_err-addend-clause-err g c =
+    NumberRefused-exit c.from_residual.result c.args.size (offset_fits false c.args.size c.args.val) (PatchRefused (g.T.Writer.Writer.meaning (g.T.RelocateWriter.inner c.args.self.now)) (g.T.Writer.Writer.meaning (g.T.RelocateWriter.inner c.args.self.now)) c.args.offset c.args.size) _ c.from_residual.ensures.1 c.in_err-addend.ensures.err
+
+pub returns-in_err-addend-clause-outside : goal.returns-in_err-addend-clause-outside
+returns-in_err-addend-clause-outside g c = IfErr-kept c.from_residual.result _ _ (OnErr-always c.from_residual.result refl)
 
 pub returns-in_err-addend-clause-partly : goal.returns-in_err-addend-clause-partly
 returns-in_err-addend-clause-partly g c = OnErr-always c.from_residual.result (ReplacesSomeWith-none _ c.args.offset _ _)
 
+pub returns-clause-fits : goal.returns-clause-fits
+returns-clause-fits g c = OnOk-always c.patch_relocated.result c.in_ok-addend.ensures.fits
+
 pub returns-clause-ok : goal.returns-clause-ok
 returns-clause-ok g c =
-    let addend = c.in_ok-addend.ensures in
     let value : to_z w64 (of_z w64 c.in_ok-addend.addend) ≡ c.in_ok-addend.addend = search rules in
-    offset_patched c.patch_relocated.result _ _ c.args.offset c.args.size c.args.val c.args.section _ c.patch_relocated.ensures.ok (value ∙ addend.ok) addend.fits.0
-
-pub returns-in_err-addend-clause-err : goal.returns-in_err-addend-clause-err
-returns-in_err-addend-clause-err g c =
-    let p = err_from_is_err_and c.from_residual.result c.from_residual.ensures.1 in
-    let m = g.T.Writer.Writer.meaning (g.T.RelocateWriter.inner c.args.self.now) in
-    rw (p.1, p.2) (NumberRefused-only c.args.size (offset_fits false c.args.size c.args.val) (PatchRefused m m c.args.offset c.args.size) c.in_err-addend.field-0.0 c.in_err-addend.ensures.err)
-
-pub returns-in_err-addend-clause-outside : goal.returns-in_err-addend-clause-outside
-returns-in_err-addend-clause-outside g c =
-    IfErr-kept c.from_residual.result _ _ (OnErr-always c.from_residual.result refl)
+    let fits = c.in_ok-addend.ensures.fits in
+    offset_patched c.patch_relocated.result _ _ c.args.offset c.args.size c.args.val c.args.section _ c.patch_relocated.ensures.ok (value ∙ c.in_ok-addend.ensures.ok) fits.0
 
 pub returns-clause-err : goal.returns-clause-err
 returns-clause-err g c =
     let fits = c.in_ok-addend.ensures.fits in
-    let patch = c.patch_relocated in
-    NumberRefused-patched patch.result c.args.offset c.args.size c.args.size (offset_fits false c.args.size c.args.val) patch.ensures.same fits.0 fits.1 patch.ensures.err
+    NumberRefused-patched c.patch_relocated.result c.args.offset c.args.size c.args.size (offset_fits false c.args.size c.args.val) c.patch_relocated.ensures.same fits.0 fits.1 c.patch_relocated.ensures.err
+
+pub returns-clause-raw : goal.returns-clause-raw
+returns-clause-raw g c =
+    let value : to_z w64 (of_z w64 c.in_ok-addend.addend) ≡ c.in_ok-addend.addend = search rules in
+    let fits = c.in_ok-addend.ensures.fits in
+    ReplacesWith-is c.patch_relocated.result _ _ c.args.offset _ _ _ _ c.patch_relocated.ensures.ok (offset_zeros-are (g.T.Writer.Writer.meaning (g.T.RelocateWriter.inner c.args.self.now)).is_big c.args.size c.args.val fits) (ap (record_at c.args.offset c.args.size (to.Section c.args.section)) (value ∙ c.in_ok-addend.ensures.ok))
+
+pub returns-clause-partly : goal.returns-clause-partly
+returns-clause-partly g c =
+    let value : to_z w64 (of_z w64 c.in_ok-addend.addend) ≡ c.in_ok-addend.addend = search rules in
+    let fits = c.in_ok-addend.ensures.fits in
+    ReplacesSomeWith-is c.patch_relocated.result _ _ c.args.offset _ _ _ _ c.patch_relocated.ensures.partly (offset_zeros-are (g.T.Writer.Writer.meaning (g.T.RelocateWriter.inner c.args.self.now)).is_big c.args.size c.args.val fits) (ap (record_at c.args.offset c.args.size (to.Section c.args.section)) (value ∙ c.in_ok-addend.ensures.ok))
