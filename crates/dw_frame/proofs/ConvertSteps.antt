@@ -1,5 +1,5 @@
 -- Instructions that are read and converted, one after the other.
-use Rattle.std.proofs.Common.{◌≡◌, ◌∙◌, sym, ap, subst, inr, ℕ, ◌+◌, ◌<◌, ◌^◌, nat_lt, List, [], ◌∷◌, ◌++◌, length, map, All, Option, Some, None, Result, Ok, Err, Bool, true, false, ℤ, refl, ⊎_elim, arith}
+use Rattle.std.proofs.Common.{◌≡◌, ◌∙◌, sym, ap, subst, inr, ℕ, ◌+◌, ◌<◌, ◌^◌, nat_lt, List, [], ◌∷◌, ◌++◌, length, Option, Some, None, Result, Ok, Err, Bool, true, false, ℤ, refl, ⊎_elim}
 use Rattle.std.specs.Prelude.{option_to_list, if◌then◌else◌}
 use Rattle.std.proofs.lemmas.Bool.{ltb-true}
 use Rattle.std.proofs.lemmas.List.{map-append, append-nil, append_assoc}
@@ -25,13 +25,12 @@ use Rattle.dw_convert.specs.Lists.{First}
 use Rattle.dw_frame.proofs.ConvertLaws.{first_more}
 use Rattle.dw_frame.specs.declared.instruction.CallFrameInstruction.{CallFrameInstruction}
 use Rattle.dw_frame.specs.declared.program.Step.{Step}
-use Rattle.dw_frame.specs.Programs.{a_step}
 use Rattle.dw_frame.specs.declared.cie.CommonInformationEntry.{CommonInformationEntry}
 use Rattle.dw_frame.specs.declared.fde.FrameDescriptionEntry.{FrameDescriptionEntry}
 use Rattle.dw_frame.specs.ConvertInstructions.{InstructionOutcome, in_u32}
 use Rattle.dw_frame.specs.ConvertEntries.{IsCieHead, IsFdeHead}
 use Rattle.dw_frame.specs.ConvertOrders.{order_of}
-use Rattle.dw_frame.specs.ConvertPrograms.{Terms, Image, Begun, MissesInstruction, FailsInstruction, LeadsPast, Becomes, grammar, reason, read_ones, kept_ones, advance, behind, steps_at, kept_steps}
+use Rattle.dw_frame.specs.ConvertPrograms.{Terms, Image, Begun, MissesInstruction, FailsInstruction, Becomes, grammar, read_ones, kept_ones, advance, behind, steps_at, kept_steps}
 
 pub kept_more : (xs : List Image) (x : Image) → kept_ones (xs ++ x ∷ []) ≡ kept_ones xs ++ option_to_list x.kept
 kept_more [] x = append-nil (option_to_list x.kept)

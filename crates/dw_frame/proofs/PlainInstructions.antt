@@ -1,5 +1,5 @@
 -- What an instruction without an expression becomes.
-use Rattle.std.specs.Prelude.{◌≡◌, ◌⊎◌, ℕ, Bool, Option, Result, Ok, Err, IfOk, IfErr, ℤ, refl}
+use Rattle.std.specs.Prelude.{◌≡◌, ◌⊎◌, ℕ, Bool, Option, Ok, Err, IfOk, IfErr, ℤ, refl}
 use Rattle.std.proofs.Common.{inr}
 use Rattle.dw_base.specs.declared.address.Address.{Address}
 use Rattle.dw_base.specs.declared.common.Encoding.{Encoding}
@@ -9,7 +9,6 @@ use Rattle.dw_read.specs.declared.value.Expression.{Expression}
 use Rattle.dw_read_frames.specs.InstructionViews.{instruction_of}
 use Rattle.dw_read_frames.specs.declared.instruction.CallFrameInstruction.{CallFrameInstruction as Held}
 use Rattle.dw_read_frames.specs.declared.instruction.CallFrameInstruction.TheVariants as held
-use Rattle.dw_sources.specs.declared.convert_error.ConvertError.{ConvertError}
 use Rattle.dw_sources.specs.declared.convert_error.ConvertError.TheVariants.{NoMemory}
 use Rattle.dw_frame.specs.ConvertInstructions.{Kept, InstructionOutcome, plain}
 

@@ -1,5 +1,5 @@
 -- What the instructions of an entry become, one after the other: those of a CIE, and those of an FDE with their offsets (DWARF 5, 6.4.1).
-use Rattle.std.specs.Prelude.{◌≡◌, ◌≢◌, ◌⊎◌, ℕ, ◌+◌, ◌*◌, ◌^◌, ◌<◌, ◌≤◌, Bool, List, [], ◌∷◌, ◌++◌, length, map, All, option_to_list, Option, Some, Result, Ok, Err}
+use Rattle.std.specs.Prelude.{◌≡◌, ◌≢◌, ◌⊎◌, ℕ, ◌+◌, ◌*◌, ◌^◌, ◌<◌, Bool, List, [], ◌∷◌, ◌++◌, length, map, All, option_to_list, Option, Some, Result, Ok, Err}
 use Rattle.dw_base.specs.Numbers.{Parser}
 use Rattle.dw_base.specs.declared.address.Address.{Address}
 use Rattle.dw_read.specs.Reading.{Read}

@@ -16,7 +16,6 @@ use Rattle.dw_sources.specs.declared.convert_error.ConvertError.{ConvertError}
 use Rattle.dw_convert.specs.Lists.{First}
 use Rattle.dw_frame.specs.declared.cie.CommonInformationEntry.{CommonInformationEntry}
 use Rattle.dw_frame.specs.declared.fde.FrameDescriptionEntry.{FrameDescriptionEntry}
-use Rattle.dw_frame.specs.ConvertPrograms.{Terms}
 use Rattle.dw_frame.specs.ConvertEntries.{IsCie, RefusesCie, IsFde, RefusesFde}
 
 -- a section of call frames, and the bytes of an address on its target

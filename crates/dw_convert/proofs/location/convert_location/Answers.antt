@@ -21,3 +21,24 @@ returns-in_ok-expression-in-Range-clause-ok g c =
 
 pub returns-in_ok-expression-in-Default-clause-ok : goal.returns-in_ok-expression-in-Default-clause-ok
 returns-in_ok-expression-in-Default-clause-ok g c = default_converted _ _ g.R.Reader.reading _ _ _ c.args.unit c.args.has_base c.args.parts c.in-Default.read _ c.encoding-encoding.ensures c.in_ok-expression-in-Default.expression c.in-Default.is c.in_ok-expression-in-Default.ensures.ok
+
+pub returns-in_err-range-in-Base-clause-ok : goal.returns-in_err-range-in-Base-clause-ok
+returns-in_err-range-in-Base-clause-ok g c = rw (is_err _ _ c.from_residual.ensures) tt
+
+pub returns-in_ok-range-in-Base-clause-err : goal.returns-in_ok-range-in-Base-clause-err
+returns-in_ok-range-in-Base-clause-err g c = tt
+
+pub returns-in_err-range-in-Range-clause-ok : goal.returns-in_err-range-in-Range-clause-ok
+returns-in_err-range-in-Range-clause-ok g c = rw (is_err _ _ c.from_residual-in_err-range-in-Range.ensures) tt
+
+pub returns-in_err-expression-in-Range-clause-ok : goal.returns-in_err-expression-in-Range-clause-ok
+returns-in_err-expression-in-Range-clause-ok g c = rw (is_err _ _ c.from_residual-in_err-expression-in-Range.ensures) tt
+
+pub returns-in_ok-expression-in-Range-clause-err : goal.returns-in_ok-expression-in-Range-clause-err
+returns-in_ok-expression-in-Range-clause-err g c = tt
+
+pub returns-in_err-expression-in-Default-clause-ok : goal.returns-in_err-expression-in-Default-clause-ok
+returns-in_err-expression-in-Default-clause-ok g c = rw (is_err _ _ c.from_residual-in_err-expression-in-Default.ensures) tt
+
+pub returns-in_ok-expression-in-Default-clause-err : goal.returns-in_ok-expression-in-Default-clause-err
+returns-in_ok-expression-in-Default-clause-err g c = tt

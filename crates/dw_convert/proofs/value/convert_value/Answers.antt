@@ -79,3 +79,48 @@ returns-in_err-value-in_default-clause-err g c =
       expression = c.in_default.not-Exprloc;
     } in
     rw e (plain_err _ _ g.R.Reader.reading (goal.F-post g c.args.convert_address.now) (g.C.ConvertDebugInfoRef.entries c.args.refs.now) (g.C.ConvertDebugInfoRef.infos c.args.refs.now) c.args.unit c.args.files.now (order_or_little (value_order g.R.Reader.reading c.args.value)) c.args.name.0 c.args.value why is c.in_err-value-in_default.ensures)
+
+pub returns-in-DebugStrRef-clause-text : goal.returns-in-DebugStrRef-clause-text
+returns-in-DebugStrRef-clause-text g c = c.string_at.ensures.text
+
+pub returns-in-DebugStrOffsetsIndex-clause-text : goal.returns-in-DebugStrOffsetsIndex-clause-text
+returns-in-DebugStrOffsetsIndex-clause-text g c = c.indexed_string.ensures.text
+
+pub returns-in-DebugLineStrRef-clause-text : goal.returns-in-DebugLineStrRef-clause-text
+returns-in-DebugLineStrRef-clause-text g c = c.line_string_at.ensures.text
+
+pub returns-in-RangeListsRef-clause-text : goal.returns-in-RangeListsRef-clause-text
+returns-in-RangeListsRef-clause-text g c = c.ranges_at.ensures.text
+
+pub returns-in-DebugRngListsIndex-clause-text : goal.returns-in-DebugRngListsIndex-clause-text
+returns-in-DebugRngListsIndex-clause-text g c = c.indexed_ranges.ensures.text
+
+pub returns-in-LocationListsRef-clause-text : goal.returns-in-LocationListsRef-clause-text
+returns-in-LocationListsRef-clause-text g c = c.locations_at.ensures.text
+
+pub returns-in-DebugLocListsIndex-clause-text : goal.returns-in-DebugLocListsIndex-clause-text
+returns-in-DebugLocListsIndex-clause-text g c = c.indexed_locations.ensures.text
+
+pub returns-in_err-read-in-Exprloc-clause-ok : goal.returns-in_err-read-in-Exprloc-clause-ok
+returns-in_err-read-in-Exprloc-clause-ok g c = rw (is_err _ _ c.from_residual.ensures) tt
+
+pub returns-in_err-read-in-Exprloc-clause-text : goal.returns-in_err-read-in-Exprloc-clause-text
+returns-in_err-read-in-Exprloc-clause-text g c = rw (is_err _ _ c.from_residual.ensures) tt
+
+pub returns-in_ok-read-in-Exprloc-clause-text : goal.returns-in_ok-read-in-Exprloc-clause-text
+returns-in_ok-read-in-Exprloc-clause-text g c = tt
+
+pub returns-in_ok-read-in-Exprloc-clause-err : goal.returns-in_ok-read-in-Exprloc-clause-err
+returns-in_ok-read-in-Exprloc-clause-err g c = tt
+
+pub returns-in_err-value-in_default-clause-ok : goal.returns-in_err-value-in_default-clause-ok
+returns-in_err-value-in_default-clause-ok g c = rw (is_err _ _ c.from_residual-in_err-value-in_default.ensures) tt
+
+pub returns-in_err-value-in_default-clause-text : goal.returns-in_err-value-in_default-clause-text
+returns-in_err-value-in_default-clause-text g c = rw (is_err _ _ c.from_residual-in_err-value-in_default.ensures) tt
+
+pub returns-in_ok-value-in_default-clause-text : goal.returns-in_ok-value-in_default-clause-text
+returns-in_ok-value-in_default-clause-text g c = tt
+
+pub returns-in_ok-value-in_default-clause-err : goal.returns-in_ok-value-in_default-clause-err
+returns-in_ok-value-in_default-clause-err g c = tt

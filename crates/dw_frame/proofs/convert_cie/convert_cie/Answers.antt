@@ -1,4 +1,4 @@
-use Rattle.std.proofs.Common.{◌≡◌, ◌∙◌, sym, ap, refl, inl, inr, ⊎_elim, List, [], ◌∷◌, ◌++◌, Ok, Err, rules, w64, to_z, of_z}
+use Rattle.std.proofs.Common.{◌≡◌, ◌∙◌, sym, ap, refl, inl, inr, ⊎_elim, List, [], ◌∷◌, ◌++◌, Err, rules, w64, to_z, of_z}
 use Rattle.std.specs.Prelude.{option_to_list}
 use Rattle.dw_read.specs.Reading.{left}
 use Rattle.dw_read_frames.specs.InstructionViews.{instruction_of}

@@ -1,4 +1,4 @@
-use Rattle.std.proofs.Common.{◌≡◌, ◌∙◌, sym, ap, ap₂, subst, refl, inl, inr, ⊎_elim, List, [], ◌∷◌, ◌++◌, Ok, Err}
+use Rattle.std.proofs.Common.{◌≡◌, ◌∙◌, sym, ap, ap₂, refl, inl, inr, ⊎_elim, List, [], ◌∷◌, ◌++◌, Err}
 use Rattle.std.specs.List.{position_or_len}
 use Rattle.dw_base.specs.declared.ids.CieId.{CieId}
 use Rattle.dw_read.specs.Reading.{left}
@@ -126,3 +126,15 @@ returns-clause-ok g c =
       common = i.cies;
       own = i.fdes;
     }
+
+pub returns-in_err-entry-clause-ok : goal.returns-in_err-entry-clause-ok
+returns-in_err-entry-clause-ok g c = rw (is_err _ _ c.from_residual.ensures) tt
+
+pub returns-in_err-pair-clause-ok : goal.returns-in_err-pair-clause-ok
+returns-in_err-pair-clause-ok g c = rw (is_err _ _ c.from_residual-in_err-pair.ensures) tt
+
+pub returns-in_err-add_frame-clause-ok : goal.returns-in_err-add_frame-clause-ok
+returns-in_err-add_frame-clause-ok g c = rw (is_err _ _ c.from_residual-in_err-add_frame.ensures) tt
+
+pub returns-clause-err : goal.returns-clause-err
+returns-clause-err g c = tt

@@ -67,3 +67,19 @@ pub returns-clause-part : goal.returns-clause-part
 returns-clause-part g c =
     c.loop-fde.invariant.rest (Ok tt) (g.W.Writer.meaning c.loop-fde.w)
     (subst (λ ys. Puts {T = Unit {0}} (Ok tt) (g.W.Writer.meaning c.loop-fde.w) (g.W.Writer.meaning c.loop-fde.w) (frames_from c.args.kind c.args.cies.now (known c.loop-fde.places.places.items) ys)) (sym (drop_all c.args.fdes.now c.loop-fde.fde-index c.loop-fde-test.false)) (Puts-nothing (g.W.Writer.meaning c.loop-fde.w)))
+
+pub returns-in_err-places-clause-told : goal.returns-in_err-places-clause-told
+returns-in_err-places-clause-told g c =
+    let p = err_from_is_err_and c.from_residual.result c.from_residual.ensures.1 in
+    rw p.1 tt
+
+pub returns-in_err-write_frame-clause-told : goal.returns-in_err-write_frame-clause-told
+returns-in_err-write_frame-clause-told g c =
+    let p = err_from_is_err_and c.from_residual-in_err-write_frame.result c.from_residual-in_err-write_frame.ensures.1 in
+    rw p.1 tt
+
+pub write_frame-requires-clause-counted : goal.write_frame-requires-clause-counted
+write_frame-requires-clause-counted g c = c.loop-fde.invariant.counted
+
+pub write_frame-requires-clause-behind : goal.write_frame-requires-clause-behind
+write_frame-requires-clause-behind g c = c.loop-fde.invariant.behind
