@@ -19,7 +19,7 @@ pub use digits::{digit_in_base, number};
 pub use fields::{expect_end, line_fields, next_byte_order, next_field, next_u64};
 pub use hex_bytes::HexBytes;
 pub use line_error::LineError;
-pub use listing::listing_text;
+pub use listing::{listing_text, push_section};
 pub use listing_reader::{Listing, ListingReader};
 pub use pieces::Pieces;
 pub use reason::Reason;

@@ -81,9 +81,9 @@ fn push_hex(text: &mut Vec<u8>, bytes: &[u8]) -> Result<(), AllocError>
     }
 }
 
-// Appends a section's line: its name, its length and its bytes in hex. Where memory runs out, a
-// front of the line may stay in `text`.
-fn push_section(text: &mut Vec<u8>, name: &str, bytes: &[u8]) -> Result<(), AllocError>
+/// Appends a section's line: its name, its length in decimal, and its bytes in hex where there are
+/// any. Where memory runs out, a front of the line may stay in `text`.
+pub fn push_section(text: &mut Vec<u8>, name: &str, bytes: &[u8]) -> Result<(), AllocError>
     ensures ok { OnOk result (text.new.items ≡ text.old.items ++ section_line name.now bytes.now) }
     ensures bytes { AreBytes bytes.now }
     ensures err { OnErr result (StartsWith text.new.items text.old.items) }

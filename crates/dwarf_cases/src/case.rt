@@ -3,11 +3,12 @@
 use crate::fault::fault_of;
 use crate::head::{Head, bare, head_of, takes};
 use crate::input::{push_cut, push_script, script_bytes};
-use crate::listing::push_listing;
+use crate::listing::{push_listing, push_section};
 use crate::program::push_run;
 use crate::text::Text;
 use crate::words::{
-    count_of, count_of_all, first_told, parts, printed_sections, push_told, read_sections,
+    MADE_SECTION, count_of, count_of_all, first_told, parts, printed_sections, push_told,
+    read_sections,
 };
 use std::alloc::{AllocError, Global};
 
@@ -139,14 +140,21 @@ fn wanted_of(alloc: Global, case: Case<'_>, head: Head) -> Text {
     let mut wanted = Text::new(alloc);
     wanted.push("status ");
     push_told(&mut wanted, case.lines, "status", "\n");
-    if count_of(case.lines, "same") != 0 {
-        push_listing(alloc, &mut wanted, case.read, head, printed_sections());
-    } else if count_of(case.lines, "text") == 0 {
-        push_listing(alloc, &mut wanted, case.lines, head, printed_sections());
-    } else {
-        push_told(&mut wanted, case.lines, "text", "\n");
-    }
+    push_output(alloc, &mut wanted, case, head);
     wanted
+}
+
+/// Appends all that is to be printed.
+fn push_output(alloc: Global, wanted: &mut Text, case: Case<'_>, head: Head) {
+    if count_of(case.lines, "same") != 0 {
+        push_listing(alloc, wanted, case.read, head, printed_sections());
+    } else if count_of(case.lines, MADE_SECTION) != 0 {
+        push_section(alloc, wanted, case.lines, head, MADE_SECTION);
+    } else if count_of_all(case.lines, &["text", "nothing"]) == 0 {
+        push_listing(alloc, wanted, case.lines, head, printed_sections());
+    } else {
+        push_told(wanted, case.lines, "text", "\n");
+    }
 }
 
 /// What is to be printed, as an input.

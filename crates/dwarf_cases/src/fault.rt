@@ -1,11 +1,25 @@
 //! What a case lacks, or has too much.
 
-use crate::words::{count_of, count_of_all, printed_sections, read_sections};
+use crate::words::{MADE_SECTION, count_of, count_of_all, printed_sections, read_sections};
 
 /// The words that a case's line may begin with, besides sections.
-const WORDS: [&str; 14] = [
-    "", "#", "command", "units", "script", "repeat", "count", "read", "cut", "status", "order",
-    "text", "same", "once",
+const WORDS: [&str; 16] = [
+    "",
+    "#",
+    "command",
+    "units",
+    "script",
+    "repeat",
+    "count",
+    "read",
+    "cut",
+    "status",
+    "order",
+    "text",
+    "same",
+    "once",
+    "nothing",
+    MADE_SECTION,
 ];
 
 /// The fault of a case: words that no case has, a status that is told not once, an output that is
@@ -36,7 +50,13 @@ fn known(lines: &str) -> usize {
 /// How many ways of telling the output a case takes.
 fn outputs(lines: &str) -> usize {
     let sections = count_of_all(lines, printed_sections());
-    let is_told = [sections, count_of(lines, "same"), count_of(lines, "text")];
+    let is_told = [
+        sections,
+        count_of(lines, MADE_SECTION),
+        count_of(lines, "same"),
+        count_of(lines, "text"),
+        count_of(lines, "nothing"),
+    ];
     is_told.iter().filter(|count| **count != 0).count()
 }
 

@@ -31,7 +31,7 @@ fn push_order(text: &mut Text, lines: &str, head: Head) {
 }
 
 /// Appends the line of a section.
-fn push_section(alloc: Global, text: &mut Text, lines: &str, head: Head, section: &str) {
+pub fn push_section(alloc: Global, text: &mut Text, lines: &str, head: Head, section: &str) {
     let digits = digits_of(alloc, lines, head, section);
     let size = digits.as_str().len() / 2;
     text.push(section);

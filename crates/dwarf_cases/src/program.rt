@@ -1,11 +1,20 @@
-//! The program that is run.
+//! The programs that are run.
 
 use crate::text::Text;
-use dw_program::run::run;
+use crate::words::parts;
+use dw_arange_table::run as make_aranges;
+use dw_program::run::run as build;
 use dw_program::{SliceSource, VecSink};
 use std::alloc::{AllocError, Global};
 
-/// Runs a command over an input, and appends the status that the program ends with and all that it
+/// Whose words a command is.
+#[derive(Clone, Copy)]
+enum Program {
+    DwarfBuild,
+    DwAranges,
+}
+
+/// Runs a command over an input, and appends the status that its program ends with and all that it
 /// prints.
 pub fn push_run(
     alloc: Global,
@@ -13,23 +22,44 @@ pub fn push_run(
     command: &str,
     input: Result<Vec<u8>, AllocError>,
 ) {
-    match (words(alloc, command), input) {
-        (Ok(words), Ok(input)) => push_ended(alloc, shown, &words, input.as_slice()),
+    let (program, words) = program_of(command);
+    match (words_of(alloc, words), input) {
+        (Ok(words), Ok(input)) => push_ended(alloc, shown, program, &words, input.as_slice()),
         _ => shown.push("no memory\n"),
     }
 }
 
-/// Runs the program over these words and an input.
-fn push_ended(alloc: Global, shown: &mut Text, words: &Vec<String>, input: &[u8]) {
+/// The program of a command, and the words that it is run with.
+fn program_of(command: &str) -> (Program, &str) {
+    match parts(command) {
+        ("aranges", words) => (Program::DwAranges, words),
+        _ => (Program::DwarfBuild, command),
+    }
+}
+
+/// Runs a program over these words and an input.
+fn push_ended(
+    alloc: Global,
+    shown: &mut Text,
+    program: Program,
+    words: &Vec<String>,
+    input: &[u8],
+) {
     let mut sink = VecSink::new(alloc);
-    let status = run(alloc, words, &mut SliceSource::new(input), &mut sink);
+    let mut source = SliceSource::new(input);
+    let status = match program {
+        Program::DwarfBuild => build(alloc, words, &mut source, &mut sink),
+        Program::DwAranges => make_aranges(alloc, words, &mut source, &mut sink),
+    };
     shown.push_made(format!(in alloc; "status {status}\n"));
     shown.push_made(String::from_utf8_lossy(alloc, sink.slice()));
 }
 
-/// A command as the words of a command line.
-fn words(alloc: Global, command: &str) -> Result<Vec<String>, AllocError> {
+/// The words of a command line.
+fn words_of(alloc: Global, text: &str) -> Result<Vec<String>, AllocError> {
     let mut words = Vec::new(alloc);
-    words.push(String::from_str(alloc, command)?)?;
+    for word in text.split_whitespace() {
+        words.push(String::from_str(alloc, word)?)?;
+    }
     Ok(words)
 }

@@ -20,6 +20,9 @@ const SECTIONS: [&str; 13] = [
     ".debug_str_offsets",
 ];
 
+/// The section that `dw_aranges` prints.
+pub const MADE_SECTION: &str = ".debug_aranges";
+
 /// The sections of a listing that is read.
 pub fn read_sections() -> &'static [&'static str] {
     &SECTIONS

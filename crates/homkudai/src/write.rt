@@ -1,7 +1,7 @@
 //! Units, their parts and whole files, built and written.
 
 pub use dw_abbrev::{Abbreviation, AbbreviationTable, AttributeSpecification};
-pub use dw_aranges::{ArangeSet, ArangeTable, RangeDescriptor};
+pub use dw_arange_table::{ArangeSet, ArangeTable, RangeDescriptor};
 pub use dw_base::{
     Address, DebugInfoRef, DirectoryId, Error, FaultPlan, FileId, LineStringId, LocationListId,
     RangeListId, Reference, Result, StringId, UnitEntryId, UnitId,

@@ -1,0 +1,12 @@
+pub mod Sets
+pub mod Bytes
+pub mod Causes
+pub mod Texts
+pub mod Reading
+pub mod Find
+pub mod Covers
+pub mod Found
+pub mod Commands
+pub mod Printed
+pub mod Said
+pub mod Runs

@@ -1,0 +1,74 @@
+//! The program over any words, source and sink.
+
+ghost use Rattle.std.specs.Prelude.{◌≡◌, ◌≤◌, map, string_bytes, MatchResult};
+ghost use Rattle.std.specs.Process.{exit_status};
+ghost use Rattle.dw_arange_table.specs.Runs.{AnswersWhole, LeavesUnread, Prints, RunAnswers};
+
+use crate::answer::{Answer, Stop, answer_to};
+use crate::status::Status;
+use dw_ends::{Sink, SinkError, Source, write_all};
+use std::alloc::Global;
+use std::process::ExitCode;
+
+/// Prints an answer's text, and answers its status where the sink takes the text whole.
+fn print<K: Sink>(answer: &Answer, sink: &mut K) -> Status
+    ensures prints { Prints answer.now.status answer.now.text.items
+        (K.intake sink.old) (K.intake sink.new) result }
+    ensures faults { (K.intake sink.old).faults ≤ (K.intake sink.new).faults }
+{
+    match write_all(sink, answer.text.as_slice()) {
+        Ok(()) => answer.status,
+        Err(SinkError::Failed) => Status::SinkFailed,
+        Err(SinkError::NoMemory) => Status::NoMemory,
+    }
+}
+
+/// Makes the table of the units of a listing, which the source tells, and prints to the sink what
+/// the words ask for: `table` the line of `.debug_aranges` with its length and its bytes in hex, in
+/// the byte order of the listing; `find ADDR` the place in `.debug_info` of each unit that has the
+/// address, in decimal, one a line. An address is decimal, or hex behind `0x`.
+///
+/// Answers the exit status: 0 what was asked for, 1 words that are no command, 2 a listing that is
+/// refused, 3 units whose table can't be made or written, 4 a source that failed, 5 a sink that
+/// failed, 6 want of memory, 7 more input than 16,777,216 bytes. The input is read whole first.
+pub fn run<S: Source, K: Sink>(
+    alloc: Global,
+    words: &Vec<String>,
+    source: &mut S,
+    sink: &mut K,
+) -> u8
+    ensures answers { RunAnswers (map string_bytes words.now.items)
+        (S.input source.old) (S.input source.new) (K.intake sink.old) (K.intake sink.new) result }
+    ensures complete { AnswersWhole (map string_bytes words.now.items)
+        (S.input source.old) (S.input source.new) (K.intake sink.old) (K.intake sink.new) result }
+    ensures unread { LeavesUnread (map string_bytes words.now.items) source.old source.new }
+    ensures source_faults { (S.input source.old).faults ≤ (S.input source.new).faults }
+    ensures sink_faults { (K.intake sink.old).faults ≤ (K.intake sink.new).faults }
+{
+    let status = match answer_to(alloc, words, source) {
+        Ok(answer) => print(&answer, sink),
+        Err(Stop::SourceFailed) => Status::SourceFailed,
+        Err(Stop::NoMemory) => Status::NoMemory,
+    };
+    status.code()
+}
+
+/// Runs the program over the words, and ends it with the exit status that `run` answers; where the
+/// words couldn't be had, with the status that stands in their place.
+pub fn end<S: Source, K: Sink>(
+    alloc: Global,
+    words: Result<Vec<String>, u8>,
+    source: &mut S,
+    sink: &mut K,
+) -> ExitCode
+    ensures answers { MatchResult words
+        (λ ws. RunAnswers (map string_bytes ws.items)
+        (S.input source.old) (S.input source.new) (K.intake sink.old) (K.intake sink.new)
+        (exit_status result))
+        (λ status. exit_status result ≡ status) }
+{
+    match words {
+        Ok(words) => ExitCode::from(run(alloc, &words, source, sink)),
+        Err(status) => ExitCode::from(status),
+    }
+}
