@@ -1,6 +1,6 @@
 -- What is said of a listing, once its table was made, written and searched.
-use Rattle.std.proofs.Common.{◌≡◌, ◌∙◌, sym, ap, subst, ℕ, ◌+◌, ◌<◌, ◌≤◌, List, Bool, true, inl, inr, arith, IsTrue}
-use Rattle.std.specs.Prelude.{◌⊎◌, ◌≢◌, Some, Ok, Err}
+use Rattle.std.proofs.Common.{◌≡◌, ◌∙◌, sym, ap, subst, ℕ, ◌+◌, ◌<◌, ◌≤◌, List, ◌++◌, Bool, true, inl, inr, arith, IsTrue, append_assoc}
+use Rattle.std.specs.Prelude.{◌⊎◌, ◌≢◌, Some, Ok, Err, codes, decimal}
 use Rattle.dw_base.specs.ErrorName.{error_name}
 use Rattle.dw_base.specs.Faults as counts
 use Rattle.dw_base.specs.Order.{is_big_of}
@@ -12,6 +12,7 @@ use Rattle.dw_read_units.specs.declared.dwarf.Dwarf.{Dwarf}
 use Rattle.dw_sources.specs.ConvertErrors.{convert_error_name}
 use Rattle.dw_sources.specs.declared.convert_error.ConvertError.{ConvertError}
 use Rattle.dw_sources.specs.declared.convert_error.ConvertError.TheVariants as reasons
+use Rattle.dw_ends.specs.Reasons.{reason_text}
 use Rattle.dw_ends.specs.Sections.{ListingValue, sections_of}
 use Rattle.dw_ends.specs.declared.reason.Reason.{Reason}
 use Rattle.dw_listing.specs.Listed.{IsListed}
@@ -28,6 +29,10 @@ use Rattle.dw_arange_table.specs.declared.command.Command.{Command}
 use Rattle.dw_arange_table.specs.declared.command.Command.TheVariants.{Table, Find}
 use Rattle.dw_arange_table.specs.declared.status.Status.{Status}
 use Rattle.dw_arange_table.specs.declared.status.Status.TheVariants.{Done, Usage, ListingRefused, TableRefused, SourceFailed, SinkFailed, NoMemory, TooLong}
+
+-- a text, grouped as it is defined
+pub line_text-grouped : (line : ℕ) (reason : Reason) → codes "line " ++ (decimal line ++ (codes ": " ++ (reason_text reason ++ codes "\n"))) ≡ line_text line reason
+line_text-grouped line reason = sym (simp append_assoc)
 
 -- sets that were written
 pub table_written : (big : Bool) (sets : List RangeSet) (bytes : List ℕ) (status : Status) (text : List ℕ) → IsNone (sets_fail true sets) → bytes ≡ aranges_bytes big sets → sets_read big bytes ≡ Ok sets →

@@ -2,7 +2,7 @@
 use Rattle.std.proofs.Common.{◌≡◌, ◌∙◌, sym, ap, subst, ℕ, zero, suc, ◌+◌, ◌-◌, ◌<◌, ◌≤◌, List, [], ◌∷◌, ◌++◌, length, map, Bool, true, false, not, ◌&&◌, ◌||◌, refl, arith, nat_eq, nat_le, nat_lt, if◌then◌else◌}
 use Rattle.std.specs.Prelude.{filter}
 use Rattle.std.specs.List.{list_any}
-use Rattle.std.proofs.lemmas.Bool.{leb-true, ltb-true, ltb-false}
+use Rattle.std.proofs.lemmas.Bool.{eqb-true, leb-true, ltb-true, ltb-false}
 use borrow.Author.Tests.{ne_eqb, lt-ltb, le-ltb}
 use Rattle.dw_base.specs.declared.common.Encoding.{Encoding}
 use Rattle.dw_read.specs.Reading.{Reading, IsReading, left}
@@ -26,7 +26,7 @@ below_end a b e h = by_end (nat_lt a e) refl
   where
     by_end : (t : Bool) → nat_lt a e ≡ t → nat_lt a (b + (e - b)) ≡ t
     by_end true k = let less : a < e = ltb-true a e k in lt-ltb a (b + (e - b)) (omega arith)
-    by_end false k = let more : e ≤ a = ltb-false a e k in le-ltb (b + (e - b)) a (omega arith)
+    by_end false k = let more : e ≤ a = ltb-false a e k in le-ltb a (b + (e - b)) (omega arith)
 
 same_range : (a : ℕ) (r : AddressRange) → range_has a (descriptor_of r) ≡ in_range a r
 same_range a r = by_begin (nat_le r.begin a) refl
@@ -37,21 +37,21 @@ same_range a r = by_begin (nat_le r.begin a) refl
 
 -- one of length 0 has none
 none_within : (a b n : ℕ) → nat_eq n 0 ≡ true → (nat_le b a && nat_lt a (b + n)) ≡ false
-none_within a b zero z = by_begin (nat_le b a) refl
+none_within a b n z = by_begin (nat_le b a) refl
   where
-    by_begin : (t : Bool) → nat_le b a ≡ t → (t && nat_lt a (b + 0)) ≡ false
-    by_begin true k = let begun : b ≤ a = leb-true b a k in le-ltb (b + 0) a (omega arith)
+    by_begin : (t : Bool) → nat_le b a ≡ t → (t && nat_lt a (b + n)) ≡ false
+    by_begin true k = let begun : b ≤ a = leb-true b a k in let zero : n ≡ 0 = eqb-true n 0 z in le-ltb a (b + n) (omega arith)
     by_begin false k = refl
-none_within a b (suc n) z = cc
 
 -- so that those of length 0 may be left out
 same_ranges : (a : ℕ) (rs : List AddressRange) → list_any (range_has a) (descriptors_of rs) ≡ list_any (in_range a) rs
 same_ranges a [] = refl
-same_ranges a (r ∷ rs) = by_length (nat_eq (descriptor_of r).length 0) refl
+same_ranges a (r ∷ rs) = by_length (nat_eq (descriptor_of r).length 0) refl (same_ranges a rs)
   where
-    by_length : (t : Bool) → nat_eq (descriptor_of r).length 0 ≡ t → list_any (range_has a) (if not t then descriptor_of r ∷ descriptors_of rs else descriptors_of rs) ≡ (in_range a r || list_any (in_range a) rs)
-    by_length true z = same_ranges a rs ∙ ap (λ b. b || list_any (in_range a) rs) (sym (none_within a r.begin (r.end - r.begin) z) ∙ same_range a r)
-    by_length false z = ap (λ b. b || list_any (range_has a) (descriptors_of rs)) (same_range a r) ∙ ap (λ b. in_range a r || b) (same_ranges a rs)
+    by_length : (t : Bool) → nat_eq (descriptor_of r).length 0 ≡ t → list_any (range_has a) (descriptors_of rs) ≡ list_any (in_range a) rs →
+        list_any (range_has a) (if not t then descriptor_of r ∷ descriptors_of rs else descriptors_of rs) ≡ (in_range a r || list_any (in_range a) rs)
+    by_length true z others = others ∙ ap (λ b. b || list_any (in_range a) rs) (sym (none_within a r.begin (r.end - r.begin) z) ∙ same_range a r)
+    by_length false z others = ap (λ b. b || list_any (range_has a) (descriptors_of rs)) (same_range a r) ∙ ap (λ b. in_range a r || b) others
 
 -- a set in front of others, which isn't there where it has no range
 abbrev found_if : Bool → ℕ → List ℕ → List ℕ
@@ -64,7 +64,7 @@ set_in_front a s sets (d ∷ ds) e = rw (e) refl
 -- units behind a place stand at others
 module _ {R E : Type 0} (reading : R → Reading) (d : Dwarf R E) (is : (r : R) → IsReading (reading r)) where
   record Rises (old new : Reading) : Type 0 where
-    is : IsReading new
+    there : IsReading new
     more : old.place < new.place
 
   rises : (old new : Reading) (h : UnitHeader R E) → IsReading old → IsHeaderRead reading old new h → Rises old new
@@ -78,7 +78,7 @@ module _ {R E : Type 0} (reading : R → Reading) (d : Dwarf R E) (is : (r : R) 
       let there : IsReading new = record { place = omega arith; end = omega arith; small = subst (λ (n : ℕ). n < 18446744073709551616) (sym end) i.small } in
       let shorter : length (left new) < length (left old) = unit_shorter reading d old new h i there (is h.body) u in
       let some : u.count ≡ 0 → ⊥ = λ z. let same : length (left new) ≡ length (left old) = ap (λ (r : Reading). length (left r)) (u.passes.is ∙ ap (λ (n : ℕ). record old { place = n }) (omega (arith, z))) in omega arith in
-      record { is = there; more = omega arith }
+      record { there = there; more = omega arith }
 
   places_step : (a : ℕ) (c : Covered R E) (cs : List (Covered R E)) → places_at a (c ∷ cs) ≡ (if covers_address a c then c.header.offset.0 ∷ places_at a cs else places_at a cs)
   places_step a c cs = by_cover (covers_address a c)
@@ -92,7 +92,7 @@ module _ {R E : Type 0} (reading : R → Reading) (d : Dwarf R E) (is : (r : R) 
   apart a p old new (c ∷ cs) i less h =
       let up = rises old h.0 c.header i h.1.header in
       let behind : p < h.0.place = let more : old.place < h.0.place = up.more in omega arith in
-      let others = apart a p h.0 new cs up.is behind h.2 in
+      let others = apart a p h.0 new cs up.there behind h.2 in
       let place : c.header.offset.0 ≡ old.place = h.1.header.offset in
       let other : nat_eq p c.header.offset.0 ≡ false = ne_eqb p c.header.offset.0 (λ same. omega (arith, same, place, less)) in
       ap (filter (λ u. not (nat_eq p u))) (places_step a c cs) ∙ by_cover (covers_address a c) others other ∙ sym (places_step a c cs)
@@ -113,6 +113,6 @@ module _ {R E : Type 0} (reading : R → Reading) (d : Dwarf R E) (is : (r : R) 
       let behind : c.header.offset.0 < h.0.place = let more : old.place < h.0.place = up.more in omega arith in
       set_in_front a s (sets_of cs) s.ranges refl
       ∙ ap (λ b. found_if b c.header.offset.0 (units_at a (sets_of cs))) (same_ranges a c.ranges)
-      ∙ ap (λ l. found_if (covers_address a c) c.header.offset.0 l) (found_units h.0 new cs up.is h.2 a)
-      ∙ ap (λ l. if covers_address a c then c.header.offset.0 ∷ l else places_at a cs) (apart a c.header.offset.0 h.0 new cs up.is behind h.2)
+      ∙ ap (λ l. found_if (covers_address a c) c.header.offset.0 l) (found_units h.0 new cs up.there h.2 a)
+      ∙ ap (λ l. if covers_address a c then c.header.offset.0 ∷ l else places_at a cs) (apart a c.header.offset.0 h.0 new cs up.there behind h.2)
       ∙ sym (places_step a c cs)

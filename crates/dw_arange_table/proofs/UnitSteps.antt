@@ -9,10 +9,10 @@ use Rattle.dw_base.specs.Numbers.{is_width, word_of}
 use Rattle.dw_base.specs.declared.common.Format.{Format}
 use Rattle.dw_base.specs.Headers.{is_unit_type, has_identity, has_type_offset}
 use Rattle.dw_read.specs.Headers.{header_read, fields_read, old_fields_read, new_fields_read, optional_read}
-use Rattle.dw_read.specs.Reading.{Reading, left}
+use Rattle.dw_read.specs.Reading.{Reading, IsReading, left}
 use Rattle.dw_read.specs.Reasons.{◌=>>◌, if_so, bytes_read, number_read, initial_length_read}
 use Rattle.dw_read.specs.Rows.{entry_of, BeginsAt, PassesEntry}
-use Rattle.dw_read.specs.UnitHeaders.{IsHeaderRead, PassesUnit}
+use Rattle.dw_read.specs.UnitHeaders.{IsHeaderRead, IsOver, PassesUnit}
 use Rattle.dw_read.specs.declared.unit_header.UnitHeadersIter.{UnitHeadersIter}
 use Rattle.dw_read.specs.declared.entries.EntriesRaw.{EntriesRaw}
 use Rattle.dw_read.specs.declared.entry.DebuggingInformationEntry.{DebuggingInformationEntry}
@@ -33,7 +33,9 @@ use Rattle.dw_entry_ranges.specs.Attributes.{values_in}
 use Rattle.dw_entry_ranges.specs.declared.range.AddressRange.{AddressRange}
 use Rattle.dw_arange_table.specs.Sets.{RangeSet}
 use Rattle.dw_arange_table.specs.Covers.{covered, is_addressed, unit_set, set_if_any, sets_of, Covered, CoversUnit, MissesRanges, CoversNext, CoversUnits, CoversAll, MissesHeader, MissesNext, FailsNext, FailsAfter}
+use Rattle.dw_arange_table.specs.Find.{units_at}
 use Rattle.dw_arange_table.specs.Found.{BeginsWith, covered_by}
+use Rattle.dw_arange_table.proofs.FoundUnits.{found_units}
 
 entry_or : ReadEntry → Option (Mark ReadEntry × List ℕ) → ReadEntry
 entry_or d None = d
@@ -107,8 +109,20 @@ module _ {R E : Type 0} (reading : R → Reading) where
               ∙ sym (flat_map-append (λ (x : Covered R E). set_if_any (unit_set x.header.fields.encoding x.header.offset.0 x.ranges)) w.units (c ∷ []) ∙ ap (λ l. sets_of w.units ++ l) (append-nil own));
         }
 
-    pub covered_end : (now : UnitHeadersIter R E) (sets : List RangeSet) → CoveredSoFar now sets → length (left (reading now.input)) ≡ 0 → CoversAll reading d sets
-    covered_end now sets w z = record { units = w.units; end = reading now.input; read = w.read; whole = z; sets = w.are }
+    pub covered_end : ((r : R) → IsReading (reading r)) → (now : UnitHeadersIter R E) (sets : List RangeSet) → CoveredSoFar now sets → length (left (reading now.input)) ≡ 0 → CoversAll reading d sets
+    covered_end is now sets w z = record {
+      units = w.units;
+      end = reading now.input;
+      read = w.read;
+      whole = z;
+      sets = w.are;
+      found = λ a. ap (units_at a) w.are ∙ found_units reading d is (reading d.debug_info) (reading now.input) w.units (is d.debug_info) w.read a;
+    }
+
+    -- a walk that isn't stopped is over at the end alone
+    pub over_end : (now : UnitHeadersIter R E) (sets : List RangeSet) → CoveredSoFar now sets → IsOver reading now → length (left (reading now.input)) ≡ 0
+    over_end now sets w (inl failed) = let e : true ≡ false = sym failed ∙ w.going in cc
+    over_end now sets w (inr z) = z
 
     pub fails_after : (now : UnitHeadersIter R E) (sets : List RangeSet) (e : ConvertError) → CoveredSoFar now sets → FailsNext reading d (reading now.input) e → FailsAfter reading d e
     fails_after now sets e w f = record { units = w.units; at = reading now.input; read = w.read; why = f }

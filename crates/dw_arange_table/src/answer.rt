@@ -36,7 +36,6 @@ pub(crate) struct Answer {
 }
 
 /// Why there is no answer.
-#[derive(Clone, Copy, Debug, PartialEq, Eq)]
 pub(crate) enum Stop {
     SourceFailed,
     NoMemory,
@@ -185,11 +184,7 @@ fn answer_made(
 }
 
 /// What a command answers to the sections of a listing.
-fn answer_sections(
-    alloc: Global,
-    command: Command,
-    listing: &Listing,
-) -> Result<Answer, AllocError>
+fn answer_sections(alloc: Global, command: Command, listing: &Listing) -> Result<Answer, AllocError>
     requires { length listing.now.sections.items ≡ 13 }
     ensures { IfOk result (λ a. SaysOfSections command listing.now.endian
         listing.now.sections.items a.status a.text.items) }

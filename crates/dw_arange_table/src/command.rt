@@ -6,7 +6,7 @@ ghost use Rattle.dw_arange_table.specs.Commands.{command_of, find_of};
 use dw_ends::number;
 
 /// What the words ask for.
-#[derive(Clone, Copy, Debug, PartialEq, Eq)]
+#[derive(Clone, Copy)]
 pub(crate) enum Command {
     /// The section that is made of the units.
     Table,

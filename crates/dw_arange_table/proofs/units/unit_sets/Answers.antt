@@ -8,7 +8,7 @@ use Rattle.dw_read.specs.Reading.{left}
 use Rattle.dw_read.specs.UnitHeaders.{PassesUnit}
 use Rattle.dw_read_units.proofs.UnitWalk.{unit_shorter}
 use Rattle.dw_arange_table.specs.Covers.{is_addressed, unit_set, set_if_any}
-use Rattle.dw_arange_table.proofs.UnitSteps.{covered_more, fails_after, fails_read, fails_full, fails_set, unit_width}
+use Rattle.dw_arange_table.proofs.UnitSteps.{covered_more, covered_end, over_end, fails_after, fails_read, fails_full, fails_set, unit_width}
 use Rattle.dw_arange_table.proofs.units.unit_sets.Goals as goal
 
 pub returns-in_err-header-clause-err : goal.returns-in_err-header-clause-err
@@ -69,3 +69,9 @@ units-preserved g c =
     let addressed = subst (λ e. IsTrue (list_all (is_addressed e.address_size) ranges)) found.encoding c.in_ok-set.ensures.addressed in
     let set = c.in_ok-set.ensures.ok ∙ ap (λ e. unit_set e c.in_ok-found.found.unit.0 ranges) found.encoding ∙ ap (λ o. unit_set c.in-Some.header.fields.encoding o.0 ranges) found.place in
     covered_more reading c.args.dwarf.now c.units.headers c.next.new.self _ _ c.in-Some.header ranges c.units.invariant u found.covers addressed (c.in_ok-keep.ensures.ok ∙ ap (λ s. c.units.sets.items ++ set_if_any s) set)
+
+pub returns-clause-ok : goal.returns-clause-ok
+returns-clause-ok g c =
+    let reading = g.R.Reader.reading in
+    let over = rw c.in_default.is at c.in_ok-header.ensures in
+    covered_end reading c.args.dwarf.now g.met.R.Reader.is_reading c.units.headers _ c.units.invariant (over_end reading c.args.dwarf.now c.units.headers _ c.units.invariant over.1)
