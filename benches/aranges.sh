@@ -46,7 +46,6 @@ section() {
 echo '' | cc -c -x c -o object -
 for name in .debug_abbrev .debug_rnglists .debug_info; do section "$name" listing; done
 section .debug_aranges table
-# Two lines of readelf are a range of a length, with the pair of zeros of each unit beside them.
 if command -v readelf > /dev/null; then
     readelf --debug-dump=aranges object 2> warnings |
         awk 'NF == 2 && $2 ~ /^0+10$/ { n++ } END { print "readelf shows " n + 0 " ranges" }'

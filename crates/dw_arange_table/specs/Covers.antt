@@ -10,6 +10,7 @@ use Rattle.dw_read.specs.UnitHeaders.{IsHeaderRead}
 use Rattle.dw_read.specs.Values.{Value}
 use Rattle.dw_read.specs.declared.unit_header.UnitHeader.{UnitHeader}
 use Rattle.dw_read.specs.declared.error.ReadError.{ReadError}
+use Rattle.dw_read.specs.declared.error.ReadError.TheVariants.{NoMemory}
 use Rattle.dw_read_units.specs.Roots.{named_of}
 use Rattle.dw_read_units.specs.UnitReads.{IsUnit, MissesUnit}
 use Rattle.dw_read_units.specs.declared.dwarf.Dwarf.{Dwarf}
@@ -141,8 +142,9 @@ module _ {R E : Type 0} (reading : R → Reading) (d : Dwarf R E) where
     pub unit : CoversUnit covers.header covers.ranges
     pub passes : IsFalse (list_all (is_addressed covers.header.fields.encoding.address_size) covers.ranges)
 
-  -- why what the unit at a place covers isn't told
+  -- why what the unit at a place covers isn't told; want of memory is one error, whichever call wants it
   abbrev pub FailsNext : Reading → ConvertError → Type 0
+  FailsNext at (errors.Read NoMemory) = ⊥
   FailsNext at (errors.Read e) = MissesHeader at e ⊎ MissesNext at e
   FailsNext at errors.IntegerOverflow = PassesAddresses at
   FailsNext at errors.NoMemory = Unit {0}
