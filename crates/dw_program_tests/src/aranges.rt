@@ -19,8 +19,11 @@ type Case = (
 );
 
 const SHORT: Format = Format::Dwarf32;
+
 const LONG: Format = Format::Dwarf64;
+
 const LITTLE: RunTimeEndian = RunTimeEndian::Little;
+
 const BIG: RunTimeEndian = RunTimeEndian::Big;
 
 // What gcc 12 wrote for two files, as llvm-dwarfdump tells it.
@@ -112,11 +115,27 @@ const READ: &[Case] = &[
         LITTLE,
         Err(ReadError::UnexpectedEof),
     ),
-    (b"\x03\0\0\0\x03\0\0", LITTLE, Err(ReadError::UnknownVersion(3))),
-    (b"\0\0\0\x02\x02\0", BIG, Err(ReadError::UnknownVersion(0x200))),
+    (
+        b"\x03\0\0\0\x03\0\0",
+        LITTLE,
+        Err(ReadError::UnknownVersion(3)),
+    ),
+    (
+        b"\0\0\0\x02\x02\0",
+        BIG,
+        Err(ReadError::UnknownVersion(0x200)),
+    ),
     (b"\x01\0\0\0\x02\0", LITTLE, Err(ReadError::UnexpectedEof)),
-    (b"\x05\0\0\0\x02\0\0\0\0\0\x08\0", LITTLE, Err(ReadError::UnexpectedEof)),
-    (b"\x07\0\0\0\x02\0\0\0\0\0\x08\0", LITTLE, Err(ReadError::UnexpectedEof)),
+    (
+        b"\x05\0\0\0\x02\0\0\0\0\0\x08\0",
+        LITTLE,
+        Err(ReadError::UnexpectedEof),
+    ),
+    (
+        b"\x07\0\0\0\x02\0\0\0\0\0\x08\0",
+        LITTLE,
+        Err(ReadError::UnexpectedEof),
+    ),
     (
         b"\x08\0\0\0\x05\0\0\0\0\0\x03\x01",
         LITTLE,
@@ -142,9 +161,21 @@ const READ: &[Case] = &[
         LITTLE,
         Err(ReadError::UnsupportedSegmentSize(4)),
     ),
-    (b"\xf0\xff\xff\xff\x02\0", LITTLE, Err(ReadError::UnknownReservedLength)),
-    (b"\xff\xff\xff\xfe\0\x02", BIG, Err(ReadError::UnknownReservedLength)),
-    (b"\xef\xff\xff\xff\x02\0", LITTLE, Err(ReadError::UnexpectedEof)),
+    (
+        b"\xf0\xff\xff\xff\x02\0",
+        LITTLE,
+        Err(ReadError::UnknownReservedLength),
+    ),
+    (
+        b"\xff\xff\xff\xfe\0\x02",
+        BIG,
+        Err(ReadError::UnknownReservedLength),
+    ),
+    (
+        b"\xef\xff\xff\xff\x02\0",
+        LITTLE,
+        Err(ReadError::UnexpectedEof),
+    ),
     (
         b"\xff\xff\xff\xff\xff\xff\xff\xff\xff\xff\xff\xff\x02\0",
         LITTLE,

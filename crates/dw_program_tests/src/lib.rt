@@ -1,5 +1,6 @@
-//! The tests of `dw_program`, `dw_arange_table`, `dw_script` and `dw_ends`: what no case of `dwarf_cases` shows. They
-//! stand over the finished crates: beside their code they would have it proved a second time.
+//! The tests of `dw_program`, `dw_arange_table`, `dw_script` and `dw_ends`: what no case of
+//! `dwarf_cases` shows. They stand over the finished crates: beside their code they would have it
+//! proved a second time.
 #![tactic(auto)]
 
 #[cfg(test)]
