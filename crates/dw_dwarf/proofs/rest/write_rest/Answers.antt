@@ -30,3 +30,21 @@ returns-clause-err g c =
     let old = c.args.sections.now in
     IfErr-map c.write-2.result c.write-2.ensures.err
     (bytes_because (Is (programs_fail c.args.line_strings.now c.args.strings.now (meaning old.debug_line.0).is_plain c.args.programs.now)) (meaning old.debug_str.0) (meaning c.write-2.new.w.0) (λ r. inr (inr r)))
+
+pub returns-in_err-write_line_programs-clause-lines : goal.returns-in_err-write_line_programs-clause-lines
+returns-in_err-write_line_programs-clause-lines g c = rw (err_from_is_err_and c.from_residual.result c.from_residual.ensures.1).1 tt
+
+pub returns-in_err-write_line_programs-clause-strings : goal.returns-in_err-write_line_programs-clause-strings
+returns-in_err-write_line_programs-clause-strings g c = rw (err_from_is_err_and c.from_residual.result c.from_residual.ensures.1).1 tt
+
+pub returns-in_err-write_line_programs-clause-sound : goal.returns-in_err-write_line_programs-clause-sound
+returns-in_err-write_line_programs-clause-sound g c = rw (err_from_is_err_and c.from_residual.result c.from_residual.ensures.1).1 tt
+
+pub returns-in_err-write-clause-lines : goal.returns-in_err-write-clause-lines
+returns-in_err-write-clause-lines g c = rw (err_from_is_err_and c.from_residual-in_err-write.result c.from_residual-in_err-write.ensures.1).1 tt
+
+pub returns-in_err-write-clause-strings : goal.returns-in_err-write-clause-strings
+returns-in_err-write-clause-strings g c = rw (err_from_is_err_and c.from_residual-in_err-write.result c.from_residual-in_err-write.ensures.1).1 tt
+
+pub returns-in_err-write-clause-sound : goal.returns-in_err-write-clause-sound
+returns-in_err-write-clause-sound g c = rw (err_from_is_err_and c.from_residual-in_err-write.result c.from_residual-in_err-write.ensures.1).1 tt

@@ -7,6 +7,7 @@ use Rattle.dw_tree.specs.UnitValue.{with_entry}
 use Rattle.dw_entries.specs.Entries.{with_attribute, with_attributes}
 use Rattle.dw_dwarf.specs.ConvertedEntries.{Values, attribute_of}
 use Rattle.dw_dwarf.proofs.Setting.{unit_none_set, unit_more_set, fresh_name, absent_so_far, set_count}
+use Rattle.std.proofs.lemmas.Result.{err_from_is_err_and}
 use Rattle.dw_dwarf.proofs.convert.attributes.set_attributes.Goals as goal
 
 pub attributes-init : goal.attributes-init
@@ -85,3 +86,12 @@ returns-clause-ok c =
 
 pub returns-clause-count : goal.returns-clause-count
 returns-clause-count c = set_count c.args.entry.now c.attributes.entry c.attributes.yielded c.attributes.invariant
+
+pub returns-in_err-reserve-clause-ok : goal.returns-in_err-reserve-clause-ok
+returns-in_err-reserve-clause-ok c = rw (err_from_is_err_and c.from_residual.result c.from_residual.ensures.1).1 tt
+
+pub returns-in_err-push-clause-ok : goal.returns-in_err-push-clause-ok
+returns-in_err-push-clause-ok c = rw (err_from_is_err_and c.from_residual-in_err-push.result c.from_residual-in_err-push.ensures.1).1 tt
+
+pub returns-clause-err : goal.returns-clause-err
+returns-clause-err c = tt

@@ -80,3 +80,12 @@ returns-clause-ok g c =
     let w = c.rows.invariant in
     let h = subst (λ (o : Option (UnitEntryId × UnitEntryId)). WalksOn reading c.args.read.unit.now w.front w.rest c.next.new.self c.next.new.entry (Ok o)) c.in_default.is (c.in_ok-id.ensures.walks c.args.read.unit.now w.front w.rest w.stands) in
     converted_end reading _ _ _ c.args.read _ c.args.unit.now _ c.requires.ready c.rows.rows c.next.new.self c.rows.unit _ w h
+
+pub returns-in_err-id-clause-ok : goal.returns-in_err-id-clause-ok
+returns-in_err-id-clause-ok g c = rw (is_err _ _ c.from_residual.ensures) tt
+
+pub returns-in_err-convert_entry-clause-ok : goal.returns-in_err-convert_entry-clause-ok
+returns-in_err-convert_entry-clause-ok g c = rw (is_err _ _ c.from_residual-in_err-convert_entry.ensures) tt
+
+pub returns-clause-err : goal.returns-clause-err
+returns-clause-err g c = tt

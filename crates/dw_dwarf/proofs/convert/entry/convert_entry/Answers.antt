@@ -8,6 +8,7 @@ use Rattle.dw_dwarf.proofs.Setting.{map_ok, ok_mapped}
 use Rattle.dw_dwarf.specs.Placed.{with_placed, plan_for}
 use Rattle.dw_dwarf.specs.Plans.{names_sibling}
 use Rattle.dw_dwarf.proofs.convert.entry.convert_entry.Goals.{then-ne, else-ne}
+use Rattle.dw_dwarf.proofs.Setting.{is_err}
 use Rattle.dw_dwarf.proofs.convert.entry.convert_entry.Goals as goal
 
 pub add_entry-requires-clause-not_yet : goal.add_entry-requires-clause-not_yet
@@ -29,3 +30,6 @@ returns-clause-ok g c =
     let placed : UnitValue = record v { entries = with_placed v.reserved c.args.id.0 c.args.parent.0 c.args.entry.now.tag.0 v.entries } in
     let added = ok_mapped _ c.add_entry.result c.map_err.result c.map_err.ensures.variant c.add_entry.ensures.ok in
     map_ok c.map_err.result added (λ h code. becomes _ _ _ _ _ _ _ (plan_for g.R.Reader.reading code c.args.id c.args.parent c.args.entry.now) c.args.unit.now v placed c.add_entry.new.unit _ _ _ c.in_ok-attributes.attributes.items c.if-ne.sibling c.in_ok-attributes.ensures.others refl (flag code) c.in_ok-attributes.ensures.ok h)
+
+pub returns-in_err-attributes-clause-ok : goal.returns-in_err-attributes-clause-ok
+returns-in_err-attributes-clause-ok g c = rw (is_err _ _ c.from_residual.ensures) tt

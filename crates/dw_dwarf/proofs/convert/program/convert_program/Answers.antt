@@ -7,6 +7,7 @@ use Rattle.dw_read_lines.specs.LineHeaderViews.{lines_of}
 use Rattle.dw_writer.proofs.Outcomes.{IfErr-map}
 use Rattle.dw_convert_lines.specs.Views.{tables, converting}
 use Rattle.dw_dwarf.specs.ConvertedPrograms.{ProgramConverts, ProgramRefuses}
+use Rattle.dw_dwarf.proofs.Setting.{is_err}
 use Rattle.dw_dwarf.proofs.convert.program.convert_program.Goals as goal
 
 pub returns-clause-ok : goal.returns-clause-ok
@@ -36,3 +37,9 @@ returns-clause-err g c =
       order = c.in_ok-program.ensures.order;
       becomes = r;
     })))))
+
+pub returns-in_err-program-clause-ok : goal.returns-in_err-program-clause-ok
+returns-in_err-program-clause-ok g c = rw (is_err _ _ c.from_residual.ensures) tt
+
+pub returns-in_default-clause-err : goal.returns-in_default-clause-err
+returns-in_default-clause-err g c = tt

@@ -30,3 +30,6 @@ returns-clause-err g c =
       program_is = c.in_ok-program.ensures.ok;
       refused = rw (← c.unit.view_is, ← c.as_slice.ensures.value) r;
     }))))
+
+pub returns-in_err-program-clause-ok : goal.returns-in_err-program-clause-ok
+returns-in_err-program-clause-ok g c = rw (is_err _ _ c.from_residual.ensures) tt

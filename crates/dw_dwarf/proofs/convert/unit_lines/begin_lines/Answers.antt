@@ -3,6 +3,7 @@ use Rattle.std.proofs.lemmas.Result.{err_from_is_err_and}
 use Rattle.dw_read.specs.Reading.{left}
 use Rattle.dw_read_lines.specs.LineHeaders.{lines_at_place}
 use Rattle.dw_read_lines.specs.LineHeaderViews.{lines_of}
+use Rattle.dw_dwarf.proofs.Setting.{is_err}
 use Rattle.dw_dwarf.proofs.convert.unit_lines.begin_lines.Goals as goal
 
 pub returns-clause-ok : goal.returns-clause-ok
@@ -38,3 +39,15 @@ returns-in_err-begun-clause-err g c =
         },
       );
     })) c.in_err-begun.ensures.err)
+
+pub returns-in_err-program-clause-ok : goal.returns-in_err-program-clause-ok
+returns-in_err-program-clause-ok g c = rw (is_err _ _ c.from_residual.ensures) tt
+
+pub returns-in_err-begun-clause-ok : goal.returns-in_err-begun-clause-ok
+returns-in_err-begun-clause-ok g c = rw (is_err _ _ c.from_residual-in_err-begun.ensures) tt
+
+pub returns-clause-err : goal.returns-clause-err
+returns-clause-err g c = tt
+
+pub returns-in_default-clause-err : goal.returns-in_default-clause-err
+returns-in_default-clause-err g c = tt

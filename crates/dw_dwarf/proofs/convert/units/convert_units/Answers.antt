@@ -5,6 +5,7 @@ use Rattle.dw_convert_lines.specs.Views.{tables}
 use Rattle.dw_dwarf.specs.ConvertedUnits.{UnitsBecome, UnitBecomes, UnitRefuses}
 use Rattle.dw_entry_ids.specs.Units.{IsNumbered}
 use Rattle.dw_dwarf.proofs.UnitSteps.{refs_as, around, length_before, numbered_at, one_more, take_all}
+use Rattle.dw_dwarf.proofs.Setting.{is_err}
 use Rattle.dw_dwarf.proofs.convert.units.convert_units.Goals as goal
 
 pub units-init : goal.units-init
@@ -87,3 +88,12 @@ returns-clause-ok g c =
           (subst (λ xs. UnitsBecome reading answers c.args.dwarf.now ids c.new-first.result.0 0 xs old w.built now) (take_all c.deref-numbered-items.result.now c.units.index c.units-test.false ∙ c.deref-numbered-items.ensures.value) w.become);
       added = w.added;
     }
+
+pub returns-in_err-found-clause-ok : goal.returns-in_err-found-clause-ok
+returns-in_err-found-clause-ok g c = rw (is_err _ _ c.from_residual.ensures) tt
+
+pub returns-in_err-unit-clause-ok : goal.returns-in_err-unit-clause-ok
+returns-in_err-unit-clause-ok g c = rw (is_err _ _ c.from_residual-in_err-unit.ensures) tt
+
+pub returns-clause-err : goal.returns-clause-err
+returns-clause-err g c = tt

@@ -12,3 +12,18 @@ pub returns-in_err-add_new-clause-err : goal.returns-in_err-add_new-clause-err
 returns-in_err-add_new-clause-err g c =
     let e : c.from_residual-in_err-add_new.result ≡ Err c.in_err-add_new.field-0.0 = is_err _ _ c.from_residual-in_err-add_new.ensures in
     rw e (inl c.in_err-add_new.ensures.err)
+
+pub returns-in_err-found-clause-ok : goal.returns-in_err-found-clause-ok
+returns-in_err-found-clause-ok g c = rw (is_err _ _ c.from_residual.ensures) tt
+
+pub returns-in_err-found-clause-same : goal.returns-in_err-found-clause-same
+returns-in_err-found-clause-same g c = rw (is_err _ _ c.from_residual.ensures) tt
+
+pub returns-in_err-add_new-clause-ok : goal.returns-in_err-add_new-clause-ok
+returns-in_err-add_new-clause-ok g c = rw (is_err _ _ c.from_residual-in_err-add_new.ensures) tt
+
+pub returns-in_err-add_new-clause-same : goal.returns-in_err-add_new-clause-same
+returns-in_err-add_new-clause-same g c = rw (is_err _ _ c.from_residual-in_err-add_new.ensures) tt
+
+pub returns-clause-err : goal.returns-clause-err
+returns-clause-err g c = tt

@@ -208,3 +208,33 @@ returns-clause-follows g c = λ can sound calm.
 pub returns-clause-others : goal.returns-clause-others
 returns-clause-others g c =
     others_after g.W.Writer.meaning c.args.sections.now c.write.new.sections c.write_rest.new.sections c.in_ok-write.ensures.others c.write_rest.ensures.others
+
+pub returns-in_err-write-clause-built : goal.returns-in_err-write-clause-built
+returns-in_err-write-clause-built g c = rw (err_from_is_err_and c.from_residual.result c.from_residual.ensures.1).1 tt
+
+pub returns-in_err-write-clause-resolves : goal.returns-in_err-write-clause-resolves
+returns-in_err-write-clause-resolves g c = rw (err_from_is_err_and c.from_residual.result c.from_residual.ensures.1).1 tt
+
+pub returns-in_err-write-clause-left : goal.returns-in_err-write-clause-left
+returns-in_err-write-clause-left g c = rw (err_from_is_err_and c.from_residual.result c.from_residual.ensures.1).1 tt
+
+pub returns-in_err-write-clause-completes : goal.returns-in_err-write-clause-completes
+returns-in_err-write-clause-completes g c = rw (err_from_is_err_and c.from_residual.result c.from_residual.ensures.1).1 tt
+
+pub returns-in_err-write-clause-lines : goal.returns-in_err-write-clause-lines
+returns-in_err-write-clause-lines g c = rw (err_from_is_err_and c.from_residual.result c.from_residual.ensures.1).1 tt
+
+pub returns-in_err-write-clause-ranges : goal.returns-in_err-write-clause-ranges
+returns-in_err-write-clause-ranges g c = rw (err_from_is_err_and c.from_residual.result c.from_residual.ensures.1).1 tt
+
+pub returns-in_err-write-clause-strings : goal.returns-in_err-write-clause-strings
+returns-in_err-write-clause-strings g c = rw (err_from_is_err_and c.from_residual.result c.from_residual.ensures.1).1 tt
+
+pub returns-in_err-write-clause-emptied : goal.returns-in_err-write-clause-emptied
+returns-in_err-write-clause-emptied g c = rw (err_from_is_err_and c.from_residual.result c.from_residual.ensures.1).1 tt
+
+pub returns-in_err-write-clause-marked : goal.returns-in_err-write-clause-marked
+returns-in_err-write-clause-marked g c = rw (err_from_is_err_and c.from_residual.result c.from_residual.ensures.1).1 tt
+
+pub returns-in_err-write-clause-valid : goal.returns-in_err-write-clause-valid
+returns-in_err-write-clause-valid g c = rw (err_from_is_err_and c.from_residual.result c.from_residual.ensures.1).1 tt

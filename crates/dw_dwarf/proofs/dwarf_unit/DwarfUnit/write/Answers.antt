@@ -113,3 +113,33 @@ returns-clause-complete g c = λ writable alone calm.
 pub returns-clause-others : goal.returns-clause-others
 returns-clause-others g c =
     others_after g.W.Writer.meaning c.args.sections.now c.write_alone.new.sections c.write_rest.new.sections c.in_ok-write_alone.ensures.others c.write_rest.ensures.others
+
+pub returns-in_err-write_alone-clause-built : goal.returns-in_err-write_alone-clause-built
+returns-in_err-write_alone-clause-built g c = rw (err_from_is_err_and c.from_residual.result c.from_residual.ensures.1).1 tt
+
+pub returns-in_err-write_alone-clause-resolves : goal.returns-in_err-write_alone-clause-resolves
+returns-in_err-write_alone-clause-resolves g c = rw (err_from_is_err_and c.from_residual.result c.from_residual.ensures.1).1 tt
+
+pub returns-in_err-write_alone-clause-appends : goal.returns-in_err-write_alone-clause-appends
+returns-in_err-write_alone-clause-appends g c = rw (err_from_is_err_and c.from_residual.result c.from_residual.ensures.1).1 tt
+
+pub returns-in_err-write_alone-clause-lines : goal.returns-in_err-write_alone-clause-lines
+returns-in_err-write_alone-clause-lines g c = rw (err_from_is_err_and c.from_residual.result c.from_residual.ensures.1).1 tt
+
+pub returns-in_err-write_alone-clause-ranges : goal.returns-in_err-write_alone-clause-ranges
+returns-in_err-write_alone-clause-ranges g c = rw (err_from_is_err_and c.from_residual.result c.from_residual.ensures.1).1 tt
+
+pub returns-in_err-write_alone-clause-strings : goal.returns-in_err-write_alone-clause-strings
+returns-in_err-write_alone-clause-strings g c = rw (err_from_is_err_and c.from_residual.result c.from_residual.ensures.1).1 tt
+
+pub returns-in_err-write_alone-clause-emptied : goal.returns-in_err-write_alone-clause-emptied
+returns-in_err-write_alone-clause-emptied g c = rw (err_from_is_err_and c.from_residual.result c.from_residual.ensures.1).1 tt
+
+pub returns-in_err-write_alone-clause-marked : goal.returns-in_err-write_alone-clause-marked
+returns-in_err-write_alone-clause-marked g c = rw (err_from_is_err_and c.from_residual.result c.from_residual.ensures.1).1 tt
+
+pub returns-in_err-write_alone-clause-writable : goal.returns-in_err-write_alone-clause-writable
+returns-in_err-write_alone-clause-writable g c = rw (err_from_is_err_and c.from_residual.result c.from_residual.ensures.1).1 tt
+
+pub returns-in_err-write_alone-clause-alone : goal.returns-in_err-write_alone-clause-alone
+returns-in_err-write_alone-clause-alone g c = rw (err_from_is_err_and c.from_residual.result c.from_residual.ensures.1).1 tt

@@ -34,3 +34,9 @@ returns-clause-ok g c =
     let items = c.deref-numbered-items.result.now in
     let past : length items ≤ c.units.numbered-index = c.units-test.false in
     c.units.invariant ∙ ap (λ ys. c.args.units.now ++ map unit_for ys) (take_all c.units.numbered-index items past ∙ c.deref-numbered-items.ensures.value)
+
+pub returns-in_err-unit-clause-ok : goal.returns-in_err-unit-clause-ok
+returns-in_err-unit-clause-ok g c = rw (is_err _ _ c.from_residual.ensures) tt
+
+pub returns-clause-err : goal.returns-clause-err
+returns-clause-err g c = tt

@@ -37,3 +37,15 @@ returns-clause-ok g c = record {
   read_unit = c.filter_attributes.ensures.read_unit ∙ c.null-entry.ensures.read_unit;
   parent = c.filter_attributes.ensures.parent ∙ c.null-entry.ensures.parent;
 }
+
+pub returns-in_err-rows-clause-ok : goal.returns-in_err-rows-clause-ok
+returns-in_err-rows-clause-ok g c = rw (is_err _ _ c.from_residual.ensures) tt
+
+pub returns-in_err-read_entry-clause-ok : goal.returns-in_err-read_entry-clause-ok
+returns-in_err-read_entry-clause-ok g c = rw (is_err _ _ c.from_residual-in_err-read_entry.ensures) tt
+
+pub returns-clause-err : goal.returns-clause-err
+returns-clause-err g c = tt
+
+pub returns-then-not-branch-clause-ok : goal.returns-then-not-branch-clause-ok
+returns-then-not-branch-clause-ok g c = tt
