@@ -1,6 +1,7 @@
 use Rattle.std.proofs.Common.{◌≡◌, ◌∙◌, sym, ap, subst, ℕ, ◌-◌, List, [], ◌∷◌, ◌++◌, refl}
 use Rattle.dw_sources.proofs.Progress.{fewer_left}
 use Rattle.dw_convert.specs.declared.listing.Step.{Step as HeldStep}
+use Rattle.dw_convert.proofs.Addresses.{is_err}
 use Rattle.dw_convert.proofs.Stepping.{Stands, passes_one, is_over, stands_first, stands_more, stands_last}
 use Rattle.dw_convert.proofs.listing.read_listing.Goals as goal
 
@@ -34,3 +35,18 @@ returns-clause-ok g c =
       rising = i.rising;
       order = i.order;
     }
+
+pub returns-in_err-push-clause-ok : goal.returns-in_err-push-clause-ok
+returns-in_err-push-clause-ok g c = rw (is_err _ _ c.from_residual.ensures) tt
+
+pub returns-in_err-operation-clause-ok : goal.returns-in_err-operation-clause-ok
+returns-in_err-operation-clause-ok g c = rw (is_err _ _ c.from_residual-in_err-operation.ensures) tt
+
+pub returns-in_err-push-2-clause-ok : goal.returns-in_err-push-2-clause-ok
+returns-in_err-push-2-clause-ok g c = rw (is_err _ _ c.from_residual-in_err-push-2.ensures) tt
+
+pub returns-in_err-push-3-clause-ok : goal.returns-in_err-push-3-clause-ok
+returns-in_err-push-3-clause-ok g c = rw (is_err _ _ c.from_residual-in_err-push-3.ensures) tt
+
+pub returns-clause-err : goal.returns-clause-err
+returns-clause-err g c = tt

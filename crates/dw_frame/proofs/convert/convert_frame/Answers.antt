@@ -84,3 +84,18 @@ returns-clause-ok g c =
       cie = cie_so answers _ _ reading _ _ _ _ _ _ common c.cie_offset.ensures (c.cie.ensures ∙ c.in_ok-read.ensures.cie) c.in_ok-common.ensures.rest _ c.in_ok-cie.ensures.ok;
       fde = fde_so answers _ _ _ _ _ _ _ _ (ap (λ (r : Reading). r.is_big) took.passes.is) (ap (λ (r : Reading). r.end) took.passes.is) (ap (λ (k : ReadCie _ _). k.fields) c.in_ok-read.ensures.cie) _ c.in_ok-fde.ensures.ok;
     }
+
+pub returns-in_err-common-clause-ok : goal.returns-in_err-common-clause-ok
+returns-in_err-common-clause-ok g c = rw (is_err _ _ c.from_residual.ensures) tt
+
+pub returns-in_err-read-clause-ok : goal.returns-in_err-read-clause-ok
+returns-in_err-read-clause-ok g c = rw (is_err _ _ c.from_residual-in_err-read.ensures) tt
+
+pub returns-in_err-cie-clause-ok : goal.returns-in_err-cie-clause-ok
+returns-in_err-cie-clause-ok g c = rw (is_err _ _ c.from_residual-in_err-cie.ensures) tt
+
+pub returns-in_err-fde-clause-ok : goal.returns-in_err-fde-clause-ok
+returns-in_err-fde-clause-ok g c = rw (is_err _ _ c.from_residual-in_err-fde.ensures) tt
+
+pub returns-clause-err : goal.returns-clause-err
+returns-clause-err g c = tt

@@ -93,3 +93,18 @@ returns-clause-ok g c =
         is = i.kept;
       };
     }
+
+pub returns-in_err-cie-clause-ok : goal.returns-in_err-cie-clause-ok
+returns-in_err-cie-clause-ok g c = rw (is_err _ _ c.from_residual.ensures) tt
+
+pub returns-in_err-instruction-clause-ok : goal.returns-in_err-instruction-clause-ok
+returns-in_err-instruction-clause-ok g c = rw (is_err _ _ c.from_residual-in_err-instruction.ensures) tt
+
+pub returns-in_err-kept-clause-ok : goal.returns-in_err-kept-clause-ok
+returns-in_err-kept-clause-ok g c = rw (is_err _ _ c.from_residual-in_err-kept.ensures) tt
+
+pub returns-in_err-keep-clause-ok : goal.returns-in_err-keep-clause-ok
+returns-in_err-keep-clause-ok g c = rw (is_err _ _ c.from_residual-in_err-keep.ensures) tt
+
+pub returns-clause-err : goal.returns-clause-err
+returns-clause-err g c = tt
