@@ -26,7 +26,7 @@ use std::alloc::Global;
 /// let mut fde = FrameDescriptionEntry::new(alloc, Address::Constant(0x1000), 0x10);
 /// fde.add_instruction(4, CallFrameInstruction::CfaOffset(16))?;
 /// ```
-#[derive(Drop)]
+#[derive(PartialEq, Eq, Drop)]
 pub struct FrameDescriptionEntry {
     address: Address,
     length: u32,

@@ -13,7 +13,7 @@ use dw_writer::Writer;
 use std::alloc::Global;
 
 /// An instruction, and from where on it holds, in bytes from the begin of the FDE's function.
-#[derive(Drop)]
+#[derive(PartialEq, Eq, Drop)]
 pub struct Step {
     pub offset: u32,
     pub instruction: CallFrameInstruction,
