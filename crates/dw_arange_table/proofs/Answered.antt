@@ -1,6 +1,6 @@
 -- What is said of a listing, once its table was made, written and searched.
-use Rattle.std.proofs.Common.{◌≡◌, ◌∙◌, sym, ap, subst, ℕ, ◌+◌, ◌<◌, ◌≤◌, List, ◌++◌, Bool, true, inl, inr, arith, IsTrue, append_assoc}
-use Rattle.std.specs.Prelude.{◌⊎◌, ◌≢◌, Some, Ok, Err, codes, decimal}
+use Rattle.std.proofs.Common.{◌≡◌, sym, subst, ℕ, ◌<◌, ◌≤◌, List, ◌++◌, Bool, true, inl, inr, arith, IsTrue, append_assoc}
+use Rattle.std.specs.Prelude.{◌≢◌, Ok, Err, codes, decimal}
 use Rattle.dw_base.specs.ErrorName.{error_name}
 use Rattle.dw_base.specs.Faults as counts
 use Rattle.dw_base.specs.Order.{is_big_of}
@@ -13,7 +13,7 @@ use Rattle.dw_sources.specs.ConvertErrors.{convert_error_name}
 use Rattle.dw_sources.specs.declared.convert_error.ConvertError.{ConvertError}
 use Rattle.dw_sources.specs.declared.convert_error.ConvertError.TheVariants as reasons
 use Rattle.dw_ends.specs.Reasons.{reason_text}
-use Rattle.dw_ends.specs.Sections.{ListingValue, sections_of}
+use Rattle.dw_ends.specs.Sections.{sections_of}
 use Rattle.dw_ends.specs.declared.reason.Reason.{Reason}
 use Rattle.dw_listing.specs.Listed.{IsListed}
 use Rattle.dw_listing.specs.Readers.{ReadsSections, SectionSlice, slice_reading}

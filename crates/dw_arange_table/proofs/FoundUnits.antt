@@ -1,10 +1,9 @@
 -- The sets of units find exactly the units that cover an address.
-use Rattle.std.proofs.Common.{◌≡◌, ◌∙◌, sym, ap, subst, ℕ, zero, suc, ◌+◌, ◌-◌, ◌<◌, ◌≤◌, List, [], ◌∷◌, ◌++◌, length, map, Bool, true, false, not, ◌&&◌, ◌||◌, refl, arith, nat_eq, nat_le, nat_lt, if◌then◌else◌}
+use Rattle.std.proofs.Common.{◌≡◌, ◌∙◌, sym, ap, subst, ℕ, ◌+◌, ◌-◌, ◌^◌, ◌<◌, ◌≤◌, List, [], ◌∷◌, ◌++◌, length, map, Bool, true, false, not, ◌&&◌, ◌||◌, refl, arith, nat_eq, nat_le, nat_lt, if◌then◌else◌}
 use Rattle.std.specs.Prelude.{filter}
 use Rattle.std.specs.List.{list_any}
 use Rattle.std.proofs.lemmas.Bool.{eqb-true, leb-true, ltb-true, ltb-false}
 use borrow.Author.Tests.{ne_eqb, lt-ltb, le-ltb}
-use Rattle.dw_base.specs.declared.common.Encoding.{Encoding}
 use Rattle.dw_read.specs.Reading.{Reading, IsReading, left}
 use Rattle.dw_read.specs.UnitHeaders.{IsHeaderRead}
 use Rattle.dw_read.specs.declared.unit_header.UnitHeader.{UnitHeader}
@@ -63,6 +62,7 @@ set_in_front a s sets (d ∷ ds) e = rw (e) refl
 
 -- units behind a place stand at others
 module _ {R E : Type 0} (reading : R → Reading) (d : Dwarf R E) (is : (r : R) → IsReading (reading r)) where
+  -- the place behind a unit, which is a higher one
   record Rises (old new : Reading) : Type 0 where
     there : IsReading new
     more : old.place < new.place
@@ -75,11 +75,12 @@ module _ {R E : Type 0} (reading : R → Reading) (d : Dwarf R E) (is : (r : R) 
       let within : old.place + u.count ≤ old.end = u.passes.within in
       let inside : old.end ≤ length old.section = i.end in
       let long : length new.section ≡ length old.section = ap length section in
-      let there : IsReading new = record { place = omega arith; end = omega arith; small = subst (λ (n : ℕ). n < 18446744073709551616) (sym end) i.small } in
+      let there : IsReading new = record { place = omega arith; end = omega arith; small = subst (λ (n : ℕ). n < 2 ^ 64) (sym end) i.small } in
       let shorter : length (left new) < length (left old) = unit_shorter reading d old new h i there (is h.body) u in
       let some : u.count ≡ 0 → ⊥ = λ z. let same : length (left new) ≡ length (left old) = ap (λ (r : Reading). length (left r)) (u.passes.is ∙ ap (λ (n : ℕ). record old { place = n }) (omega (arith, z))) in omega arith in
       record { there = there; more = omega arith }
 
+  -- a unit in front of others
   places_step : (a : ℕ) (c : Covered R E) (cs : List (Covered R E)) → places_at a (c ∷ cs) ≡ (if covers_address a c then c.header.offset.0 ∷ places_at a cs else places_at a cs)
   places_step a c cs = by_cover (covers_address a c)
     where
@@ -87,6 +88,7 @@ module _ {R E : Type 0} (reading : R → Reading) (d : Dwarf R E) (is : (r : R) 
       by_cover true = refl
       by_cover false = refl
 
+  -- no unit from a place on stands at a lower one
   apart : (a p : ℕ) (old new : Reading) (cs : List (Covered R E)) → IsReading old → p < old.place → CoversUnits reading d old new cs → filter (λ u. not (nat_eq p u)) (places_at a cs) ≡ places_at a cs
   apart a p old new [] i less h = refl
   apart a p old new (c ∷ cs) i less h =
@@ -104,6 +106,7 @@ module _ {R E : Type 0} (reading : R → Reading) (d : Dwarf R E) (is : (r : R) 
           ∙ ap (λ l. c.header.offset.0 ∷ l) others
       by_cover false others other = others
 
+  -- units one behind another are found each once, in their order
   pub found_units : (old new : Reading) (cs : List (Covered R E)) → IsReading old → CoversUnits reading d old new cs → (a : ℕ) → units_at a (sets_of cs) ≡ places_at a cs
   found_units old new [] i h a = refl
   found_units old new (c ∷ cs) i h a =

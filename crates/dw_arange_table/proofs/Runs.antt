@@ -1,12 +1,11 @@
 -- What a run has done, from the answer that it printed or the reason why there was none.
-use Rattle.std.proofs.Common.{◌≡◌, ◌∙◌, sym, ap, subst, ℕ, ◌<◌, ◌≤◌, List, length, inl, inr, arith}
+use Rattle.std.proofs.Common.{◌≡◌, ◌∙◌, sym, ap, subst, ℕ, ◌≤◌, List, length, inl, inr, arith}
 use Rattle.std.specs.Prelude.{◌⊎◌, true, Option, Some, None, Result, Ok, Err}
 use Rattle.dw_base.specs.Faults.{HasRisen}
 use Rattle.dw_ends.specs.Ends.{Input, Intake, with_after}
 use Rattle.dw_ends.specs.Sections.{ListingValue, sections_of}
-use Rattle.dw_ends.specs.declared.reason.Reason.{Reason}
 use Rattle.dw_arange_table.specs.Commands.{command_of}
-use Rattle.dw_arange_table.specs.Said.{SaysOfMade, SaysOfSections, SaysOfBytes, SaysMade}
+use Rattle.dw_arange_table.specs.Said.{SaysOfSections, SaysOfBytes, SaysMade}
 use Rattle.dw_arange_table.specs.Runs.{HasNoCause, Says, SaysAsked, SaysOfInput, SaysRead, Reads, Prints, Answers, StopsFor, RunAnswers, code_of, longest_listing}
 use Rattle.dw_arange_table.specs.declared.answer.Stop.TheVariants as stop
 use Rattle.dw_arange_table.specs.declared.command.Command.{Command}

@@ -13,7 +13,7 @@ use Rattle.dw_arange_table.specs.Said.{Makes, MakesNone, SaysOfBytes}
 use Rattle.dw_arange_table.specs.declared.answer.Stop.{Stop}
 use Rattle.dw_arange_table.specs.declared.answer.Stop.TheVariants as stop
 use Rattle.dw_arange_table.specs.declared.command.Command.{Command}
-use Rattle.dw_arange_table.specs.declared.command.Command.TheVariants.{Table, Find}
+use Rattle.dw_arange_table.specs.declared.command.Command.TheVariants.{Table}
 use Rattle.dw_arange_table.specs.declared.status.Status.{Status}
 use Rattle.dw_arange_table.specs.declared.status.Status.TheVariants.{Done, Usage, ListingRefused, TableRefused, SourceFailed, SinkFailed, NoMemory, TooLong}
 
