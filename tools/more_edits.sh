@@ -1,7 +1,7 @@
 #!/bin/sh
 # more_edits.sh [CRATE ..]: tries the edits below tools/edits, of these crates or of all, which the
-# prover has to refuse as it does those of must-fail/. They stand outside the gate, where a second
-# edit in a crate costs a second proof of it. Works on a copy of the repository, and ends with the
+# prover has to refuse as it does those of must-fail/. They stand outside the gate, where the first
+# edit of a crate costs most of a second proof. Works on a copy of the repository, and ends with the
 # status of `rt must-fail`.
 set -eu
 top=$(cd "$(dirname "$0")/.." && pwd)
