@@ -1,6 +1,6 @@
-//! Runs the programs `dwarf_build` and `dw_aranges` over tables of cases, the files that the command
-//! line names, and prints how many runs each table had, and before it each run that shows something
-//! else than its case tells, and each case that is faulty.
+//! Runs the programs `dwarf_build` and `dw_aranges` over tables of cases, the files that the
+//! command line names, and prints how many runs each table had, and before it each run that shows
+//! something else than its case tells, and each case that is faulty.
 //!
 //! A table is text, of one topic. Its lines are empty, remarks behind `# `, or begin with one of
 //! these words and a space:
@@ -21,8 +21,8 @@
 //! - `units ORDERS VERSIONS SIZES FORMATS` puts `order O` and `unit V A F` before the script, and
 //!   runs the case for each of what the four fields have between their commas.
 //! - `status N` is the exit status, in each case once.
-//! - `text LINE` is a line of the printed text, which is to have these alone; `nothing` says that it
-//!   has none.
+//! - `text LINE` is a line of the printed text, which is to have these alone; `nothing` says that
+//!   it has none.
 //! - `.debug_info HEX`, or another section, tells its bytes in hex with spaces between, in one line
 //!   or several; `HEX*N` is so many times the same. The text is to be a listing; the sections that
 //!   aren't named are empty. `.debug_aranges HEX` is a line of its own.
@@ -33,9 +33,9 @@
 //! - `end N` is the last line: the table has so many runs.
 //!
 //! A case has either `text`, `nothing`, `same` or sections. In one with `units` the fields of a
-//! section may begin with `root`, which stands for the unit's header and its root's code, its length
-//! counting all that follows; and a number behind `=` stands in the unit's byte order, with as many
-//! bytes as it has pairs of digits.
+//! section may begin with `root`, which stands for the unit's header and its root's code, its
+//! length counting all that follows; and a number behind `=` stands in the unit's byte order, with
+//! as many bytes as it has pairs of digits.
 //!
 //! The bytes are written by hand from the standard's tables, never copied from a listing. The table
 //! `broken.txt` has faulty cases, and cases that tell what isn't so: that they are reported is seen
