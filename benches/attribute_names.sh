@@ -1,7 +1,6 @@
 #!/bin/sh
 # attribute_names.sh [PROGRAM]: converts listings of one entry with 12,500, 25,000 and 50,000
-# attributes, each under a name of its own, and prints the seconds that each takes. The time grows
-# as the number of attributes does.
+# attributes, each under a name of its own, and prints the seconds that each takes.
 set -eu
 program=${1:-crates/dwarf_build/out/dwarf_build}
 work=$(mktemp -d)
@@ -15,7 +14,7 @@ for count in 12500 25000 50000; do
         }
         function sum(n,   k) { for (k = 1; n >= 128; k++) n = int(n / 128); return k }
         BEGIN {
-            size = 2 + 1 + 1 + 1
+            size = 1 + 1 + 1 + 3
             for (i = 0; i < count; i++) size += sum(12288 + i) + 1
             printf ".debug_abbrev %d 011100", size
             for (i = 0; i < count; i++) { uleb(12288 + i); printf "0b" }

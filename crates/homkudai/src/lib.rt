@@ -1,4 +1,4 @@
-//! All that the library offers, under one name, laid out as gimli's modules `write` and `read` are:
+//! What a user of gimli looks for, under one name, laid out as its modules `write` and `read` are:
 //! `write` builds and writes DWARF, `read` reads it, `convert` makes of what is read what is
 //! written, `frames` has call frames of both sides, `link` joins files, and `constants` are the
 //! standard's. What both sides speak of stands right here. Contracts cite the definitions of the
@@ -14,7 +14,8 @@ pub mod write;
 pub use dw_base::{
     BigEndian, DebugAbbrevOffset, DebugFrameOffset, DebugInfoOffset, DebugLineOffset,
     DebugLineStrOffset, DebugMacinfoOffset, DebugMacroOffset, DebugStrOffset, DebugTypeSignature,
-    DwoId, EhFrameOffset, Encoding, Endianity, Format, LineEncoding, LittleEndian,
-    LocationListsOffset, RangeListsOffset, Register, RunTimeEndian, SectionId, UnitOffset,
-    UnitSectionOffset, constants,
+    DwAccess, DwAddr, DwAt, DwAte, DwCc, DwCfa, DwDs, DwEhPe, DwEnd, DwForm, DwId, DwInl, DwLang,
+    DwLle, DwLnct, DwLne, DwLns, DwOp, DwOrd, DwRle, DwTag, DwUt, DwVirtuality, DwVis, DwoId,
+    EhFrameOffset, Encoding, Endianity, Format, LineEncoding, LittleEndian, LocationListsOffset,
+    RangeListsOffset, Register, RunTimeEndian, SectionId, UnitOffset, UnitSectionOffset, constants,
 };

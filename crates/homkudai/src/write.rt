@@ -10,7 +10,7 @@ pub use dw_dwarf::{Dwarf, DwarfUnit};
 pub use dw_entries::{
     AttrMut, Attribute, AttributeValue, AttributeWalk, AttrsMut, DebuggingInformationEntry,
 };
-pub use dw_expr::{Expression, Operation};
+pub use dw_expr::{EntryPlaces, Expression, Operation};
 pub use dw_line::{FileInfo, LineProgram, LineRow, LineString};
 pub use dw_lists::{
     Location, LocationList, LocationListOffsets, LocationListTable, Range, RangeList,
