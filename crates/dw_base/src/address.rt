@@ -12,7 +12,7 @@ pub enum Address {
 }
 
 /// An entry that is named by its place in `.debug_info`.
-#[derive(Clone, Copy, PartialEq, Eq, Hash)]
+#[derive(Clone, Copy, PartialEq, Eq)]
 pub enum DebugInfoRef {
     /// An entry of another object, under a symbol.
     Symbol(usize),

@@ -34,7 +34,7 @@ pub struct Encoding {
 }
 
 /// The parameters of a line program (DWARF 5, 6.2.4).
-#[derive(Clone, Copy, PartialEq, Eq, Hash)]
+#[derive(Clone, Copy, PartialEq, Eq)]
 pub struct LineEncoding {
     /// The bytes of the smallest instruction of the target.
     pub minimum_instruction_length: u8,

@@ -350,7 +350,7 @@ pub const DW_FORM_addrx3: DwForm = DwForm(0x2b);
 pub const DW_FORM_addrx4: DwForm = DwForm(0x2c);
 
 /// The type of a unit, from version 5 on (7.5.1).
-#[derive(Clone, Copy, Debug, PartialEq, Eq, Hash)]
+#[derive(Clone, Copy, Debug, PartialEq, Eq)]
 pub struct DwUt(pub u8);
 
 pub const DW_UT_compile: DwUt = DwUt(0x01);
@@ -536,7 +536,7 @@ pub const DW_OP_GNU_parameter_ref: DwOp = DwOp(0xfa);
 pub const DW_OP_GNU_variable_value: DwOp = DwOp(0xfd);
 
 /// The kind of a range list's item, from version 5 on (7.25).
-#[derive(Clone, Copy, PartialEq, Eq, Hash)]
+#[derive(Clone, Copy, PartialEq, Eq)]
 pub struct DwRle(pub u8);
 
 pub const DW_RLE_end_of_list: DwRle = DwRle(0x00);
@@ -556,7 +556,7 @@ pub const DW_RLE_start_end: DwRle = DwRle(0x06);
 pub const DW_RLE_start_length: DwRle = DwRle(0x07);
 
 /// The kind of a location list's item, from version 5 on (7.7.3).
-#[derive(Clone, Copy, PartialEq, Eq, Hash)]
+#[derive(Clone, Copy, PartialEq, Eq)]
 pub struct DwLle(pub u8);
 
 pub const DW_LLE_end_of_list: DwLle = DwLle(0x00);
@@ -578,7 +578,7 @@ pub const DW_LLE_start_end: DwLle = DwLle(0x07);
 pub const DW_LLE_start_length: DwLle = DwLle(0x08);
 
 /// A standard operation of a line program (7.22).
-#[derive(Clone, Copy, PartialEq, Eq, Hash)]
+#[derive(Clone, Copy, PartialEq, Eq)]
 pub struct DwLns(pub u8);
 
 pub const DW_LNS_copy: DwLns = DwLns(0x01);
@@ -606,7 +606,7 @@ pub const DW_LNS_set_epilogue_begin: DwLns = DwLns(0x0b);
 pub const DW_LNS_set_isa: DwLns = DwLns(0x0c);
 
 /// An extended operation of a line program (7.22).
-#[derive(Clone, Copy, PartialEq, Eq, Hash)]
+#[derive(Clone, Copy, PartialEq, Eq)]
 pub struct DwLne(pub u8);
 
 pub const DW_LNE_end_sequence: DwLne = DwLne(0x01);
@@ -618,7 +618,7 @@ pub const DW_LNE_define_file: DwLne = DwLne(0x03);
 pub const DW_LNE_set_discriminator: DwLne = DwLne(0x04);
 
 /// The content type of a line program's directory or file, from version 5 on (7.22).
-#[derive(Clone, Copy, PartialEq, Eq, Hash)]
+#[derive(Clone, Copy, PartialEq, Eq)]
 pub struct DwLnct(pub u16);
 
 pub const DW_LNCT_path: DwLnct = DwLnct(0x01);
@@ -634,7 +634,7 @@ pub const DW_LNCT_MD5: DwLnct = DwLnct(0x05);
 pub const DW_LNCT_LLVM_source: DwLnct = DwLnct(0x2001);
 
 /// A call frame instruction (7.24).
-#[derive(Clone, Copy, PartialEq, Eq, Hash)]
+#[derive(Clone, Copy, PartialEq, Eq)]
 pub struct DwCfa(pub u8);
 
 pub const DW_CFA_nop: DwCfa = DwCfa(0x00);
@@ -694,51 +694,51 @@ pub const DW_CFA_offset: DwCfa = DwCfa(0x80);
 pub const DW_CFA_restore: DwCfa = DwCfa(0xc0);
 
 /// A source language (7.12).
-#[derive(Clone, Copy, PartialEq, Eq, Hash)]
+#[derive(Clone, Copy, PartialEq, Eq)]
 pub struct DwLang(pub u16);
 
 /// The encoding of a base type (7.8).
-#[derive(Clone, Copy, PartialEq, Eq, Hash)]
+#[derive(Clone, Copy, PartialEq, Eq)]
 pub struct DwAte(pub u8);
 
 /// The sign of a decimal type (7.8).
-#[derive(Clone, Copy, PartialEq, Eq, Hash)]
+#[derive(Clone, Copy, PartialEq, Eq)]
 pub struct DwDs(pub u8);
 
 /// The byte order of a value (7.8).
-#[derive(Clone, Copy, PartialEq, Eq, Hash)]
+#[derive(Clone, Copy, PartialEq, Eq)]
 pub struct DwEnd(pub u8);
 
 /// The access that a member allows (7.9).
-#[derive(Clone, Copy, PartialEq, Eq, Hash)]
+#[derive(Clone, Copy, PartialEq, Eq)]
 pub struct DwAccess(pub u8);
 
 /// Where a name can be seen (7.10).
-#[derive(Clone, Copy, PartialEq, Eq, Hash)]
+#[derive(Clone, Copy, PartialEq, Eq)]
 pub struct DwVis(pub u8);
 
 /// Whether a member is virtual (7.11).
-#[derive(Clone, Copy, PartialEq, Eq, Hash)]
+#[derive(Clone, Copy, PartialEq, Eq)]
 pub struct DwVirtuality(pub u8);
 
 /// How identifiers' cases count (7.14).
-#[derive(Clone, Copy, PartialEq, Eq, Hash)]
+#[derive(Clone, Copy, PartialEq, Eq)]
 pub struct DwId(pub u8);
 
 /// A calling convention (7.15).
-#[derive(Clone, Copy, PartialEq, Eq, Hash)]
+#[derive(Clone, Copy, PartialEq, Eq)]
 pub struct DwCc(pub u8);
 
 /// Whether a subroutine is inlined (7.16).
-#[derive(Clone, Copy, PartialEq, Eq, Hash)]
+#[derive(Clone, Copy, PartialEq, Eq)]
 pub struct DwInl(pub u8);
 
 /// The order of an array's elements (7.17).
-#[derive(Clone, Copy, PartialEq, Eq, Hash)]
+#[derive(Clone, Copy, PartialEq, Eq)]
 pub struct DwOrd(pub u8);
 
 /// An address class (7.13).
-#[derive(Clone, Copy, PartialEq, Eq, Hash)]
+#[derive(Clone, Copy, PartialEq, Eq)]
 pub struct DwAddr(pub u64);
 
 /// How a pointer of `.eh_frame` is encoded: a format in the low four bits, and in the bits 0x70

@@ -4,14 +4,14 @@ ghost use Rattle.std.specs.Prelude.{◌≡◌};
 
 use crate::constants::DwEhPe;
 use std::alloc::{AllocError, AllocFailed};
-use std::fmt::{self, Display, Formatter};
+use std::fmt::{self, Debug, Display, Formatter};
 use thiserror::Error as ThisError;
 
 /// The result of a call that builds or writes.
 pub type Result<T> = std::result::Result<T, Error>;
 
 /// Why a call that builds or writes refuses.
-#[derive(Clone, Copy, Debug, PartialEq, Eq, ThisError)]
+#[derive(Clone, Copy, PartialEq, Eq, ThisError)]
 pub enum Error {
     /// No memory could be had.
     NoMemory,
@@ -101,7 +101,7 @@ impl Error {
         }
     }
 
-    // What is printed of a variant that holds nothing; the others are printed with their number.
+    // What is printed, in which `#` stands for what the variant holds.
     fn text(&self) -> &'static str {
         match self {
             Error::NoMemory => "out of memory",
@@ -110,13 +110,19 @@ impl Error {
             Error::LengthOutOfBounds => "a patch ends past the end of its section",
             Error::InvalidAttributeValue => "an attribute's value can't be written",
             Error::ValueTooLarge => "a value is too large for its encoding",
+            Error::UnsupportedWordSize(_) => "a width of # bytes is not supported",
+            Error::UnsupportedVersion(_) => "version # is not supported",
             Error::InitialLengthOverflow => "a length is too large for the 32-bit format",
             Error::InvalidAddress => "a symbol's address needs a relocation",
             Error::InvalidReference => "a reference names nothing that is written",
+            Error::NeedVersion(_) => "version # is needed",
             Error::LineStringFormMismatch => "the strings of a line program have different forms",
             Error::InvalidRange => "a list has an item that its version has no spelling for",
             Error::IncompatibleLineProgramEncoding =>
                 "a line program and its unit have different encodings",
+            Error::InvalidFrameCodeOffset(_) => "the code offset # can't be factored",
+            Error::InvalidFrameDataOffset(_) => "the data offset # can't be factored",
+            Error::UnsupportedPointerEncoding(_) => "the pointer encoding # is not supported",
             Error::UnsupportedCfiExpressionReference =>
                 "a frame's expression names an entry of a unit",
             Error::UnsupportedExpressionForwardReference =>
@@ -126,63 +132,57 @@ impl Error {
             Error::UnsetBranchTarget => "a branch has no target",
             Error::LsdaMismatch =>
                 "a frame entry and its common entry disagree on a language-specific data area",
-            Error::UnsupportedWordSize(_)
-            | Error::UnsupportedVersion(_)
-            | Error::NeedVersion(_)
-            | Error::InvalidFrameCodeOffset(_)
-            | Error::InvalidFrameDataOffset(_)
-            | Error::UnsupportedPointerEncoding(_) => "",
+        }
+    }
+
+    // What the variant holds.
+    fn held(&self) -> Held {
+        match self {
+            Error::UnsupportedWordSize(width) => Held::Number(*width as i64),
+            Error::UnsupportedVersion(version) => Held::Number(*version as i64),
+            Error::NeedVersion(version) => Held::Number(*version as i64),
+            Error::InvalidFrameCodeOffset(offset) => Held::Number(*offset as i64),
+            Error::InvalidFrameDataOffset(offset) => Held::Number(*offset as i64),
+            Error::UnsupportedPointerEncoding(encoding) => Held::Encoding(*encoding),
+            _ => Held::Nothing,
+        }
+    }
+}
+
+// What a variant holds, as its text shows it.
+#[derive(Clone, Copy)]
+enum Held {
+    Nothing,
+    Number(i64),
+    Encoding(DwEhPe),
+}
+
+impl Display for Held {
+    fn fmt<W: fmt::Write>(&self, f: &mut Formatter<W>) -> fmt::Result {
+        match self {
+            Held::Nothing => Ok(()),
+            Held::Number(number) => Display::fmt(number, f),
+            Held::Encoding(encoding) => Debug::fmt(encoding, f),
         }
     }
 }
 
 impl Display for Error {
     fn fmt<W: fmt::Write>(&self, f: &mut Formatter<W>) -> fmt::Result {
-        match self {
-            Error::UnsupportedWordSize(width) => number(
-                f,
-                "a width of ",
-                width,
-                " bytes is not supported",
-            ),
-            Error::UnsupportedVersion(version) => number(
-                f,
-                "version ",
-                version,
-                " is not supported",
-            ),
-            Error::NeedVersion(version) => number(f, "version ", version, " is needed"),
-            Error::InvalidFrameCodeOffset(offset) => number(
-                f,
-                "the code offset ",
-                offset,
-                " can't be factored",
-            ),
-            Error::InvalidFrameDataOffset(offset) => number(
-                f,
-                "the data offset ",
-                offset,
-                " can't be factored",
-            ),
-            Error::UnsupportedPointerEncoding(encoding) => number(
-                f,
-                "the pointer encoding DwEhPe(",
-                &encoding.0,
-                ") is not supported",
-            ),
-            _ => f.write_str(self.text()),
-        }
+        let text = self.text();
+        let (before, behind) = text.split_once('#').unwrap_or((text, ""));
+        write!(f, "{before}{}{behind}", self.held())
     }
 }
 
-// Prints a text with a number in it.
-fn number<W: fmt::Write, N: Display>(
-    f: &mut Formatter<W>,
-    before: &str,
-    number: &N,
-    behind: &str,
-) -> fmt::Result {
-    write!(f, "{before}{number}{behind}")
+/// The variant's name, and what it holds as the text shows it.
+impl Debug for Error {
+    fn fmt<W: fmt::Write>(&self, f: &mut Formatter<W>) -> fmt::Result {
+        match self.held() {
+            Held::Nothing => f.write_str(self.name()),
+            held => write!(f, "{}({held})", self.name()),
+        }
+    }
 }
 
 impl From<AllocError> for Error {
