@@ -169,32 +169,31 @@ pub(crate) fn next_pair<'a>(
     ensures { with_rest result (pieces_left fields.new) ≡
         pair_of_word word (pieces_left fields.old) }
 {
-    let operation = match word {
+    match word {
         PairWord::ConstantType => {
             let base = next_usize(fields)?;
             let value = next_hex_bytes(fields)?;
-            ScriptOperation::ConstantType { base, value }
+            Ok(ScriptOperation::ConstantType { base, value })
         }
         PairWord::RegisterOffset => {
             let register = Register(next_u16(fields)?);
             let offset = next_i64(fields)?;
-            ScriptOperation::RegisterOffset { register, offset }
+            Ok(ScriptOperation::RegisterOffset { register, offset })
         }
         PairWord::RegisterType => {
             let register = Register(next_u16(fields)?);
             let base = next_usize(fields)?;
-            ScriptOperation::RegisterType { register, base }
+            Ok(ScriptOperation::RegisterType { register, base })
         }
-        PairWord::DerefType => next_deref_type(false, fields)?,
-        PairWord::SpaceDerefType => next_deref_type(true, fields)?,
+        PairWord::DerefType => next_deref_type(false, fields),
+        PairWord::SpaceDerefType => next_deref_type(true, fields),
         PairWord::ImplicitPointer => {
             let entry = next_reference(fields)?;
             let byte_offset = next_i64(fields)?;
-            ScriptOperation::ImplicitPointer { entry, byte_offset }
+            Ok(ScriptOperation::ImplicitPointer { entry, byte_offset })
         }
-        PairWord::BitPiece => next_bit_piece(fields)?,
-    };
-    Ok(operation)
+        PairWord::BitPiece => next_bit_piece(fields),
+    }
 }
 
 fn next_deref_type<'a>(space: bool, fields: &mut Pieces<'a>) -> Result<ScriptOperation<'a>, Reason>

@@ -3,14 +3,14 @@
 ghost use Rattle.std.specs.Prelude.{◌≡◌};
 ghost use Rattle.dw_ends.specs.Fields.{with_rest};
 ghost use Rattle.dw_ends.specs.Pieces.{pieces_left};
-ghost use Rattle.dw_script_fields.specs.Values.{constant_of_kind, value_field};
+ghost use Rattle.dw_script_fields.specs.Values.{constant_of_kind, number_of_kind, place_of_kind, value_field};
 
 use crate::expression::ExpressionFields;
 use crate::field::{
     next_address, next_flag, next_hex_bytes, next_i64, next_index_or_none, next_kind,
     next_reference, next_u8, next_u16, next_u32, next_u128, next_usize,
 };
-use crate::kind::{ConstantKind, Kind};
+use crate::kind::{ConstantKind, Kind, NumberKind, PlaceKind};
 use dw_base::{
     Address, DebugInfoOffset, DebugInfoRef, DebugMacinfoOffset, DebugMacroOffset, DebugStrOffset,
     DebugTypeSignature, DwAccess, DwAddr, DwAte, DwCc, DwDs, DwEnd, DwId, DwInl, DwLang, DwOrd,
@@ -125,53 +125,69 @@ pub fn next_value<'a>(fields: &mut Pieces<'a>) -> Result<Value<'a>, Reason>
         Kind::Data1 => Value::Data1(next_u8(fields)?),
         Kind::Data2 => Value::Data2(next_u16(fields)?),
         Kind::Data4 => Value::Data4(next_u32(fields)?),
-        Kind::Data8 => Value::Data8(next_u64(fields)?),
         Kind::Data16 => Value::Data16(next_u128(fields)?),
         Kind::Sdata => Value::Sdata(next_i64(fields)?),
-        Kind::Udata => Value::Udata(next_u64(fields)?),
         Kind::ImplicitConst => Value::ImplicitConst(next_i64(fields)?),
         Kind::Exprloc => Value::Exprloc(ExpressionFields::read(fields)?),
         Kind::Flag => Value::Flag(next_flag(fields)?),
         Kind::FlagPresent => Value::FlagPresent,
-        Kind::UnitRef => Value::UnitRef(next_u64(fields)?),
         Kind::DebugInfoRef => Value::DebugInfoRef(next_reference(fields)?),
-        Kind::DebugInfoRefSup => Value::DebugInfoRefSup(DebugInfoOffset(next_usize(fields)?)),
-        Kind::DebugMacinfoRef => Value::DebugMacinfoRef(DebugMacinfoOffset(next_usize(fields)?)),
-        Kind::DebugMacroRef => Value::DebugMacroRef(DebugMacroOffset(next_usize(fields)?)),
-        Kind::DebugTypesRef => Value::DebugTypesRef(DebugTypeSignature(next_u64(fields)?)),
-        Kind::DebugStrRefSup => Value::DebugStrRefSup(DebugStrOffset(next_usize(fields)?)),
         Kind::String => Value::String(next_hex_bytes(fields)?),
-        Kind::StringRef => Value::StringRef(next_u64(fields)?),
-        Kind::LineStringRef => Value::LineStringRef(next_u64(fields)?),
-        Kind::RangeListRef => Value::RangeListRef(next_u64(fields)?),
         Kind::RangeListsBase => Value::RangeListsBase,
-        Kind::LocationListRef => Value::LocationListRef(next_u64(fields)?),
         Kind::LocationListsBase => Value::LocationListsBase,
         Kind::LineProgramRef => Value::LineProgramRef,
         Kind::FileIndex => Value::FileIndex(next_index_or_none(fields)?),
-        Kind::Constant(kind) => next_constant(kind, fields)?,
+        Kind::Language => Value::Language(DwLang(next_u16(fields)?)),
+        Kind::Number(kind) => number_value(kind, next_u64(fields)?),
+        Kind::Place(kind) => place_value(kind, next_usize(fields)?),
+        Kind::Constant(kind) => constant_value(kind, next_u8(fields)?),
     };
     Ok(value)
 }
 
-// A number that the standard gives meanings.
-fn next_constant<'a>(kind: ConstantKind, fields: &mut Pieces<'a>) -> Result<Value<'a>, Reason>
-    ensures { with_rest result (pieces_left fields.new) ≡
-        constant_of_kind kind (pieces_left fields.old) }
+// A number of 64 bits.
+fn number_value<'a>(kind: NumberKind, number: u64) -> Value<'a>
+    ensures { result ≡ number_of_kind kind number }
 {
-    let value = match kind {
-        ConstantKind::Encoding => Value::Encoding(DwAte(next_u8(fields)?)),
-        ConstantKind::DecimalSign => Value::DecimalSign(DwDs(next_u8(fields)?)),
-        ConstantKind::Endianity => Value::Endianity(DwEnd(next_u8(fields)?)),
-        ConstantKind::Accessibility => Value::Accessibility(DwAccess(next_u8(fields)?)),
-        ConstantKind::Visibility => Value::Visibility(DwVis(next_u8(fields)?)),
-        ConstantKind::Virtuality => Value::Virtuality(DwVirtuality(next_u8(fields)?)),
-        ConstantKind::Language => Value::Language(DwLang(next_u16(fields)?)),
-        ConstantKind::AddressClass => Value::AddressClass(DwAddr(next_u64(fields)?)),
-        ConstantKind::IdentifierCase => Value::IdentifierCase(DwId(next_u8(fields)?)),
-        ConstantKind::CallingConvention => Value::CallingConvention(DwCc(next_u8(fields)?)),
-        ConstantKind::Inline => Value::Inline(DwInl(next_u8(fields)?)),
-        ConstantKind::Ordering => Value::Ordering(DwOrd(next_u8(fields)?)),
-    };
-    Ok(value)
+    match kind {
+        NumberKind::Data8 => Value::Data8(number),
+        NumberKind::Udata => Value::Udata(number),
+        NumberKind::UnitRef => Value::UnitRef(number),
+        NumberKind::DebugTypesRef => Value::DebugTypesRef(DebugTypeSignature(number)),
+        NumberKind::StringRef => Value::StringRef(number),
+        NumberKind::LineStringRef => Value::LineStringRef(number),
+        NumberKind::RangeListRef => Value::RangeListRef(number),
+        NumberKind::LocationListRef => Value::LocationListRef(number),
+        NumberKind::AddressClass => Value::AddressClass(DwAddr(number)),
+    }
+}
+
+// A place in another section, or in one of the supplementary file.
+fn place_value<'a>(kind: PlaceKind, place: usize) -> Value<'a>
+    ensures { result ≡ place_of_kind kind place }
+{
+    match kind {
+        PlaceKind::DebugInfoRefSup => Value::DebugInfoRefSup(DebugInfoOffset(place)),
+        PlaceKind::DebugMacinfoRef => Value::DebugMacinfoRef(DebugMacinfoOffset(place)),
+        PlaceKind::DebugMacroRef => Value::DebugMacroRef(DebugMacroOffset(place)),
+        PlaceKind::DebugStrRefSup => Value::DebugStrRefSup(DebugStrOffset(place)),
+    }
+}
+
+// A number of one byte that the standard gives meanings.
+fn constant_value<'a>(kind: ConstantKind, byte: u8) -> Value<'a>
+    ensures { result ≡ constant_of_kind kind byte }
+{
+    match kind {
+        ConstantKind::Encoding => Value::Encoding(DwAte(byte)),
+        ConstantKind::DecimalSign => Value::DecimalSign(DwDs(byte)),
+        ConstantKind::Endianity => Value::Endianity(DwEnd(byte)),
+        ConstantKind::Accessibility => Value::Accessibility(DwAccess(byte)),
+        ConstantKind::Visibility => Value::Visibility(DwVis(byte)),
+        ConstantKind::Virtuality => Value::Virtuality(DwVirtuality(byte)),
+        ConstantKind::IdentifierCase => Value::IdentifierCase(DwId(byte)),
+        ConstantKind::CallingConvention => Value::CallingConvention(DwCc(byte)),
+        ConstantKind::Inline => Value::Inline(DwInl(byte)),
+        ConstantKind::Ordering => Value::Ordering(DwOrd(byte)),
+    }
 }
