@@ -1,12 +1,12 @@
 //! The text of a listing: the order of bytes, and then a line for each section.
 
-ghost use Rattle.std.specs.Prelude.{◌≡◌, ◌++◌, Ok, IfOk, OnOk, OnErr};
+ghost use Rattle.std.specs.Prelude.{◌≡◌, ◌++◌, [], Ok, IfOk, OnOk, OnErr};
 ghost use Rattle.std.specs.Io.{StartsWith};
 ghost use Rattle.dw_ends.specs.Listing.{AddsLine, AreBytes, Lists, hex_word, order_line, read_of, section_line, told};
 ghost use Rattle.dw_ends.specs.Sections.{sections_of};
 
-use dw_base::{Endianity, RunTimeEndian};
-use dw_writer::{EndianVec, Section, Sections, Writer};
+use dw_base::{Endianity, RunTimeEndian, SectionId};
+use dw_writer::{EndianVec, Sections, Writer};
 use itoa::Buffer;
 use std::alloc::{AllocError, Global};
 
@@ -23,34 +23,45 @@ pub fn listing_text(
         Ok (read_of ⟦<EndianVec<RunTimeEndian> as Writer>⟧.meaning sections.now)) }
 {
     let mut text = Vec::new(alloc);
-    push_order(
-        &mut text,
-        sections.debug_info.section().endian().is_big_endian(),
-    )?;
-    push_one(&mut text, &sections.debug_abbrev)?;
-    push_one(&mut text, &sections.debug_str)?;
-    push_one(&mut text, &sections.debug_line_str)?;
-    push_one(&mut text, &sections.debug_line)?;
-    push_one(&mut text, &sections.debug_ranges)?;
-    push_one(&mut text, &sections.debug_rnglists)?;
-    push_one(&mut text, &sections.debug_loc)?;
-    push_one(&mut text, &sections.debug_loclists)?;
-    push_one(&mut text, &sections.debug_info)?;
-    push_one(&mut text, &sections.debug_frame)?;
-    push_one(&mut text, &sections.eh_frame)?;
+    push_listing(&mut text, sections)?;
     Ok(text)
 }
 
-// Appends the line of a section: its own name with its own bytes.
-fn push_one<S: Section<EndianVec<RunTimeEndian>>>(
+// Appends the line with the byte order, and those of the sections.
+fn push_listing(
     text: &mut Vec<u8>,
-    section: &S,
+    sections: &Sections<EndianVec<RunTimeEndian>>,
 ) -> Result<(), AllocError>
-    ensures { OnOk result (AddsLine S.which
-        (told ⟦<EndianVec<RunTimeEndian> as Writer>⟧.meaning (S.writer section.now))
+    requires { text.old.items ≡ [] }
+    ensures { OnOk result
+        (Lists ⟦<EndianVec<RunTimeEndian> as Writer>⟧.meaning sections.now text.new.items) }
+{
+    push_order(text, sections.debug_info.0.endian().is_big_endian())?;
+    push_one(text, SectionId::DebugAbbrev, &sections.debug_abbrev.0)?;
+    push_one(text, SectionId::DebugStr, &sections.debug_str.0)?;
+    push_one(text, SectionId::DebugLineStr, &sections.debug_line_str.0)?;
+    push_one(text, SectionId::DebugLine, &sections.debug_line.0)?;
+    push_one(text, SectionId::DebugRanges, &sections.debug_ranges.0)?;
+    push_one(text, SectionId::DebugRngLists, &sections.debug_rnglists.0)?;
+    push_one(text, SectionId::DebugLoc, &sections.debug_loc.0)?;
+    push_one(text, SectionId::DebugLocLists, &sections.debug_loclists.0)?;
+    push_one(text, SectionId::DebugInfo, &sections.debug_info.0)?;
+    push_one(text, SectionId::DebugFrame, &sections.debug_frame.0)?;
+    push_one(text, SectionId::EhFrame, &sections.eh_frame.0)?;
+    Ok(())
+}
+
+// Appends the line of the section of this id: its name with the bytes of its writer.
+fn push_one(
+    text: &mut Vec<u8>,
+    id: SectionId,
+    writer: &EndianVec<RunTimeEndian>,
+) -> Result<(), AllocError>
+    ensures { OnOk result (AddsLine id
+        (told ⟦<EndianVec<RunTimeEndian> as Writer>⟧.meaning writer.now)
         text.old.items text.new.items) }
 {
-    push_section(text, section.name(), section.section().slice())
+    push_section(text, id.name(), writer.slice())
 }
 
 // Appends the line that says the order of bytes. Where memory runs out, `text` stays as it was.
