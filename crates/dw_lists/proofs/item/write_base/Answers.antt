@@ -4,6 +4,7 @@ use Rattle.dw_lists.specs.Items.{marker}
 use Rattle.dw_lists.specs.Kinds.{range_kinds}
 use Rattle.dw_lists.proofs.Spans.{written-marker, old_base}
 use Rattle.dw_lists.proofs.Refusals.{base_unsized, base_marker, base_refused, base_none}
+use Rattle.dw_writer.proofs.Steps.{IsSameWriter-trans}
 use Rattle.dw_lists.proofs.item.write_base.Goals as goal
 
 pub returns-in_err-all_ones-clause-err : goal.returns-in_err-all_ones-clause-err
@@ -34,3 +35,21 @@ pub returns-clause-err : goal.returns-clause-err
 returns-clause-err g c =
     IfErr-map c.write_address.result c.write_address.ensures.err
     (base_refused (g.W.Writer.meaning c.args.w.now) (g.W.Writer.meaning c.write_udata.new.self) c.in_ok-write_udata.ensures.same c.args.address_size (g.W.Writer.meaning c.write_address.new.self) c.args.address)
+
+pub returns-in_err-all_ones-clause-ok : goal.returns-in_err-all_ones-clause-ok
+returns-in_err-all_ones-clause-ok g c = rw (err_from_is_err_and c.from_residual.result c.from_residual.ensures.1).1 tt
+
+pub returns-in_err-all_ones-clause-sound : goal.returns-in_err-all_ones-clause-sound
+returns-in_err-all_ones-clause-sound g c = rw (err_from_is_err_and c.from_residual.result c.from_residual.ensures.1).1 tt
+
+pub returns-in_err-write_udata-clause-ok : goal.returns-in_err-write_udata-clause-ok
+returns-in_err-write_udata-clause-ok g c = rw (err_from_is_err_and c.from_residual-in_err-write_udata.result c.from_residual-in_err-write_udata.ensures.1).1 tt
+
+pub returns-in_err-write_udata-clause-sound : goal.returns-in_err-write_udata-clause-sound
+returns-in_err-write_udata-clause-sound g c = rw (err_from_is_err_and c.from_residual-in_err-write_udata.result c.from_residual-in_err-write_udata.ensures.1).1 tt
+
+pub returns-in_err-write_udata-clause-same : goal.returns-in_err-write_udata-clause-same
+returns-in_err-write_udata-clause-same g c = c.in_err-write_udata.ensures.same
+
+pub returns-clause-same : goal.returns-clause-same
+returns-clause-same g c = IsSameWriter-trans c.in_ok-write_udata.ensures.same c.write_address.ensures.same

@@ -1,6 +1,6 @@
 use Rattle.std.proofs.lemmas.Result.{err_from_is_err_and}
 use Rattle.dw_writer.proofs.Outcomes.{OnOk-map, IfErr-map}
-use Rattle.dw_writer.proofs.Steps.{Appends-then}
+use Rattle.dw_writer.proofs.Steps.{Appends-then, IsSameWriter-trans}
 use Rattle.dw_lists.proofs.Refusals.{end_first, end_refused, ends_none}
 use Rattle.dw_lists.proofs.item.write_ends.Goals as goal
 
@@ -22,3 +22,15 @@ pub returns-clause-err : goal.returns-clause-err
 returns-clause-err g c =
     IfErr-map c.write_address-2.result c.write_address-2.ensures.err
     (end_refused (g.W.Writer.meaning c.args.w.now) (g.W.Writer.meaning c.write_address.new.self) c.in_ok-write_address.ensures.same c.args.address_size (g.W.Writer.meaning c.write_address-2.new.self) c.args.begin c.args.end)
+
+pub returns-in_err-write_address-clause-ok : goal.returns-in_err-write_address-clause-ok
+returns-in_err-write_address-clause-ok g c = rw (err_from_is_err_and c.from_residual.result c.from_residual.ensures.1).1 tt
+
+pub returns-in_err-write_address-clause-sound : goal.returns-in_err-write_address-clause-sound
+returns-in_err-write_address-clause-sound g c = rw (err_from_is_err_and c.from_residual.result c.from_residual.ensures.1).1 tt
+
+pub returns-in_err-write_address-clause-same : goal.returns-in_err-write_address-clause-same
+returns-in_err-write_address-clause-same g c = c.in_err-write_address.ensures.same
+
+pub returns-clause-same : goal.returns-clause-same
+returns-clause-same g c = IsSameWriter-trans c.in_ok-write_address.ensures.same c.write_address-2.ensures.same

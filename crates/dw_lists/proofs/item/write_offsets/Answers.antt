@@ -4,6 +4,7 @@ use Rattle.dw_lists.specs.Kinds.{range_kinds}
 use Rattle.dw_lists.proofs.Causes.{OnOk-both}
 use Rattle.dw_lists.proofs.Spans.{written-number, old_pair}
 use Rattle.dw_lists.proofs.Refusals.{offset_first, offset_refused, offsets_none}
+use Rattle.dw_writer.proofs.Steps.{IsSameWriter-trans}
 use Rattle.dw_lists.proofs.item.write_offsets.Goals as goal
 
 pub returns-in_err-write_udata-clause-err : goal.returns-in_err-write_udata-clause-err
@@ -28,3 +29,15 @@ returns-clause-err g c =
     let m = g.W.Writer.meaning c.args.w.now in
     IfErr-map c.write_udata-2.result c.write_udata-2.ensures.err
     (offset_refused m (g.W.Writer.meaning c.write_udata.new.self) c.in_ok-write_udata.ensures.same c.args.address_size (g.W.Writer.meaning c.write_udata-2.new.self) m.is_plain c.args.begin c.args.end)
+
+pub returns-in_err-write_udata-clause-ok : goal.returns-in_err-write_udata-clause-ok
+returns-in_err-write_udata-clause-ok g c = rw (err_from_is_err_and c.from_residual.result c.from_residual.ensures.1).1 tt
+
+pub returns-in_err-write_udata-clause-sound : goal.returns-in_err-write_udata-clause-sound
+returns-in_err-write_udata-clause-sound g c = rw (err_from_is_err_and c.from_residual.result c.from_residual.ensures.1).1 tt
+
+pub returns-in_err-write_udata-clause-same : goal.returns-in_err-write_udata-clause-same
+returns-in_err-write_udata-clause-same g c = c.in_err-write_udata.ensures.same
+
+pub returns-clause-same : goal.returns-clause-same
+returns-clause-same g c = IsSameWriter-trans c.in_ok-write_udata.ensures.same c.write_udata-2.ensures.same

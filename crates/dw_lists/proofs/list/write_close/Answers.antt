@@ -1,6 +1,6 @@
 use Rattle.std.proofs.lemmas.Result.{err_from_is_err_and}
 use Rattle.dw_writer.proofs.Outcomes.{OnOk-map, IfErr-map}
-use Rattle.dw_writer.proofs.Steps.{Appends-then}
+use Rattle.dw_writer.proofs.Steps.{Appends-then, IsSameWriter-trans}
 use Rattle.dw_lists.proofs.Causes.{OnOk-both}
 use Rattle.dw_lists.proofs.Spans.{written-number}
 use Rattle.dw_lists.proofs.Refusals.{width_none, zero_first, zero_second}
@@ -24,3 +24,15 @@ pub returns-clause-err : goal.returns-clause-err
 returns-clause-err g c =
     IfErr-map c.write_udata-2.result c.write_udata-2.ensures.err
     (zero_second (g.W.Writer.meaning c.args.w.now) (g.W.Writer.meaning c.write_udata.new.self) (g.W.Writer.meaning c.write_udata-2.new.self) c.args.address_size c.in_ok-write_udata.ensures.same)
+
+pub returns-in_err-write_udata-clause-ok : goal.returns-in_err-write_udata-clause-ok
+returns-in_err-write_udata-clause-ok g c = rw (err_from_is_err_and c.from_residual.result c.from_residual.ensures.1).1 tt
+
+pub returns-in_err-write_udata-clause-sound : goal.returns-in_err-write_udata-clause-sound
+returns-in_err-write_udata-clause-sound g c = rw (err_from_is_err_and c.from_residual.result c.from_residual.ensures.1).1 tt
+
+pub returns-in_err-write_udata-clause-same : goal.returns-in_err-write_udata-clause-same
+returns-in_err-write_udata-clause-same g c = c.in_err-write_udata.ensures.same
+
+pub returns-clause-same : goal.returns-clause-same
+returns-clause-same g c = IsSameWriter-trans c.in_ok-write_udata.ensures.same c.write_udata-2.ensures.same

@@ -52,3 +52,9 @@ returns-else-encoding-eq5-clause-err g c =
     let known = known_by g.P.EntryPlaces.places c.args.places in
     let is = not_five c.args.encoding c.if-encoding-eq5.false in
     list_refused c.args.encoding false is c.write_old_list.result (g.W.Writer.meaning c.args.w.now) (g.W.Writer.meaning c.write_old_list.new.w) known (g.W.Writer.meaning c.args.w.now).is_plain c.args.has_base (g.L.ItemList.parts c.args.list.now) c.write_old_list.ensures.err
+
+pub returns-then-encoding-eq5-clause-same : goal.returns-then-encoding-eq5-clause-same
+returns-then-encoding-eq5-clause-same g c = c.write_new_list.ensures.same
+
+pub returns-else-encoding-eq5-clause-same : goal.returns-else-encoding-eq5-clause-same
+returns-else-encoding-eq5-clause-same g c = c.write_old_list.ensures.same

@@ -127,3 +127,12 @@ returns-clause-err g c =
 
 pub returns-clause-same : goal.returns-clause-same
 returns-clause-same g c = IsSameWriter-trans c.loop-index.invariant.written.text.same c.write_end.ensures.same
+
+pub returns-in_err-write_new_part-clause-ok : goal.returns-in_err-write_new_part-clause-ok
+returns-in_err-write_new_part-clause-ok g c = rw (err_from_is_err_and c.from_residual.result c.from_residual.ensures.1).1 tt
+
+pub returns-in_err-write_new_part-clause-readable : goal.returns-in_err-write_new_part-clause-readable
+returns-in_err-write_new_part-clause-readable g c = rw (err_from_is_err_and c.from_residual.result c.from_residual.ensures.1).1 tt
+
+pub returns-in_err-write_new_part-clause-sound : goal.returns-in_err-write_new_part-clause-sound
+returns-in_err-write_new_part-clause-sound g c = rw (err_from_is_err_and c.from_residual.result c.from_residual.ensures.1).1 tt

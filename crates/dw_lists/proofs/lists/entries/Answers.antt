@@ -92,3 +92,24 @@ returns-clause-end g c =
     let k = kinds_of g.L.ItemList.is_location in
     let past : length xs ≤ c.loop-list.list-index = omega (arith, c.loop-list-test.false, length-map c.args.lists.now f) in
     end_ended true v place k xs c.loop-list.list-index past c.loop-list.at _ c.loop-list.invariant.end
+
+pub returns-in_err-push-clause-places : goal.returns-in_err-push-clause-places
+returns-in_err-push-clause-places g c = rw (err_from_is_err_and c.from_residual.result c.from_residual.ensures.1).1 tt
+
+pub returns-in_err-push-clause-end : goal.returns-in_err-push-clause-end
+returns-in_err-push-clause-end g c = rw (err_from_is_err_and c.from_residual.result c.from_residual.ensures.1).1 tt
+
+pub returns-in_err-size-clause-places : goal.returns-in_err-size-clause-places
+returns-in_err-size-clause-places g c = rw (err_from_is_err_and c.from_residual-in_err-size.result c.from_residual-in_err-size.ensures.1).1 tt
+
+pub returns-in_err-size-clause-end : goal.returns-in_err-size-clause-end
+returns-in_err-size-clause-end g c = rw (err_from_is_err_and c.from_residual-in_err-size.result c.from_residual-in_err-size.ensures.1).1 tt
+
+pub returns-in_err-at-clause-places : goal.returns-in_err-at-clause-places
+returns-in_err-at-clause-places g c = rw (err_from_is_err_and c.from_residual-in_err-at.result c.from_residual-in_err-at.ensures.1).1 tt
+
+pub returns-in_err-at-clause-end : goal.returns-in_err-at-clause-end
+returns-in_err-at-clause-end g c = rw (err_from_is_err_and c.from_residual-in_err-at.result c.from_residual-in_err-at.ensures.1).1 tt
+
+pub returns-clause-err : goal.returns-clause-err
+returns-clause-err g c = tt

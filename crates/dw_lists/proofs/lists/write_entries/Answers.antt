@@ -70,3 +70,15 @@ returns-clause-err g c =
     let size : fields_size + c.in_ok-entries.end ≡ (body_draft loc v place xs).size = omega (arith, body_size loc v place xs, word, c.in_ok-entries.ensures.end) in
     let entries = c.as_slice.ensures.value ∙ c.in_ok-entries.ensures.places ∙ ap (λ n. places_from true v place (kinds_of loc) n xs) word in
     IfErr-map c.write_head.result c.write_head.ensures.err (head_refused loc v known xs (g.W.Writer.meaning c.args.w.now) (g.W.Writer.meaning c.write_head.new.w) _ _ size entries)
+
+pub returns-in_err-entries-clause-ok : goal.returns-in_err-entries-clause-ok
+returns-in_err-entries-clause-ok g c = rw (err_from_is_err_and c.from_residual.result c.from_residual.ensures.1).1 tt
+
+pub returns-in_err-entries-clause-base : goal.returns-in_err-entries-clause-base
+returns-in_err-entries-clause-base g c = rw (err_from_is_err_and c.from_residual.result c.from_residual.ensures.1).1 tt
+
+pub returns-in_err-entries-clause-sound : goal.returns-in_err-entries-clause-sound
+returns-in_err-entries-clause-sound g c = rw (err_from_is_err_and c.from_residual.result c.from_residual.ensures.1).1 tt
+
+pub returns-clause-same : goal.returns-clause-same
+returns-clause-same g c = c.write_head.ensures.same

@@ -56,3 +56,54 @@ returns-clause-base g c = omega (arith, c.len-base.ensures, c.in_ok-write_fields
 pub returns-clause-sound : goal.returns-clause-sound
 returns-clause-sound g c =
     head_none c.args.encoding.format c.in_ok-size.size _ c.args.entries.now c.in_ok-size.ensures.ok (size_none c.in_ok-size.size (omega arith)) c.in_ok-write_length.ensures.sound c.in_ok-write_words.ensures.sound
+
+pub returns-in_err-size-clause-ok : goal.returns-in_err-size-clause-ok
+returns-in_err-size-clause-ok g c = rw (err_from_is_err_and c.from_residual.result c.from_residual.ensures.1).1 tt
+
+pub returns-in_err-size-clause-base : goal.returns-in_err-size-clause-base
+returns-in_err-size-clause-base g c = rw (err_from_is_err_and c.from_residual.result c.from_residual.ensures.1).1 tt
+
+pub returns-in_err-size-clause-sound : goal.returns-in_err-size-clause-sound
+returns-in_err-size-clause-sound g c = rw (err_from_is_err_and c.from_residual.result c.from_residual.ensures.1).1 tt
+
+pub returns-in_err-write_length-clause-ok : goal.returns-in_err-write_length-clause-ok
+returns-in_err-write_length-clause-ok g c = rw (err_from_is_err_and c.from_residual-in_err-write_length.result c.from_residual-in_err-write_length.ensures.1).1 tt
+
+pub returns-in_err-write_length-clause-base : goal.returns-in_err-write_length-clause-base
+returns-in_err-write_length-clause-base g c = rw (err_from_is_err_and c.from_residual-in_err-write_length.result c.from_residual-in_err-write_length.ensures.1).1 tt
+
+pub returns-in_err-write_length-clause-sound : goal.returns-in_err-write_length-clause-sound
+returns-in_err-write_length-clause-sound g c = rw (err_from_is_err_and c.from_residual-in_err-write_length.result c.from_residual-in_err-write_length.ensures.1).1 tt
+
+pub returns-in_err-write_fields-clause-ok : goal.returns-in_err-write_fields-clause-ok
+returns-in_err-write_fields-clause-ok g c = rw (err_from_is_err_and c.from_residual-in_err-write_fields.result c.from_residual-in_err-write_fields.ensures.1).1 tt
+
+pub returns-in_err-write_fields-clause-base : goal.returns-in_err-write_fields-clause-base
+returns-in_err-write_fields-clause-base g c = rw (err_from_is_err_and c.from_residual-in_err-write_fields.result c.from_residual-in_err-write_fields.ensures.1).1 tt
+
+pub returns-in_err-write_fields-clause-sound : goal.returns-in_err-write_fields-clause-sound
+returns-in_err-write_fields-clause-sound g c = rw (err_from_is_err_and c.from_residual-in_err-write_fields.result c.from_residual-in_err-write_fields.ensures.1).1 tt
+
+pub returns-in_err-write_words-clause-ok : goal.returns-in_err-write_words-clause-ok
+returns-in_err-write_words-clause-ok g c = rw (err_from_is_err_and c.from_residual-in_err-write_words.result c.from_residual-in_err-write_words.ensures.1).1 tt
+
+pub returns-in_err-write_words-clause-base : goal.returns-in_err-write_words-clause-base
+returns-in_err-write_words-clause-base g c = rw (err_from_is_err_and c.from_residual-in_err-write_words.result c.from_residual-in_err-write_words.ensures.1).1 tt
+
+pub returns-in_err-write_words-clause-sound : goal.returns-in_err-write_words-clause-sound
+returns-in_err-write_words-clause-sound g c = rw (err_from_is_err_and c.from_residual-in_err-write_words.result c.from_residual-in_err-write_words.ensures.1).1 tt
+
+pub returns-clause-err : goal.returns-clause-err
+returns-clause-err g c = tt
+
+pub returns-in_err-write_length-clause-same : goal.returns-in_err-write_length-clause-same
+returns-in_err-write_length-clause-same g c = c.in_err-write_length.ensures.same
+
+pub returns-in_err-write_fields-clause-same : goal.returns-in_err-write_fields-clause-same
+returns-in_err-write_fields-clause-same g c = IsSameWriter-trans c.in_ok-write_length.ensures.same c.in_err-write_fields.ensures.same
+
+pub returns-in_err-write_words-clause-same : goal.returns-in_err-write_words-clause-same
+returns-in_err-write_words-clause-same g c = IsSameWriter-trans c.in_ok-write_length.ensures.same (IsSameWriter-trans c.in_ok-write_fields.ensures.same c.in_err-write_words.ensures.same)
+
+pub returns-clause-same : goal.returns-clause-same
+returns-clause-same g c = IsSameWriter-trans c.in_ok-write_length.ensures.same (IsSameWriter-trans c.in_ok-write_fields.ensures.same c.in_ok-write_words.ensures.same)

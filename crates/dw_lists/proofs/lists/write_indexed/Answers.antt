@@ -10,6 +10,7 @@ use Rattle.dw_lists.specs.Causes.{Is, IsNone, lists_fail, entries_fail, table_fa
 use Rattle.dw_lists.proofs.Refusals.{weaker, refused_after}
 use Rattle.dw_lists.proofs.TableCauses.{entries_cause, lists_cause, new_none}
 use Rattle.dw_lists.proofs.Tables.{head_size, head_table, new_offsets_are}
+use Rattle.dw_writer.proofs.Steps.{IsSameWriter-trans}
 use Rattle.dw_lists.proofs.lists.write_indexed.Goals as goal
 
 pub returns-in_err-base-clause-err : goal.returns-in_err-base-clause-err
@@ -72,3 +73,39 @@ returns-clause-sound g c =
     new_none loc v known xs base m.is_plain c.in_ok-base.ensures.sound
     (subst (λ plain. IsNone (lists_fail v known plain true base xs)) c.in_ok-base.ensures.same.kind
     (subst (λ five. IsNone (lists_fail v known n.is_plain five base xs)) c.requires c.in_ok-places.ensures.sound))
+
+pub returns-in_err-base-clause-ok : goal.returns-in_err-base-clause-ok
+returns-in_err-base-clause-ok g c = rw (err_from_is_err_and c.from_residual.result c.from_residual.ensures.1).1 tt
+
+pub returns-in_err-base-clause-offsets : goal.returns-in_err-base-clause-offsets
+returns-in_err-base-clause-offsets g c = rw (err_from_is_err_and c.from_residual.result c.from_residual.ensures.1).1 tt
+
+pub returns-in_err-base-clause-readable : goal.returns-in_err-base-clause-readable
+returns-in_err-base-clause-readable g c = rw (err_from_is_err_and c.from_residual.result c.from_residual.ensures.1).1 tt
+
+pub returns-in_err-base-clause-sound : goal.returns-in_err-base-clause-sound
+returns-in_err-base-clause-sound g c = rw (err_from_is_err_and c.from_residual.result c.from_residual.ensures.1).1 tt
+
+pub returns-in_err-places-clause-ok : goal.returns-in_err-places-clause-ok
+returns-in_err-places-clause-ok g c = rw (err_from_is_err_and c.from_residual-in_err-places.result c.from_residual-in_err-places.ensures.1).1 tt
+
+pub returns-in_err-places-clause-offsets : goal.returns-in_err-places-clause-offsets
+returns-in_err-places-clause-offsets g c = rw (err_from_is_err_and c.from_residual-in_err-places.result c.from_residual-in_err-places.ensures.1).1 tt
+
+pub returns-in_err-places-clause-readable : goal.returns-in_err-places-clause-readable
+returns-in_err-places-clause-readable g c = rw (err_from_is_err_and c.from_residual-in_err-places.result c.from_residual-in_err-places.ensures.1).1 tt
+
+pub returns-in_err-places-clause-sound : goal.returns-in_err-places-clause-sound
+returns-in_err-places-clause-sound g c = rw (err_from_is_err_and c.from_residual-in_err-places.result c.from_residual-in_err-places.ensures.1).1 tt
+
+pub returns-clause-err : goal.returns-clause-err
+returns-clause-err g c = tt
+
+pub returns-in_err-base-clause-same : goal.returns-in_err-base-clause-same
+returns-in_err-base-clause-same g c = c.in_err-base.ensures.same
+
+pub returns-in_err-places-clause-same : goal.returns-in_err-places-clause-same
+returns-in_err-places-clause-same g c = IsSameWriter-trans c.in_ok-base.ensures.same c.in_err-places.ensures.same
+
+pub returns-clause-same : goal.returns-clause-same
+returns-clause-same g c = IsSameWriter-trans c.in_ok-base.ensures.same c.in_ok-places.ensures.same

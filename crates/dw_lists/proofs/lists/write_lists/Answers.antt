@@ -102,3 +102,30 @@ returns-clause-places g c =
     let k = kinds_of g.L.ItemList.is_location in
     let past : length xs ≤ c.loop-list.list-index = omega (arith, c.loop-list-test.false, length-map c.args.lists.now f) in
     places_ended (is_five v) v place k xs c.loop-list.list-index past (g.W.Writer.meaning c.loop-list.w).size c.loop-list.all.items _ c.loop-list.invariant.places
+
+pub returns-in_err-push-clause-ok : goal.returns-in_err-push-clause-ok
+returns-in_err-push-clause-ok g c = rw (err_from_is_err_and c.from_residual.result c.from_residual.ensures.1).1 tt
+
+pub returns-in_err-push-clause-places : goal.returns-in_err-push-clause-places
+returns-in_err-push-clause-places g c = rw (err_from_is_err_and c.from_residual.result c.from_residual.ensures.1).1 tt
+
+pub returns-in_err-push-clause-readable : goal.returns-in_err-push-clause-readable
+returns-in_err-push-clause-readable g c = rw (err_from_is_err_and c.from_residual.result c.from_residual.ensures.1).1 tt
+
+pub returns-in_err-push-clause-sound : goal.returns-in_err-push-clause-sound
+returns-in_err-push-clause-sound g c = rw (err_from_is_err_and c.from_residual.result c.from_residual.ensures.1).1 tt
+
+pub returns-in_err-write_list-clause-ok : goal.returns-in_err-write_list-clause-ok
+returns-in_err-write_list-clause-ok g c = rw (err_from_is_err_and c.from_residual-in_err-write_list.result c.from_residual-in_err-write_list.ensures.1).1 tt
+
+pub returns-in_err-write_list-clause-places : goal.returns-in_err-write_list-clause-places
+returns-in_err-write_list-clause-places g c = rw (err_from_is_err_and c.from_residual-in_err-write_list.result c.from_residual-in_err-write_list.ensures.1).1 tt
+
+pub returns-in_err-write_list-clause-readable : goal.returns-in_err-write_list-clause-readable
+returns-in_err-write_list-clause-readable g c = rw (err_from_is_err_and c.from_residual-in_err-write_list.result c.from_residual-in_err-write_list.ensures.1).1 tt
+
+pub returns-in_err-write_list-clause-sound : goal.returns-in_err-write_list-clause-sound
+returns-in_err-write_list-clause-sound g c = rw (err_from_is_err_and c.from_residual-in_err-write_list.result c.from_residual-in_err-write_list.ensures.1).1 tt
+
+pub returns-clause-err : goal.returns-clause-err
+returns-clause-err g c = tt

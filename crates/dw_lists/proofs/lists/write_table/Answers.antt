@@ -132,3 +132,42 @@ returns-in_ok-places-in-2-to-4-clause-ok g c =
     let some : 0 < length xs = omega (arith, filled, length-map c.args.lists.now g.L.ItemList.parts) in
     let four = four_is v (omega (arith, c.in-2-to-4)) in
     Drafts-is c.in_ok-places-in-2-to-4.ensures.ok (ap (λ b. lists_draft b v place (kinds_of loc) xs) four ∙ old_table_is loc v place four xs some)
+
+pub returns-in_err-places-in-2-to-4-clause-ok : goal.returns-in_err-places-in-2-to-4-clause-ok
+returns-in_err-places-in-2-to-4-clause-ok g c = rw (err_from_is_err_and c.from_residual.result c.from_residual.ensures.1).1 tt
+
+pub returns-in_err-places-in-2-to-4-clause-offsets : goal.returns-in_err-places-in-2-to-4-clause-offsets
+returns-in_err-places-in-2-to-4-clause-offsets g c = rw (err_from_is_err_and c.from_residual.result c.from_residual.ensures.1).1 tt
+
+pub returns-in_err-places-in-2-to-4-clause-readable : goal.returns-in_err-places-in-2-to-4-clause-readable
+returns-in_err-places-in-2-to-4-clause-readable g c = rw (err_from_is_err_and c.from_residual.result c.from_residual.ensures.1).1 tt
+
+pub returns-in_err-places-in-2-to-4-clause-sound : goal.returns-in_err-places-in-2-to-4-clause-sound
+returns-in_err-places-in-2-to-4-clause-sound g c = rw (err_from_is_err_and c.from_residual.result c.from_residual.ensures.1).1 tt
+
+pub returns-then-is_empty-clause-err : goal.returns-then-is_empty-clause-err
+returns-then-is_empty-clause-err g c = tt
+
+pub returns-in_ok-places-in-2-to-4-clause-err : goal.returns-in_ok-places-in-2-to-4-clause-err
+returns-in_ok-places-in-2-to-4-clause-err g c = tt
+
+pub returns-in_default-clause-ok : goal.returns-in_default-clause-ok
+returns-in_default-clause-ok g c = tt
+
+pub returns-in_default-clause-offsets : goal.returns-in_default-clause-offsets
+returns-in_default-clause-offsets g c = tt
+
+pub returns-in_default-clause-readable : goal.returns-in_default-clause-readable
+returns-in_default-clause-readable g c = tt
+
+pub returns-in_default-clause-sound : goal.returns-in_default-clause-sound
+returns-in_default-clause-sound g c = tt
+
+pub returns-in_ok-places-in-2-to-4-clause-same : goal.returns-in_ok-places-in-2-to-4-clause-same
+returns-in_ok-places-in-2-to-4-clause-same g c = c.in_ok-places-in-2-to-4.ensures.same
+
+pub returns-in_err-places-in-2-to-4-clause-same : goal.returns-in_err-places-in-2-to-4-clause-same
+returns-in_err-places-in-2-to-4-clause-same g c = c.in_err-places-in-2-to-4.ensures.same
+
+pub returns-in-5-clause-same : goal.returns-in-5-clause-same
+returns-in-5-clause-same g c = c.write_indexed.ensures.same

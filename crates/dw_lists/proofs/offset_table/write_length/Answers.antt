@@ -4,6 +4,8 @@ use Rattle.dw_lists.specs.Causes.{Is, length_fails}
 use Rattle.dw_lists.proofs.Causes.{OnOk-both}
 use Rattle.dw_lists.proofs.Refusals.{length_none, length_refused, refused_after}
 use Rattle.dw_lists.proofs.Tables.{written-length, opened_size}
+use Rattle.std.proofs.lemmas.Result.{err_from_is_err_and}
+use Rattle.dw_writer.proofs.Steps.{IsSameWriter-trans}
 use Rattle.dw_lists.proofs.offset_table.write_length.Goals as goal
 
 pub returns-clause-ok : goal.returns-clause-ok
@@ -23,3 +25,15 @@ returns-clause-err g c =
     let within = opened_size c.args.format c.in_ok-at.at c.in_ok-at.ensures.ok c.in_ok-at.ensures.place in
     IfErr-map c.write_initial_length_at.result c.write_initial_length_at.ensures.err
     (λ e h. refused_after a b d fails fails c.in_ok-at.ensures.ok.same (λ err k. k) e (length_refused b d c.args.format c.args.length c.in_ok-at.at (word_of c.args.format) within e h))
+
+pub returns-in_err-at-clause-ok : goal.returns-in_err-at-clause-ok
+returns-in_err-at-clause-ok g c = rw (err_from_is_err_and c.from_residual.result c.from_residual.ensures.1).1 tt
+
+pub returns-in_err-at-clause-sound : goal.returns-in_err-at-clause-sound
+returns-in_err-at-clause-sound g c = rw (err_from_is_err_and c.from_residual.result c.from_residual.ensures.1).1 tt
+
+pub returns-in_err-at-clause-same : goal.returns-in_err-at-clause-same
+returns-in_err-at-clause-same g c = c.in_err-at.ensures.same
+
+pub returns-clause-same : goal.returns-clause-same
+returns-clause-same g c = IsSameWriter-trans c.in_ok-at.ensures.same c.write_initial_length_at.ensures.same

@@ -36,3 +36,12 @@ returns-in_err-write_udata-clause-err g c =
     let p = err_from_is_err_and c.from_residual.result c.from_residual.ensures.1 in
     let refused = rw c.word_size.ensures at c.in_err-write_udata.ensures.err in
     rw (p.1, p.2) (word_refused (g.W.Writer.meaning c.args.w.now) (g.W.Writer.meaning c.loop-word.w) (g.W.Writer.meaning c.write_udata.new.self) c.args.format xs c.loop-word.word-index below c.loop-word.invariant.written.same c.in_err-write_udata.field-0.0 refused)
+
+pub returns-in_err-write_udata-clause-ok : goal.returns-in_err-write_udata-clause-ok
+returns-in_err-write_udata-clause-ok g c = rw (err_from_is_err_and c.from_residual.result c.from_residual.ensures.1).1 tt
+
+pub returns-in_err-write_udata-clause-sound : goal.returns-in_err-write_udata-clause-sound
+returns-in_err-write_udata-clause-sound g c = rw (err_from_is_err_and c.from_residual.result c.from_residual.ensures.1).1 tt
+
+pub returns-clause-err : goal.returns-clause-err
+returns-clause-err g c = tt

@@ -6,6 +6,7 @@ use Rattle.dw_expr.specs.Places.{known_by, place_by}
 use Rattle.dw_lists.proofs.Causes.{IfOk-map}
 use Rattle.dw_lists.proofs.Located.{located_sum}
 use Rattle.dw_lists.proofs.Refusals.{passes}
+use Rattle.std.proofs.lemmas.Result.{err_from_is_err_and}
 use Rattle.dw_lists.proofs.part.located_size.Goals as goal
 
 pub returns-clause-ok : goal.returns-clause-ok
@@ -20,3 +21,12 @@ returns-clause-err g c =
     let counted = ap (λ n. length (uleb n)) c.in_ok-size.ensures.ok in
     rw c.in-Some.is (IfErr-map c.sum.result c.sum.ensures.err
     (λ e k. or_left _ _ (passes _ _ e k (omega (arith, counted, c.uleb128_size.ensures.size, c.in_ok-size.ensures.ok, located_sum c.args.encoding place c.in-Some.expression.now)))))
+
+pub returns-in_err-size-clause-ok : goal.returns-in_err-size-clause-ok
+returns-in_err-size-clause-ok g c = rw (err_from_is_err_and c.from_residual.result c.from_residual.ensures.1).1 tt
+
+pub returns-in_err-size-clause-sound : goal.returns-in_err-size-clause-sound
+returns-in_err-size-clause-sound g c = rw (err_from_is_err_and c.from_residual.result c.from_residual.ensures.1).1 tt
+
+pub returns-in_default-clause-err : goal.returns-in_default-clause-err
+returns-in_default-clause-err g c = tt

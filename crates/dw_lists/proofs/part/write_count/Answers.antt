@@ -11,3 +11,9 @@ returns-then-encoding-eq5-clause-ok g c =
 pub returns-else-encoding-eq5-clause-ok : goal.returns-else-encoding-eq5-clause-ok
 returns-else-encoding-eq5-clause-ok g c =
     OnOk-both c.write_udata.result c.write_udata.ensures.fits c.write_udata.ensures.ok (λ fits p. counted_old c.args.encoding c.args.count (not_five c.args.encoding c.if-encoding-eq5.false) fits p)
+
+pub returns-then-encoding-eq5-clause-same : goal.returns-then-encoding-eq5-clause-same
+returns-then-encoding-eq5-clause-same g c = c.write_uleb128.ensures.same
+
+pub returns-else-encoding-eq5-clause-same : goal.returns-else-encoding-eq5-clause-same
+returns-else-encoding-eq5-clause-same g c = c.write_udata.ensures.same

@@ -10,6 +10,7 @@ use Rattle.dw_lists.specs.Texts.{IsSpelled}
 use Rattle.dw_lists.specs.Causes.{Is, IsNone, old_span_fails, located_fails, old_fails}
 use Rattle.dw_lists.proofs.Refusals.{weaker, refused_after}
 use Rattle.dw_lists.proofs.Located.{part_drafts, old_part_none, in_old_span, in_old_expression}
+use Rattle.dw_writer.proofs.Steps.{IsSameWriter-trans}
 use Rattle.dw_lists.proofs.part.write_old_part.Goals as goal
 
 pub returns-in_err-write_old_span-clause-err : goal.returns-in_err-write_old_span-clause-err
@@ -56,3 +57,18 @@ returns-clause-err g c =
     (refused_after m n (g.W.Writer.meaning c.write_located.new.w) (Is (located_fails c.args.encoding known n.is_plain five x)) (Is (old_fails c.args.encoding known m.is_plain c.args.has_base part)) c.in_ok-write_old_span.ensures.same
     (λ e h. in_old_expression c.args.encoding known m.is_plain x c.args.has_base c.args.range e
     (subst (λ five. Is (located_fails c.args.encoding known m.is_plain five x) e) c.requires (subst (λ plain. Is (located_fails c.args.encoding known plain five x) e) c.in_ok-write_old_span.ensures.same.kind h))))
+
+pub returns-in_err-write_old_span-clause-ok : goal.returns-in_err-write_old_span-clause-ok
+returns-in_err-write_old_span-clause-ok g c = rw (err_from_is_err_and c.from_residual.result c.from_residual.ensures.1).1 tt
+
+pub returns-in_err-write_old_span-clause-readable : goal.returns-in_err-write_old_span-clause-readable
+returns-in_err-write_old_span-clause-readable g c = rw (err_from_is_err_and c.from_residual.result c.from_residual.ensures.1).1 tt
+
+pub returns-in_err-write_old_span-clause-sound : goal.returns-in_err-write_old_span-clause-sound
+returns-in_err-write_old_span-clause-sound g c = rw (err_from_is_err_and c.from_residual.result c.from_residual.ensures.1).1 tt
+
+pub returns-in_err-write_old_span-clause-same : goal.returns-in_err-write_old_span-clause-same
+returns-in_err-write_old_span-clause-same g c = c.in_err-write_old_span.ensures.same
+
+pub returns-clause-same : goal.returns-clause-same
+returns-clause-same g c = IsSameWriter-trans c.in_ok-write_old_span.ensures.same c.write_located.ensures.same

@@ -37,3 +37,18 @@ returns-clause-err g c =
     let r = c.in-Some.range in
     rw c.in-Some.is (IfErr-map c.write_old.result c.write_old.ensures.err
     (weaker m (g.W.Writer.meaning c.write_old.new.w) (Is (numbers_fail m.is_plain w r)) (Is (old_span_fails base m.is_plain w (Some r))) (λ e h. or_right (form_fails base w r e) _ h)))
+
+pub returns-in_err-check_form-clause-ok : goal.returns-in_err-check_form-clause-ok
+returns-in_err-check_form-clause-ok g c = rw (err_from_is_err_and c.from_residual.result c.from_residual.ensures.1).1 tt
+
+pub returns-in_err-check_form-clause-sound : goal.returns-in_err-check_form-clause-sound
+returns-in_err-check_form-clause-sound g c = rw (err_from_is_err_and c.from_residual.result c.from_residual.ensures.1).1 tt
+
+pub returns-in_default-clause-ok : goal.returns-in_default-clause-ok
+returns-in_default-clause-ok g c = tt
+
+pub returns-in_default-clause-sound : goal.returns-in_default-clause-sound
+returns-in_default-clause-sound g c = tt
+
+pub returns-clause-same : goal.returns-clause-same
+returns-clause-same g c = c.write_old.ensures.same

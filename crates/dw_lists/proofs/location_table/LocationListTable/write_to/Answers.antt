@@ -56,3 +56,27 @@ returns-in_err-lists-clause-err g c =
     let err = c.in_err-lists.field-0.0 in
     refused_at c.from_residual.result _ err (p.1 ∙ ap Err p.2)
     (subst (λ ls. Refused old new (Is (table_fails true c.args.encoding known c.args.has_base old.is_plain (locations_in ls))) err) same c.in_err-lists.ensures.err)
+
+pub returns-in_err-lists-clause-ok : goal.returns-in_err-lists-clause-ok
+returns-in_err-lists-clause-ok g c = rw (err_from_is_err_and c.from_residual.result c.from_residual.ensures.1).1 tt
+
+pub returns-in_err-lists-clause-offsets : goal.returns-in_err-lists-clause-offsets
+returns-in_err-lists-clause-offsets g c = rw (err_from_is_err_and c.from_residual.result c.from_residual.ensures.1).1 tt
+
+pub returns-in_err-lists-clause-again : goal.returns-in_err-lists-clause-again
+returns-in_err-lists-clause-again g c = rw (err_from_is_err_and c.from_residual.result c.from_residual.ensures.1).1 tt
+
+pub returns-in_err-lists-clause-numbered : goal.returns-in_err-lists-clause-numbered
+returns-in_err-lists-clause-numbered g c = rw (err_from_is_err_and c.from_residual.result c.from_residual.ensures.1).1 tt
+
+pub returns-in_err-lists-clause-sound : goal.returns-in_err-lists-clause-sound
+returns-in_err-lists-clause-sound g c = rw (err_from_is_err_and c.from_residual.result c.from_residual.ensures.1).1 tt
+
+pub returns-clause-err : goal.returns-clause-err
+returns-clause-err g c = tt
+
+pub returns-in_err-lists-clause-same : goal.returns-in_err-lists-clause-same
+returns-in_err-lists-clause-same g c = c.in_err-lists.ensures.same
+
+pub returns-clause-same : goal.returns-clause-same
+returns-clause-same g c = c.in_ok-lists.ensures.same

@@ -4,6 +4,7 @@ use Rattle.dw_writer.proofs.Outcomes.{OnOk-map, IfErr-map}
 use Rattle.dw_lists.specs.Causes.{Is, IsNone, new_fails}
 use Rattle.dw_lists.proofs.Spans.{new_item}
 use Rattle.dw_lists.proofs.Refusals.{bytes_refused, refused_after}
+use Rattle.dw_writer.proofs.Steps.{IsSameWriter-trans}
 use Rattle.dw_lists.proofs.range.Range.write_new.Goals as goal
 
 pub returns-in_err-write_u8-clause-err : goal.returns-in_err-write_u8-clause-err
@@ -32,3 +33,18 @@ returns-clause-err g c =
     IfErr-map c.write_operands.result c.write_operands.ensures.err
     (refused_after m n (g.W.Writer.meaning c.write_operands.new.w) (Is (new_fails n.is_plain w r)) (Is (new_fails m.is_plain w r)) same
     (λ e h. subst (λ plain. Is (new_fails plain w r) e) same.kind h))
+
+pub returns-in_err-write_u8-clause-ok : goal.returns-in_err-write_u8-clause-ok
+returns-in_err-write_u8-clause-ok g c = rw (err_from_is_err_and c.from_residual.result c.from_residual.ensures.1).1 tt
+
+pub returns-in_err-write_u8-clause-ranged : goal.returns-in_err-write_u8-clause-ranged
+returns-in_err-write_u8-clause-ranged g c = rw (err_from_is_err_and c.from_residual.result c.from_residual.ensures.1).1 tt
+
+pub returns-in_err-write_u8-clause-sound : goal.returns-in_err-write_u8-clause-sound
+returns-in_err-write_u8-clause-sound g c = rw (err_from_is_err_and c.from_residual.result c.from_residual.ensures.1).1 tt
+
+pub returns-in_err-write_u8-clause-same : goal.returns-in_err-write_u8-clause-same
+returns-in_err-write_u8-clause-same g c = c.in_err-write_u8.ensures.same
+
+pub returns-clause-same : goal.returns-clause-same
+returns-clause-same g c = IsSameWriter-trans c.in_ok-write_u8.ensures.same c.write_operands.ensures.same

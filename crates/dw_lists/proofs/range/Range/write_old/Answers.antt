@@ -54,3 +54,18 @@ returns-in_ok-end-in-StartLength-clause-err g c =
     let m = g.W.Writer.meaning c.args.w.now in
     rw c.in-StartLength.is (IfErr-map c.write_ends-in-StartLength.result c.write_ends-in-StartLength.ensures.err
     (ends_further c.args.address_size c.in-StartLength.begin c.in_ok-end-in-StartLength.end c.in-StartLength.length c.in_ok-end-in-StartLength.ensures.ok m (g.W.Writer.meaning c.write_ends-in-StartLength.new.w) m.is_plain))
+
+pub returns-in_err-end-in-StartLength-clause-ok : goal.returns-in_err-end-in-StartLength-clause-ok
+returns-in_err-end-in-StartLength-clause-ok g c = rw (err_from_is_err_and c.from_residual.result c.from_residual.ensures.1).1 tt
+
+pub returns-in_err-end-in-StartLength-clause-sound : goal.returns-in_err-end-in-StartLength-clause-sound
+returns-in_err-end-in-StartLength-clause-sound g c = rw (err_from_is_err_and c.from_residual.result c.from_residual.ensures.1).1 tt
+
+pub returns-in-BaseAddress-clause-same : goal.returns-in-BaseAddress-clause-same
+returns-in-BaseAddress-clause-same g c = c.write_base.ensures.same
+
+pub returns-in-OffsetPair-clause-same : goal.returns-in-OffsetPair-clause-same
+returns-in-OffsetPair-clause-same g c = c.write_offsets.ensures.same
+
+pub returns-in-StartEnd-clause-same : goal.returns-in-StartEnd-clause-same
+returns-in-StartEnd-clause-same g c = c.write_ends.ensures.same

@@ -73,3 +73,21 @@ returns-in_ok-write_address-in-StartLength-clause-err g c =
     let m = g.W.Writer.meaning c.args.w.now in
     IfErr-map c.write_uleb128-in-StartLength.result c.write_uleb128-in-StartLength.ensures.err
     (close_refused m (g.W.Writer.meaning c.write_address-in-StartLength.new.self) (g.W.Writer.meaning c.write_uleb128-in-StartLength.new.self) (Is (new_fails m.is_plain c.args.address_size c.args.self.now)) c.in_ok-write_address-in-StartLength.ensures.same)
+
+pub returns-in_err-write_uleb128-in-OffsetPair-clause-ok : goal.returns-in_err-write_uleb128-in-OffsetPair-clause-ok
+returns-in_err-write_uleb128-in-OffsetPair-clause-ok g c = rw (err_from_is_err_and c.from_residual.result c.from_residual.ensures.1).1 tt
+
+pub returns-in_err-write_uleb128-in-OffsetPair-clause-ranged : goal.returns-in_err-write_uleb128-in-OffsetPair-clause-ranged
+returns-in_err-write_uleb128-in-OffsetPair-clause-ranged g c = rw (err_from_is_err_and c.from_residual.result c.from_residual.ensures.1).1 tt
+
+pub returns-in_err-write_uleb128-in-OffsetPair-clause-sound : goal.returns-in_err-write_uleb128-in-OffsetPair-clause-sound
+returns-in_err-write_uleb128-in-OffsetPair-clause-sound g c = rw (err_from_is_err_and c.from_residual.result c.from_residual.ensures.1).1 tt
+
+pub returns-in_err-write_address-in-StartLength-clause-ok : goal.returns-in_err-write_address-in-StartLength-clause-ok
+returns-in_err-write_address-in-StartLength-clause-ok g c = rw (err_from_is_err_and c.from_residual-in_err-write_address-in-StartLength.result c.from_residual-in_err-write_address-in-StartLength.ensures.1).1 tt
+
+pub returns-in_err-write_address-in-StartLength-clause-ranged : goal.returns-in_err-write_address-in-StartLength-clause-ranged
+returns-in_err-write_address-in-StartLength-clause-ranged g c = rw (err_from_is_err_and c.from_residual-in_err-write_address-in-StartLength.result c.from_residual-in_err-write_address-in-StartLength.ensures.1).1 tt
+
+pub returns-in_err-write_address-in-StartLength-clause-sound : goal.returns-in_err-write_address-in-StartLength-clause-sound
+returns-in_err-write_address-in-StartLength-clause-sound g c = rw (err_from_is_err_and c.from_residual-in_err-write_address-in-StartLength.result c.from_residual-in_err-write_address-in-StartLength.ensures.1).1 tt

@@ -1,11 +1,18 @@
 use Rattle.std.proofs.Common.{◌≡◌, ◌∙◌, ap, subst, true, false, None, All, Err}
 use Rattle.std.proofs.lemmas.Result.{err_from_is_err_and}
 use Rattle.dw_lists.specs.Causes.{Refused, Is, IsNone, table_fails}
-use Rattle.dw_lists.specs.Tables.{offsets_from, ranges_in, no_place, AreNumbered, IsReadAgain}
+use Rattle.dw_lists.specs.Pieces.{IsWritten}
+use Rattle.dw_lists.specs.Tables.{table_draft, offsets_from, ranges_in, no_place, AreNumbered, IsReadAgain}
 use Rattle.dw_lists.proofs.Causes.{refused_at}
 use Rattle.dw_lists.proofs.Numbered.{table_numbered}
 use Rattle.dw_lists.proofs.TableAgain.{read-again, ranges_shaped}
 use Rattle.dw_lists.proofs.table.RangeListTable.write_to.Goals as goal
+
+pub returns-clause-ok : goal.returns-clause-ok
+returns-clause-ok g c =
+    let same = c.as_slice-lists.ensures.keys ∙ c.self.view_is in
+    subst (λ ls. IsWritten (g.W.Writer.meaning c.args.w.now) (g.W.Writer.meaning c.write_table.new.w) (table_draft false c.args.encoding no_place (ranges_in ls))) same
+    c.in_ok-lists.ensures.ok.text
 
 pub returns-clause-offsets : goal.returns-clause-offsets
 returns-clause-offsets g c =
@@ -43,3 +50,27 @@ returns-in_err-lists-clause-err g c =
     let err = c.in_err-lists.field-0.0 in
     refused_at c.from_residual.result _ err (p.1 ∙ ap Err p.2)
     (subst (λ ls. Refused old new (Is (table_fails false c.args.encoding None c.args.has_base old.is_plain (ranges_in ls))) err) same c.in_err-lists.ensures.err)
+
+pub returns-in_err-lists-clause-ok : goal.returns-in_err-lists-clause-ok
+returns-in_err-lists-clause-ok g c = rw (err_from_is_err_and c.from_residual.result c.from_residual.ensures.1).1 tt
+
+pub returns-in_err-lists-clause-offsets : goal.returns-in_err-lists-clause-offsets
+returns-in_err-lists-clause-offsets g c = rw (err_from_is_err_and c.from_residual.result c.from_residual.ensures.1).1 tt
+
+pub returns-in_err-lists-clause-again : goal.returns-in_err-lists-clause-again
+returns-in_err-lists-clause-again g c = rw (err_from_is_err_and c.from_residual.result c.from_residual.ensures.1).1 tt
+
+pub returns-in_err-lists-clause-numbered : goal.returns-in_err-lists-clause-numbered
+returns-in_err-lists-clause-numbered g c = rw (err_from_is_err_and c.from_residual.result c.from_residual.ensures.1).1 tt
+
+pub returns-in_err-lists-clause-sound : goal.returns-in_err-lists-clause-sound
+returns-in_err-lists-clause-sound g c = rw (err_from_is_err_and c.from_residual.result c.from_residual.ensures.1).1 tt
+
+pub returns-clause-err : goal.returns-clause-err
+returns-clause-err g c = tt
+
+pub returns-in_err-lists-clause-same : goal.returns-in_err-lists-clause-same
+returns-in_err-lists-clause-same g c = c.in_err-lists.ensures.same
+
+pub returns-clause-same : goal.returns-clause-same
+returns-clause-same g c = c.in_ok-lists.ensures.same
