@@ -53,6 +53,12 @@ refused_before a b p q none f WriteFault h = absurd (clash (p WriteFault) none h
     clash false none h = cc
 refused_before a b p q none f e h = f e h
 
+-- bytes alone are refused, whatever causes there are
+pub bytes_alone : (a b : Meaning) (p : Error → Bool) (e : Error) → BytesRefused a b e → Refused a b p e
+bytes_alone a b p NoMemory h = tt
+bytes_alone a b p WriteFault h = h
+bytes_alone a b p _ h = absurd h
+
 -- files: their names and their texts
 module _ (w : ℕ) (strings line_strings : List (List ℕ)) (columns : Columns) (f : FileEntry) where
   pub file_name_refused : (a b : Meaning) (e : Error) → Refused a b (name_fails w strings line_strings a.is_plain f.name) e → Refused a b (file_fails w strings line_strings a.is_plain columns f) e

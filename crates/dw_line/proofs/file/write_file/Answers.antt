@@ -60,3 +60,15 @@ returns-clause-sound g c =
     let sound = rw c.is_some.ensures at c.write_source.ensures.sound in
     OnOk-map c.write_source.result sound
     (file_sound (word_of c.args.format) c.args.strings.now c.args.line_strings.now c.args.columns c.args.file.now same c.in_ok-write_name.ensures.sound)
+
+pub returns-in_err-write_name-clause-ok : goal.returns-in_err-write_name-clause-ok
+returns-in_err-write_name-clause-ok g c = rw (err_from_is_err_and c.from_residual.result c.from_residual.ensures.1).1 tt
+
+pub returns-in_err-write_name-clause-sound : goal.returns-in_err-write_name-clause-sound
+returns-in_err-write_name-clause-sound g c = rw (err_from_is_err_and c.from_residual.result c.from_residual.ensures.1).1 tt
+
+pub returns-in_err-write_file_numbers-clause-ok : goal.returns-in_err-write_file_numbers-clause-ok
+returns-in_err-write_file_numbers-clause-ok g c = rw (err_from_is_err_and c.from_residual-in_err-write_file_numbers.result c.from_residual-in_err-write_file_numbers.ensures.1).1 tt
+
+pub returns-in_err-write_file_numbers-clause-sound : goal.returns-in_err-write_file_numbers-clause-sound
+returns-in_err-write_file_numbers-clause-sound g c = rw (err_from_is_err_and c.from_residual-in_err-write_file_numbers.result c.from_residual-in_err-write_file_numbers.ensures.1).1 tt

@@ -50,3 +50,12 @@ returns-clause-sound g c =
 
 pub returns-in_err-write_file-clause-front : goal.returns-in_err-write_file-clause-front
 returns-in_err-write_file-clause-front g c = Front-then c.loop-file.invariant.front c.in_err-write_file.ensures.front
+
+pub returns-in_err-write_file-clause-ok : goal.returns-in_err-write_file-clause-ok
+returns-in_err-write_file-clause-ok g c = rw (err_from_is_err_and c.from_residual.result c.from_residual.ensures.1).1 tt
+
+pub returns-in_err-write_file-clause-sound : goal.returns-in_err-write_file-clause-sound
+returns-in_err-write_file-clause-sound g c = rw (err_from_is_err_and c.from_residual.result c.from_residual.ensures.1).1 tt
+
+pub returns-clause-err : goal.returns-clause-err
+returns-clause-err g c = tt

@@ -15,3 +15,12 @@ returns-then-is_needed-clause-front g c = Front-either _ _ c.write_uleb128.resul
 
 pub returns-clause-front : goal.returns-clause-front
 returns-clause-front g c = Front-none _
+
+pub returns-clause-err : goal.returns-clause-err
+returns-clause-err g c = tt
+
+pub returns-then-is_needed-clause-err : goal.returns-then-is_needed-clause-err
+returns-then-is_needed-clause-err g c = c.write_uleb128.ensures.err
+
+pub returns-then-is_needed-clause-same : goal.returns-then-is_needed-clause-same
+returns-then-is_needed-clause-same g c = c.write_uleb128.ensures.same

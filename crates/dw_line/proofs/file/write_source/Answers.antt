@@ -21,3 +21,12 @@ returns-then-not-is_needed-clause-front g c = Front-none _
 
 pub returns-in-None-clause-front : goal.returns-in-None-clause-front
 returns-in-None-clause-front g c = Front-either _ _ c.write_u8.result c.write_u8.ensures.ok c.write_u8.ensures.partly
+
+pub returns-then-not-is_needed-clause-err : goal.returns-then-not-is_needed-clause-err
+returns-then-not-is_needed-clause-err g c = tt
+
+pub returns-in-Some-clause-same : goal.returns-in-Some-clause-same
+returns-in-Some-clause-same g c = c.write_name.ensures.same
+
+pub returns-in-None-clause-same : goal.returns-in-None-clause-same
+returns-in-None-clause-same g c = c.write_u8.ensures.same

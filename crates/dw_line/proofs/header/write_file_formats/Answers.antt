@@ -119,3 +119,24 @@ returns-in_err-write_source_content-clause-err g c =
 
 pub returns-clause-err : goal.returns-clause-err
 returns-clause-err g c = IfErr-map c.write_uleb128.result c.write_uleb128.ensures.err (BytesRefused-after (g.W.Writer.meaning c.write_uleb128.new.self) (IsSameWriter-trans c.in_ok-write.ensures.same (IsSameWriter-trans c.in_ok-write_content.ensures.same (IsSameWriter-trans c.in_ok-write_content-2.ensures.same (IsSameWriter-trans c.in_ok-write_content-3.ensures.same (IsSameWriter-trans c.in_ok-write_content-4.ensures.same (IsSameWriter-trans c.in_ok-write_content-5.ensures.same c.in_ok-write_source_content.ensures.same)))))))
+
+pub returns-in_err-write-clause-ok : goal.returns-in_err-write-clause-ok
+returns-in_err-write-clause-ok g c = rw (err_from_is_err_and c.from_residual.result c.from_residual.ensures.1).1 tt
+
+pub returns-in_err-write_content-clause-ok : goal.returns-in_err-write_content-clause-ok
+returns-in_err-write_content-clause-ok g c = rw (err_from_is_err_and c.from_residual-in_err-write_content.result c.from_residual-in_err-write_content.ensures.1).1 tt
+
+pub returns-in_err-write_content-2-clause-ok : goal.returns-in_err-write_content-2-clause-ok
+returns-in_err-write_content-2-clause-ok g c = rw (err_from_is_err_and c.from_residual-in_err-write_content-2.result c.from_residual-in_err-write_content-2.ensures.1).1 tt
+
+pub returns-in_err-write_content-3-clause-ok : goal.returns-in_err-write_content-3-clause-ok
+returns-in_err-write_content-3-clause-ok g c = rw (err_from_is_err_and c.from_residual-in_err-write_content-3.result c.from_residual-in_err-write_content-3.ensures.1).1 tt
+
+pub returns-in_err-write_content-4-clause-ok : goal.returns-in_err-write_content-4-clause-ok
+returns-in_err-write_content-4-clause-ok g c = rw (err_from_is_err_and c.from_residual-in_err-write_content-4.result c.from_residual-in_err-write_content-4.ensures.1).1 tt
+
+pub returns-in_err-write_content-5-clause-ok : goal.returns-in_err-write_content-5-clause-ok
+returns-in_err-write_content-5-clause-ok g c = rw (err_from_is_err_and c.from_residual-in_err-write_content-5.result c.from_residual-in_err-write_content-5.ensures.1).1 tt
+
+pub returns-in_err-write_source_content-clause-ok : goal.returns-in_err-write_source_content-clause-ok
+returns-in_err-write_source_content-clause-ok g c = rw (err_from_is_err_and c.from_residual-in_err-write_source_content.result c.from_residual-in_err-write_source_content.ensures.1).1 tt

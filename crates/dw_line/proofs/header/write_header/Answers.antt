@@ -90,3 +90,27 @@ returns-clause-front g c =
 
 pub returns-clause-same : goal.returns-clause-same
 returns-clause-same g c = IsSameWriter-trans (written g c) c.write_initial_length_at.ensures.same
+
+pub returns-in_err-write_version-clause-ok : goal.returns-in_err-write_version-clause-ok
+returns-in_err-write_version-clause-ok g c = rw (err_from_is_err_and c.from_residual.result c.from_residual.ensures.1).1 tt
+
+pub returns-in_err-write_version-clause-sound : goal.returns-in_err-write_version-clause-sound
+returns-in_err-write_version-clause-sound g c = rw (err_from_is_err_and c.from_residual.result c.from_residual.ensures.1).1 tt
+
+pub returns-in_err-place-clause-ok : goal.returns-in_err-place-clause-ok
+returns-in_err-place-clause-ok g c = rw (err_from_is_err_and c.from_residual-in_err-place.result c.from_residual-in_err-place.ensures.1).1 tt
+
+pub returns-in_err-place-clause-sound : goal.returns-in_err-place-clause-sound
+returns-in_err-place-clause-sound g c = rw (err_from_is_err_and c.from_residual-in_err-place.result c.from_residual-in_err-place.ensures.1).1 tt
+
+pub returns-in_err-write_parameters-clause-ok : goal.returns-in_err-write_parameters-clause-ok
+returns-in_err-write_parameters-clause-ok g c = rw (err_from_is_err_and c.from_residual-in_err-write_parameters.result c.from_residual-in_err-write_parameters.ensures.1).1 tt
+
+pub returns-in_err-write_parameters-clause-sound : goal.returns-in_err-write_parameters-clause-sound
+returns-in_err-write_parameters-clause-sound g c = rw (err_from_is_err_and c.from_residual-in_err-write_parameters.result c.from_residual-in_err-write_parameters.ensures.1).1 tt
+
+pub returns-in_err-write_tables-clause-ok : goal.returns-in_err-write_tables-clause-ok
+returns-in_err-write_tables-clause-ok g c = rw (err_from_is_err_and c.from_residual-in_err-write_tables.result c.from_residual-in_err-write_tables.ensures.1).1 tt
+
+pub returns-in_err-write_tables-clause-sound : goal.returns-in_err-write_tables-clause-sound
+returns-in_err-write_tables-clause-sound g c = rw (err_from_is_err_and c.from_residual-in_err-write_tables.result c.from_residual-in_err-write_tables.ensures.1).1 tt

@@ -66,3 +66,21 @@ returns-in_err-write_file_formats-clause-same g c = IsSameWriter-trans c.in_ok-w
 
 pub returns-clause-same : goal.returns-clause-same
 returns-clause-same g c = IsSameWriter-trans c.in_ok-write_directory_formats.ensures.same (IsSameWriter-trans c.in_ok-write_names.ensures.same (IsSameWriter-trans c.in_ok-write_file_formats.ensures.same c.write_files.ensures.same))
+
+pub returns-in_err-write_directory_formats-clause-ok : goal.returns-in_err-write_directory_formats-clause-ok
+returns-in_err-write_directory_formats-clause-ok g c = rw (err_from_is_err_and c.from_residual.result c.from_residual.ensures.1).1 tt
+
+pub returns-in_err-write_directory_formats-clause-sound : goal.returns-in_err-write_directory_formats-clause-sound
+returns-in_err-write_directory_formats-clause-sound g c = rw (err_from_is_err_and c.from_residual.result c.from_residual.ensures.1).1 tt
+
+pub returns-in_err-write_names-clause-ok : goal.returns-in_err-write_names-clause-ok
+returns-in_err-write_names-clause-ok g c = rw (err_from_is_err_and c.from_residual-in_err-write_names.result c.from_residual-in_err-write_names.ensures.1).1 tt
+
+pub returns-in_err-write_names-clause-sound : goal.returns-in_err-write_names-clause-sound
+returns-in_err-write_names-clause-sound g c = rw (err_from_is_err_and c.from_residual-in_err-write_names.result c.from_residual-in_err-write_names.ensures.1).1 tt
+
+pub returns-in_err-write_file_formats-clause-ok : goal.returns-in_err-write_file_formats-clause-ok
+returns-in_err-write_file_formats-clause-ok g c = rw (err_from_is_err_and c.from_residual-in_err-write_file_formats.result c.from_residual-in_err-write_file_formats.ensures.1).1 tt
+
+pub returns-in_err-write_file_formats-clause-sound : goal.returns-in_err-write_file_formats-clause-sound
+returns-in_err-write_file_formats-clause-sound g c = rw (err_from_is_err_and c.from_residual-in_err-write_file_formats.result c.from_residual-in_err-write_file_formats.ensures.1).1 tt

@@ -71,3 +71,21 @@ returns-in_err-write_files-clause-same g c = IsSameWriter-trans c.in_ok-write_na
 
 pub returns-clause-same : goal.returns-clause-same
 returns-clause-same g c = IsSameWriter-trans c.in_ok-write_names.ensures.same (IsSameWriter-trans c.in_ok-write_u8.ensures.same (IsSameWriter-trans c.in_ok-write_files.ensures.same c.write_u8-2.ensures.same))
+
+pub returns-in_err-write_names-clause-ok : goal.returns-in_err-write_names-clause-ok
+returns-in_err-write_names-clause-ok g c = rw (err_from_is_err_and c.from_residual.result c.from_residual.ensures.1).1 tt
+
+pub returns-in_err-write_names-clause-sound : goal.returns-in_err-write_names-clause-sound
+returns-in_err-write_names-clause-sound g c = rw (err_from_is_err_and c.from_residual.result c.from_residual.ensures.1).1 tt
+
+pub returns-in_err-write_u8-clause-ok : goal.returns-in_err-write_u8-clause-ok
+returns-in_err-write_u8-clause-ok g c = rw (err_from_is_err_and c.from_residual-in_err-write_u8.result c.from_residual-in_err-write_u8.ensures.1).1 tt
+
+pub returns-in_err-write_u8-clause-sound : goal.returns-in_err-write_u8-clause-sound
+returns-in_err-write_u8-clause-sound g c = rw (err_from_is_err_and c.from_residual-in_err-write_u8.result c.from_residual-in_err-write_u8.ensures.1).1 tt
+
+pub returns-in_err-write_files-clause-ok : goal.returns-in_err-write_files-clause-ok
+returns-in_err-write_files-clause-ok g c = rw (err_from_is_err_and c.from_residual-in_err-write_files.result c.from_residual-in_err-write_files.ensures.1).1 tt
+
+pub returns-in_err-write_files-clause-sound : goal.returns-in_err-write_files-clause-sound
+returns-in_err-write_files-clause-sound g c = rw (err_from_is_err_and c.from_residual-in_err-write_files.result c.from_residual-in_err-write_files.ensures.1).1 tt

@@ -49,3 +49,12 @@ returns-clause-sound g c =
 
 pub returns-in_err-write_name-clause-front : goal.returns-in_err-write_name-clause-front
 returns-in_err-write_name-clause-front g c = Front-then c.loop-name.invariant.front c.in_err-write_name.ensures.front
+
+pub returns-in_err-write_name-clause-ok : goal.returns-in_err-write_name-clause-ok
+returns-in_err-write_name-clause-ok g c = rw (err_from_is_err_and c.from_residual.result c.from_residual.ensures.1).1 tt
+
+pub returns-in_err-write_name-clause-sound : goal.returns-in_err-write_name-clause-sound
+returns-in_err-write_name-clause-sound g c = rw (err_from_is_err_and c.from_residual.result c.from_residual.ensures.1).1 tt
+
+pub returns-clause-err : goal.returns-clause-err
+returns-clause-err g c = tt

@@ -5,6 +5,7 @@ use Rattle.dw_writer.proofs.Steps.{Adds-then}
 use Rattle.dw_line.specs.RawRows.{line_change}
 use Rattle.dw_line.proofs.Steps.{Adds-byte, needed, left_out, other, equal}
 use Rattle.dw_line.proofs.FrontSteps.{Adds-front, AddsSome-front, Front-either, Front-none, Front-then}
+use Rattle.std.proofs.lemmas.Result.{err_from_is_err_and}
 use Rattle.dw_line.proofs.opcode.write_line.Goals as goal
 
 pub returns-then-new-old-clause-ok : goal.returns-then-new-old-clause-ok
@@ -30,3 +31,18 @@ returns-then-new-old-clause-front g c = Front-then (Adds-front c.in_ok-write_u8.
 
 pub returns-clause-front : goal.returns-clause-front
 returns-clause-front g c = Front-none _
+
+pub returns-in_err-change-clause-ok : goal.returns-in_err-change-clause-ok
+returns-in_err-change-clause-ok g c = rw (err_from_is_err_and c.from_residual.result c.from_residual.ensures.1).1 tt
+
+pub returns-in_err-change-clause-line : goal.returns-in_err-change-clause-line
+returns-in_err-change-clause-line g c = rw (err_from_is_err_and c.from_residual.result c.from_residual.ensures.1).1 tt
+
+pub returns-in_err-write_u8-clause-ok : goal.returns-in_err-write_u8-clause-ok
+returns-in_err-write_u8-clause-ok g c = rw (err_from_is_err_and c.from_residual-in_err-write_u8.result c.from_residual-in_err-write_u8.ensures.1).1 tt
+
+pub returns-in_err-write_u8-clause-line : goal.returns-in_err-write_u8-clause-line
+returns-in_err-write_u8-clause-line g c = rw (err_from_is_err_and c.from_residual-in_err-write_u8.result c.from_residual-in_err-write_u8.ensures.1).1 tt
+
+pub returns-clause-err : goal.returns-clause-err
+returns-clause-err g c = tt

@@ -1,10 +1,9 @@
 use Rattle.std.proofs.Common.{arith}
 use Rattle.dw_writer.proofs.Outcomes.{OnOk-map}
-use Rattle.dw_writer.proofs.Steps.{Adds-then}
+use Rattle.dw_writer.proofs.Steps.{Adds-then, IsSameWriter-trans}
 use Rattle.dw_line.proofs.LineRowsSteps.{raw_file_small}
 use Rattle.dw_line.proofs.FrontSteps.{Front-then}
 use Rattle.std.proofs.lemmas.Result.{err_from_is_err_and}
-use Rattle.dw_writer.proofs.Steps.{IsSameWriter-trans}
 use Rattle.dw_line.proofs.RefusalSteps.{LineRefused-first, LineRefused-bytes, LineRefused-after}
 use Rattle.dw_line.proofs.row.write_row.Goals as goal
 
@@ -192,3 +191,93 @@ returns-in_err-write_number-3-clause-err g c =
 
 pub returns-clause-same : goal.returns-clause-same
 returns-clause-same g c = IsSameWriter-trans c.in_ok-write_discriminator.ensures.same (IsSameWriter-trans c.in_ok-write_mark.ensures.same (IsSameWriter-trans c.in_ok-write_mark-2.ensures.same (IsSameWriter-trans c.in_ok-write_mark-3.ensures.same (IsSameWriter-trans c.in_ok-write_mark-4.ensures.same (IsSameWriter-trans c.in_ok-write_file.ensures.same (IsSameWriter-trans c.in_ok-write_number.ensures.same (IsSameWriter-trans c.in_ok-write_number-2.ensures.same (IsSameWriter-trans c.in_ok-write_line.ensures.same (IsSameWriter-trans c.in_ok-write_number-3.ensures.same c.write_mark-5.ensures.same)))))))))
+
+pub returns-in_err-write_discriminator-clause-ok : goal.returns-in_err-write_discriminator-clause-ok
+returns-in_err-write_discriminator-clause-ok g c = rw (err_from_is_err_and c.from_residual.result c.from_residual.ensures.1).1 tt
+
+pub returns-in_err-write_discriminator-clause-line : goal.returns-in_err-write_discriminator-clause-line
+returns-in_err-write_discriminator-clause-line g c = rw (err_from_is_err_and c.from_residual.result c.from_residual.ensures.1).1 tt
+
+pub returns-in_err-write_discriminator-clause-ranged : goal.returns-in_err-write_discriminator-clause-ranged
+returns-in_err-write_discriminator-clause-ranged g c = rw (err_from_is_err_and c.from_residual.result c.from_residual.ensures.1).1 tt
+
+pub returns-in_err-write_mark-clause-ok : goal.returns-in_err-write_mark-clause-ok
+returns-in_err-write_mark-clause-ok g c = rw (err_from_is_err_and c.from_residual-in_err-write_mark.result c.from_residual-in_err-write_mark.ensures.1).1 tt
+
+pub returns-in_err-write_mark-clause-line : goal.returns-in_err-write_mark-clause-line
+returns-in_err-write_mark-clause-line g c = rw (err_from_is_err_and c.from_residual-in_err-write_mark.result c.from_residual-in_err-write_mark.ensures.1).1 tt
+
+pub returns-in_err-write_mark-clause-ranged : goal.returns-in_err-write_mark-clause-ranged
+returns-in_err-write_mark-clause-ranged g c = rw (err_from_is_err_and c.from_residual-in_err-write_mark.result c.from_residual-in_err-write_mark.ensures.1).1 tt
+
+pub returns-in_err-write_mark-2-clause-ok : goal.returns-in_err-write_mark-2-clause-ok
+returns-in_err-write_mark-2-clause-ok g c = rw (err_from_is_err_and c.from_residual-in_err-write_mark-2.result c.from_residual-in_err-write_mark-2.ensures.1).1 tt
+
+pub returns-in_err-write_mark-2-clause-line : goal.returns-in_err-write_mark-2-clause-line
+returns-in_err-write_mark-2-clause-line g c = rw (err_from_is_err_and c.from_residual-in_err-write_mark-2.result c.from_residual-in_err-write_mark-2.ensures.1).1 tt
+
+pub returns-in_err-write_mark-2-clause-ranged : goal.returns-in_err-write_mark-2-clause-ranged
+returns-in_err-write_mark-2-clause-ranged g c = rw (err_from_is_err_and c.from_residual-in_err-write_mark-2.result c.from_residual-in_err-write_mark-2.ensures.1).1 tt
+
+pub returns-in_err-write_mark-3-clause-ok : goal.returns-in_err-write_mark-3-clause-ok
+returns-in_err-write_mark-3-clause-ok g c = rw (err_from_is_err_and c.from_residual-in_err-write_mark-3.result c.from_residual-in_err-write_mark-3.ensures.1).1 tt
+
+pub returns-in_err-write_mark-3-clause-line : goal.returns-in_err-write_mark-3-clause-line
+returns-in_err-write_mark-3-clause-line g c = rw (err_from_is_err_and c.from_residual-in_err-write_mark-3.result c.from_residual-in_err-write_mark-3.ensures.1).1 tt
+
+pub returns-in_err-write_mark-3-clause-ranged : goal.returns-in_err-write_mark-3-clause-ranged
+returns-in_err-write_mark-3-clause-ranged g c = rw (err_from_is_err_and c.from_residual-in_err-write_mark-3.result c.from_residual-in_err-write_mark-3.ensures.1).1 tt
+
+pub returns-in_err-write_mark-4-clause-ok : goal.returns-in_err-write_mark-4-clause-ok
+returns-in_err-write_mark-4-clause-ok g c = rw (err_from_is_err_and c.from_residual-in_err-write_mark-4.result c.from_residual-in_err-write_mark-4.ensures.1).1 tt
+
+pub returns-in_err-write_mark-4-clause-line : goal.returns-in_err-write_mark-4-clause-line
+returns-in_err-write_mark-4-clause-line g c = rw (err_from_is_err_and c.from_residual-in_err-write_mark-4.result c.from_residual-in_err-write_mark-4.ensures.1).1 tt
+
+pub returns-in_err-write_mark-4-clause-ranged : goal.returns-in_err-write_mark-4-clause-ranged
+returns-in_err-write_mark-4-clause-ranged g c = rw (err_from_is_err_and c.from_residual-in_err-write_mark-4.result c.from_residual-in_err-write_mark-4.ensures.1).1 tt
+
+pub returns-in_err-write_file-clause-ok : goal.returns-in_err-write_file-clause-ok
+returns-in_err-write_file-clause-ok g c = rw (err_from_is_err_and c.from_residual-in_err-write_file.result c.from_residual-in_err-write_file.ensures.1).1 tt
+
+pub returns-in_err-write_file-clause-line : goal.returns-in_err-write_file-clause-line
+returns-in_err-write_file-clause-line g c = rw (err_from_is_err_and c.from_residual-in_err-write_file.result c.from_residual-in_err-write_file.ensures.1).1 tt
+
+pub returns-in_err-write_file-clause-ranged : goal.returns-in_err-write_file-clause-ranged
+returns-in_err-write_file-clause-ranged g c = rw (err_from_is_err_and c.from_residual-in_err-write_file.result c.from_residual-in_err-write_file.ensures.1).1 tt
+
+pub returns-in_err-write_number-clause-ok : goal.returns-in_err-write_number-clause-ok
+returns-in_err-write_number-clause-ok g c = rw (err_from_is_err_and c.from_residual-in_err-write_number.result c.from_residual-in_err-write_number.ensures.1).1 tt
+
+pub returns-in_err-write_number-clause-line : goal.returns-in_err-write_number-clause-line
+returns-in_err-write_number-clause-line g c = rw (err_from_is_err_and c.from_residual-in_err-write_number.result c.from_residual-in_err-write_number.ensures.1).1 tt
+
+pub returns-in_err-write_number-clause-ranged : goal.returns-in_err-write_number-clause-ranged
+returns-in_err-write_number-clause-ranged g c = rw (err_from_is_err_and c.from_residual-in_err-write_number.result c.from_residual-in_err-write_number.ensures.1).1 tt
+
+pub returns-in_err-write_number-2-clause-ok : goal.returns-in_err-write_number-2-clause-ok
+returns-in_err-write_number-2-clause-ok g c = rw (err_from_is_err_and c.from_residual-in_err-write_number-2.result c.from_residual-in_err-write_number-2.ensures.1).1 tt
+
+pub returns-in_err-write_number-2-clause-line : goal.returns-in_err-write_number-2-clause-line
+returns-in_err-write_number-2-clause-line g c = rw (err_from_is_err_and c.from_residual-in_err-write_number-2.result c.from_residual-in_err-write_number-2.ensures.1).1 tt
+
+pub returns-in_err-write_number-2-clause-ranged : goal.returns-in_err-write_number-2-clause-ranged
+returns-in_err-write_number-2-clause-ranged g c = rw (err_from_is_err_and c.from_residual-in_err-write_number-2.result c.from_residual-in_err-write_number-2.ensures.1).1 tt
+
+pub returns-in_err-write_line-clause-ok : goal.returns-in_err-write_line-clause-ok
+returns-in_err-write_line-clause-ok g c = rw (err_from_is_err_and c.from_residual-in_err-write_line.result c.from_residual-in_err-write_line.ensures.1).1 tt
+
+pub returns-in_err-write_line-clause-line : goal.returns-in_err-write_line-clause-line
+returns-in_err-write_line-clause-line g c = rw (err_from_is_err_and c.from_residual-in_err-write_line.result c.from_residual-in_err-write_line.ensures.1).1 tt
+
+pub returns-in_err-write_line-clause-ranged : goal.returns-in_err-write_line-clause-ranged
+returns-in_err-write_line-clause-ranged g c = rw (err_from_is_err_and c.from_residual-in_err-write_line.result c.from_residual-in_err-write_line.ensures.1).1 tt
+
+pub returns-in_err-write_number-3-clause-ok : goal.returns-in_err-write_number-3-clause-ok
+returns-in_err-write_number-3-clause-ok g c = rw (err_from_is_err_and c.from_residual-in_err-write_number-3.result c.from_residual-in_err-write_number-3.ensures.1).1 tt
+
+pub returns-in_err-write_number-3-clause-line : goal.returns-in_err-write_number-3-clause-line
+returns-in_err-write_number-3-clause-line g c = rw (err_from_is_err_and c.from_residual-in_err-write_number-3.result c.from_residual-in_err-write_number-3.ensures.1).1 tt
+
+pub returns-in_err-write_number-3-clause-ranged : goal.returns-in_err-write_number-3-clause-ranged
+returns-in_err-write_number-3-clause-ranged g c = rw (err_from_is_err_and c.from_residual-in_err-write_number-3.result c.from_residual-in_err-write_number-3.ensures.1).1 tt

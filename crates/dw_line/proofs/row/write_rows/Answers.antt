@@ -28,3 +28,21 @@ returns-in_err-write_row-clause-front g c = Front-then (Adds-front c.loop-row.in
 
 pub returns-clause-front : goal.returns-clause-front
 returns-clause-front g c = Adds-front c.loop-row.invariant.raw.added
+
+pub returns-in_err-write_row-clause-ok : goal.returns-in_err-write_row-clause-ok
+returns-in_err-write_row-clause-ok g c = rw (err_from_is_err_and c.from_residual.result c.from_residual.ensures.1).1 tt
+
+pub returns-in_err-write_row-clause-last : goal.returns-in_err-write_row-clause-last
+returns-in_err-write_row-clause-last g c = rw (err_from_is_err_and c.from_residual.result c.from_residual.ensures.1).1 tt
+
+pub returns-in_err-write_row-clause-offset : goal.returns-in_err-write_row-clause-offset
+returns-in_err-write_row-clause-offset g c = rw (err_from_is_err_and c.from_residual.result c.from_residual.ensures.1).1 tt
+
+pub returns-in_err-write_row-clause-lines : goal.returns-in_err-write_row-clause-lines
+returns-in_err-write_row-clause-lines g c = rw (err_from_is_err_and c.from_residual.result c.from_residual.ensures.1).1 tt
+
+pub returns-in_err-write_row-clause-ranged : goal.returns-in_err-write_row-clause-ranged
+returns-in_err-write_row-clause-ranged g c = rw (err_from_is_err_and c.from_residual.result c.from_residual.ensures.1).1 tt
+
+pub returns-clause-err : goal.returns-clause-err
+returns-clause-err g c = tt

@@ -105,3 +105,24 @@ returns-in-None-clause-sound g c =
     let lines = rw c.before-first.ensures.row at c.in_ok-last.ensures.lines in
     sequence_sound c.args.encoding.address_size (row_before c.args.line_encoding.default_is_stmt) (built_sequence c.args.encoding.version c.args.address c.args.rows.now c.args.end)
     (g.W.Writer.meaning c.args.w.now).is_plain c.in_ok-write_set_address.ensures.sound lines
+
+pub returns-in_err-write_set_address-clause-ok : goal.returns-in_err-write_set_address-clause-ok
+returns-in_err-write_set_address-clause-ok g c = rw (err_from_is_err_and c.from_residual.result c.from_residual.ensures.1).1 tt
+
+pub returns-in_err-write_set_address-clause-sound : goal.returns-in_err-write_set_address-clause-sound
+returns-in_err-write_set_address-clause-sound g c = rw (err_from_is_err_and c.from_residual.result c.from_residual.ensures.1).1 tt
+
+pub returns-in_err-write_set_address-clause-after : goal.returns-in_err-write_set_address-clause-after
+returns-in_err-write_set_address-clause-after g c = rw (err_from_is_err_and c.from_residual.result c.from_residual.ensures.1).1 tt
+
+pub returns-in_err-last-clause-ok : goal.returns-in_err-last-clause-ok
+returns-in_err-last-clause-ok g c = rw (err_from_is_err_and c.from_residual-in_err-last.result c.from_residual-in_err-last.ensures.1).1 tt
+
+pub returns-in_err-last-clause-sound : goal.returns-in_err-last-clause-sound
+returns-in_err-last-clause-sound g c = rw (err_from_is_err_and c.from_residual-in_err-last.result c.from_residual-in_err-last.ensures.1).1 tt
+
+pub returns-in_err-last-clause-after : goal.returns-in_err-last-clause-after
+returns-in_err-last-clause-after g c = rw (err_from_is_err_and c.from_residual-in_err-last.result c.from_residual-in_err-last.ensures.1).1 tt
+
+pub returns-in-None-clause-err : goal.returns-in-None-clause-err
+returns-in-None-clause-err g c = tt

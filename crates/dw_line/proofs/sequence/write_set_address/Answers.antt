@@ -4,6 +4,7 @@ use Rattle.dw_writer.proofs.Steps.{IsSameWriter-trans, Adds-then}
 use Rattle.dw_line.proofs.Steps.{Adds-byte}
 use Rattle.dw_line.proofs.SequenceSteps.{set_none, set_some}
 use Rattle.dw_line.proofs.FrontSteps.{Adds-front, AddsSome-front, AddsSomeWith-front, Front-none, Front-then}
+use Rattle.std.proofs.lemmas.Result.{err_from_is_err_and}
 use Rattle.dw_line.proofs.sequence.write_set_address.Goals as goal
 
 pub returns-in_ok-write_u8-in-Some-2-clause-ok : goal.returns-in_ok-write_u8-in-Some-2-clause-ok
@@ -47,3 +48,24 @@ returns-in_err-write_u8-in-Some-2-clause-same g c = IsSameWriter-trans c.in_ok-w
 
 pub returns-in_ok-write_u8-in-Some-2-clause-same : goal.returns-in_ok-write_u8-in-Some-2-clause-same
 returns-in_ok-write_u8-in-Some-2-clause-same g c = IsSameWriter-trans c.in_ok-write_u8-in-Some.ensures.same (IsSameWriter-trans c.in_ok-write_uleb128-in-Some.ensures.same (IsSameWriter-trans c.in_ok-write_u8-in-Some-2.ensures.same c.write_address.ensures.same))
+
+pub returns-in_err-write_u8-in-Some-clause-ok : goal.returns-in_err-write_u8-in-Some-clause-ok
+returns-in_err-write_u8-in-Some-clause-ok g c = rw (err_from_is_err_and c.from_residual.result c.from_residual.ensures.1).1 tt
+
+pub returns-in_err-write_u8-in-Some-clause-sound : goal.returns-in_err-write_u8-in-Some-clause-sound
+returns-in_err-write_u8-in-Some-clause-sound g c = rw (err_from_is_err_and c.from_residual.result c.from_residual.ensures.1).1 tt
+
+pub returns-in_err-write_uleb128-in-Some-clause-ok : goal.returns-in_err-write_uleb128-in-Some-clause-ok
+returns-in_err-write_uleb128-in-Some-clause-ok g c = rw (err_from_is_err_and c.from_residual-in_err-write_uleb128-in-Some.result c.from_residual-in_err-write_uleb128-in-Some.ensures.1).1 tt
+
+pub returns-in_err-write_uleb128-in-Some-clause-sound : goal.returns-in_err-write_uleb128-in-Some-clause-sound
+returns-in_err-write_uleb128-in-Some-clause-sound g c = rw (err_from_is_err_and c.from_residual-in_err-write_uleb128-in-Some.result c.from_residual-in_err-write_uleb128-in-Some.ensures.1).1 tt
+
+pub returns-in_err-write_u8-in-Some-2-clause-ok : goal.returns-in_err-write_u8-in-Some-2-clause-ok
+returns-in_err-write_u8-in-Some-2-clause-ok g c = rw (err_from_is_err_and c.from_residual-in_err-write_u8-in-Some-2.result c.from_residual-in_err-write_u8-in-Some-2.ensures.1).1 tt
+
+pub returns-in_err-write_u8-in-Some-2-clause-sound : goal.returns-in_err-write_u8-in-Some-2-clause-sound
+returns-in_err-write_u8-in-Some-2-clause-sound g c = rw (err_from_is_err_and c.from_residual-in_err-write_u8-in-Some-2.result c.from_residual-in_err-write_u8-in-Some-2.ensures.1).1 tt
+
+pub returns-in-None-clause-err : goal.returns-in-None-clause-err
+returns-in-None-clause-err g c = tt

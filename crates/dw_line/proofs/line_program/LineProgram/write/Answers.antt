@@ -61,3 +61,36 @@ returns-in_err-write-in-Some-clause-err g c =
     let there = ap (λ v. v.program) (sym c.self.view_is) ∙ c.in-Some.is in
     let p = err_from_is_err_and c.from_residual.result c.from_residual.ensures.1 in
     rw (p.1, p.2, there) c.in_err-write-in-Some.ensures.err
+
+pub returns-in_err-write-in-Some-clause-ok : goal.returns-in_err-write-in-Some-clause-ok
+returns-in_err-write-in-Some-clause-ok g c = rw (err_from_is_err_and c.from_residual.result c.from_residual.ensures.1).1 tt
+
+pub returns-in_err-write-in-Some-clause-place : goal.returns-in_err-write-in-Some-clause-place
+returns-in_err-write-in-Some-clause-place g c = rw (err_from_is_err_and c.from_residual.result c.from_residual.ensures.1).1 tt
+
+pub returns-in_err-write-in-Some-clause-rows : goal.returns-in_err-write-in-Some-clause-rows
+returns-in_err-write-in-Some-clause-rows g c = rw (err_from_is_err_and c.from_residual.result c.from_residual.ensures.1).1 tt
+
+pub returns-in_err-write-in-Some-clause-tables : goal.returns-in_err-write-in-Some-clause-tables
+returns-in_err-write-in-Some-clause-tables g c = rw (err_from_is_err_and c.from_residual.result c.from_residual.ensures.1).1 tt
+
+pub returns-in_err-write-in-Some-clause-sound : goal.returns-in_err-write-in-Some-clause-sound
+returns-in_err-write-in-Some-clause-sound g c = rw (err_from_is_err_and c.from_residual.result c.from_residual.ensures.1).1 tt
+
+pub returns-in_ok-write-in-Some-clause-err : goal.returns-in_ok-write-in-Some-clause-err
+returns-in_ok-write-in-Some-clause-err g c = tt
+
+pub returns-in-None-clause-ok : goal.returns-in-None-clause-ok
+returns-in-None-clause-ok g c = tt
+
+pub returns-in-None-clause-place : goal.returns-in-None-clause-place
+returns-in-None-clause-place g c = tt
+
+pub returns-in-None-clause-rows : goal.returns-in-None-clause-rows
+returns-in-None-clause-rows g c = tt
+
+pub returns-in-None-clause-tables : goal.returns-in-None-clause-tables
+returns-in-None-clause-tables g c = tt
+
+pub returns-in-None-clause-sound : goal.returns-in-None-clause-sound
+returns-in-None-clause-sound g c = tt

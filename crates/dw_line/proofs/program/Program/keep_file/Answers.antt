@@ -2,6 +2,7 @@ use Rattle.std.proofs.Common.{sym, subst}
 use Rattle.dw_line.specs.FileEqual.{file_eq}
 use Rattle.dw_line.specs.ProgramTexts.{IsFile}
 use Rattle.dw_line.proofs.NameSteps.{All-inserted}
+use Rattle.std.proofs.lemmas.Result.{err_from_is_err_and}
 use Rattle.dw_line.proofs.program.Program.keep_file.Goals as goal
 
 pub invariant_of-self-2 : goal.invariant_of-self-2
@@ -18,3 +19,15 @@ invariant_of-self-2 c =
       ordered = is.ordered;
       unended = is.unended;
     }
+
+pub returns-in_err-index-clause-id : goal.returns-in_err-index-clause-id
+returns-in_err-index-clause-id c = rw (err_from_is_err_and c.from_residual.result c.from_residual.ensures.1).1 tt
+
+pub returns-in_err-index-clause-ok : goal.returns-in_err-index-clause-ok
+returns-in_err-index-clause-ok c = rw (err_from_is_err_and c.from_residual.result c.from_residual.ensures.1).1 tt
+
+pub returns-clause-err : goal.returns-clause-err
+returns-clause-err c = tt
+
+pub returns-clause-kept : goal.returns-clause-kept
+returns-clause-kept c = tt

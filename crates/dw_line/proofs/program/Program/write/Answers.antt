@@ -3,11 +3,10 @@ use Rattle.std.proofs.Common.{◌≡◌, ◌≤◌, ◌&&◌, not, false, IsFals
 use Rattle.std.specs.Prelude.{◌++◌}
 use Rattle.std.proofs.lemmas.Bool.{or_left, or_right}
 use Rattle.std.proofs.lemmas.Result.{err_from_is_err_and}
-use Rattle.dw_base.specs.Numbers.{num, word_of, escape_of}
+use Rattle.dw_base.specs.Numbers.{num, word_of, escape_of, is_width, length_fits}
 use Rattle.dw_base.specs.declared.error.Error.{Error}
 use Rattle.dw_writer.specs.Texts.{zeros}
 use Rattle.dw_writer.specs.Meaning.{Adds, Replaces}
-use Rattle.dw_base.specs.Numbers.{is_width, length_fits}
 use Rattle.dw_base.specs.declared.error.Error.TheVariants as errors
 use Rattle.dw_writer.proofs.Outcomes.{OnOk-map}
 use Rattle.dw_line_machine.specs.LineReader.{is_line_version}
@@ -150,3 +149,51 @@ returns-in_err-write_contents-clause-same g c = IsSameWriter-trans c.in_ok-place
 
 pub returns-clause-same : goal.returns-clause-same
 returns-clause-same g c = IsSameWriter-trans c.in_ok-place.ensures.same (IsSameWriter-trans c.in_ok-write_contents.ensures.same c.write_initial_length_at.ensures.same)
+
+pub returns-in_err-check_encoding-clause-ok : goal.returns-in_err-check_encoding-clause-ok
+returns-in_err-check_encoding-clause-ok g c = rw (err_from_is_err_and c.from_residual.result c.from_residual.ensures.1).1 tt
+
+pub returns-in_err-check_encoding-clause-sound : goal.returns-in_err-check_encoding-clause-sound
+returns-in_err-check_encoding-clause-sound g c = rw (err_from_is_err_and c.from_residual.result c.from_residual.ensures.1).1 tt
+
+pub returns-in_err-check_encoding-clause-rows : goal.returns-in_err-check_encoding-clause-rows
+returns-in_err-check_encoding-clause-rows g c = rw (err_from_is_err_and c.from_residual.result c.from_residual.ensures.1).1 tt
+
+pub returns-in_err-check_encoding-clause-tables : goal.returns-in_err-check_encoding-clause-tables
+returns-in_err-check_encoding-clause-tables g c = rw (err_from_is_err_and c.from_residual.result c.from_residual.ensures.1).1 tt
+
+pub returns-in_err-check_forms-clause-ok : goal.returns-in_err-check_forms-clause-ok
+returns-in_err-check_forms-clause-ok g c = rw (err_from_is_err_and c.from_residual-in_err-check_forms.result c.from_residual-in_err-check_forms.ensures.1).1 tt
+
+pub returns-in_err-check_forms-clause-sound : goal.returns-in_err-check_forms-clause-sound
+returns-in_err-check_forms-clause-sound g c = rw (err_from_is_err_and c.from_residual-in_err-check_forms.result c.from_residual-in_err-check_forms.ensures.1).1 tt
+
+pub returns-in_err-check_forms-clause-rows : goal.returns-in_err-check_forms-clause-rows
+returns-in_err-check_forms-clause-rows g c = rw (err_from_is_err_and c.from_residual-in_err-check_forms.result c.from_residual-in_err-check_forms.ensures.1).1 tt
+
+pub returns-in_err-check_forms-clause-tables : goal.returns-in_err-check_forms-clause-tables
+returns-in_err-check_forms-clause-tables g c = rw (err_from_is_err_and c.from_residual-in_err-check_forms.result c.from_residual-in_err-check_forms.ensures.1).1 tt
+
+pub returns-in_err-place-clause-ok : goal.returns-in_err-place-clause-ok
+returns-in_err-place-clause-ok g c = rw (err_from_is_err_and c.from_residual-in_err-place.result c.from_residual-in_err-place.ensures.1).1 tt
+
+pub returns-in_err-place-clause-sound : goal.returns-in_err-place-clause-sound
+returns-in_err-place-clause-sound g c = rw (err_from_is_err_and c.from_residual-in_err-place.result c.from_residual-in_err-place.ensures.1).1 tt
+
+pub returns-in_err-place-clause-rows : goal.returns-in_err-place-clause-rows
+returns-in_err-place-clause-rows g c = rw (err_from_is_err_and c.from_residual-in_err-place.result c.from_residual-in_err-place.ensures.1).1 tt
+
+pub returns-in_err-place-clause-tables : goal.returns-in_err-place-clause-tables
+returns-in_err-place-clause-tables g c = rw (err_from_is_err_and c.from_residual-in_err-place.result c.from_residual-in_err-place.ensures.1).1 tt
+
+pub returns-in_err-write_contents-clause-ok : goal.returns-in_err-write_contents-clause-ok
+returns-in_err-write_contents-clause-ok g c = rw (err_from_is_err_and c.from_residual-in_err-write_contents.result c.from_residual-in_err-write_contents.ensures.1).1 tt
+
+pub returns-in_err-write_contents-clause-sound : goal.returns-in_err-write_contents-clause-sound
+returns-in_err-write_contents-clause-sound g c = rw (err_from_is_err_and c.from_residual-in_err-write_contents.result c.from_residual-in_err-write_contents.ensures.1).1 tt
+
+pub returns-in_err-write_contents-clause-rows : goal.returns-in_err-write_contents-clause-rows
+returns-in_err-write_contents-clause-rows g c = rw (err_from_is_err_and c.from_residual-in_err-write_contents.result c.from_residual-in_err-write_contents.ensures.1).1 tt
+
+pub returns-in_err-write_contents-clause-tables : goal.returns-in_err-write_contents-clause-tables
+returns-in_err-write_contents-clause-tables g c = rw (err_from_is_err_and c.from_residual-in_err-write_contents.result c.from_residual-in_err-write_contents.ensures.1).1 tt

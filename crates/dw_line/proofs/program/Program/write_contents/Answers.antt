@@ -65,3 +65,15 @@ returns-clause-sound g c =
 
 pub returns-clause-same : goal.returns-clause-same
 returns-clause-same g c = IsSameWriter-trans c.in_ok-write_header.ensures.same c.write_sequences.ensures.same
+
+pub returns-in_err-write_header-clause-ok : goal.returns-in_err-write_header-clause-ok
+returns-in_err-write_header-clause-ok g c = rw (err_from_is_err_and c.from_residual.result c.from_residual.ensures.1).1 tt
+
+pub returns-in_err-write_header-clause-sound : goal.returns-in_err-write_header-clause-sound
+returns-in_err-write_header-clause-sound g c = rw (err_from_is_err_and c.from_residual.result c.from_residual.ensures.1).1 tt
+
+pub returns-in_err-write_header-clause-built : goal.returns-in_err-write_header-clause-built
+returns-in_err-write_header-clause-built g c = rw (err_from_is_err_and c.from_residual.result c.from_residual.ensures.1).1 tt
+
+pub returns-in_err-write_header-clause-wide : goal.returns-in_err-write_header-clause-wide
+returns-in_err-write_header-clause-wide g c = rw (err_from_is_err_and c.from_residual.result c.from_residual.ensures.1).1 tt

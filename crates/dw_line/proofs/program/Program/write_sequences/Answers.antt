@@ -5,9 +5,8 @@ use Rattle.dw_writer.specs.Meaning.{Appends}
 use Rattle.dw_writer.proofs.Outcomes.{OnOk-map}
 use Rattle.dw_line.specs.LineRows.{written_header}
 use Rattle.dw_line.specs.Parts.{Refused}
-use Rattle.dw_line.specs.ProgramTexts.{ProgramValue, program_sequences, sequences_size, sequences_text, sequences_fail}
+use Rattle.dw_line.specs.ProgramTexts.{ProgramValue, program_sequences, sequences_size, sequences_text, sequences_fail, open_sequence}
 use Rattle.dw_line.specs.Programs.{built_fails, IsBuiltAfter}
-use Rattle.dw_line.specs.ProgramTexts.{open_sequence}
 use Rattle.dw_line.specs.SequenceTexts.{AreBuilt}
 use Rattle.dw_line.proofs.ProgramSteps.{with_open, without_open, sequences_sound, sequences_refused, program_built}
 use Rattle.dw_line.proofs.FrontSteps.{Front-then}
@@ -78,3 +77,15 @@ returns-then-self-clause-front g c = Front-then c.in_ok-write_sequences.ensures.
 
 pub returns-then-self-clause-same : goal.returns-then-self-clause-same
 returns-then-self-clause-same g c = IsSameWriter-trans c.in_ok-write_sequences.ensures.same c.write_sequence.ensures.same
+
+pub returns-in_err-write_sequences-clause-ok : goal.returns-in_err-write_sequences-clause-ok
+returns-in_err-write_sequences-clause-ok g c = rw (err_from_is_err_and c.from_residual.result c.from_residual.ensures.1).1 tt
+
+pub returns-in_err-write_sequences-clause-sound : goal.returns-in_err-write_sequences-clause-sound
+returns-in_err-write_sequences-clause-sound g c = rw (err_from_is_err_and c.from_residual.result c.from_residual.ensures.1).1 tt
+
+pub returns-in_err-write_sequences-clause-built : goal.returns-in_err-write_sequences-clause-built
+returns-in_err-write_sequences-clause-built g c = rw (err_from_is_err_and c.from_residual.result c.from_residual.ensures.1).1 tt
+
+pub returns-clause-err : goal.returns-clause-err
+returns-clause-err g c = tt

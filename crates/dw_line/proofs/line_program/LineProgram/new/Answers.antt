@@ -1,0 +1,8 @@
+use Rattle.std.proofs.lemmas.Result.{err_from_is_err_and}
+use Rattle.dw_line.proofs.line_program.LineProgram.new.Goals as goal
+
+pub returns-in_err-program-clause-ok : goal.returns-in_err-program-clause-ok
+returns-in_err-program-clause-ok c = rw (err_from_is_err_and c.from_residual.result c.from_residual.ensures.1).1 tt
+
+pub returns-clause-err : goal.returns-clause-err
+returns-clause-err c = tt
