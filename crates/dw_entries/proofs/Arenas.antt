@@ -1,5 +1,5 @@
 -- What a changed entry makes of all entries.
-use Rattle.std.proofs.Common.{◌≡◌, ◌≢◌, ◌∙◌, sym, ap, subst, ℕ, ◌+◌, ◌<◌, ◌≤◌, zero, suc, List, [], ◌∷◌, Bool, true, false, Option, Some, None, refl, arith, length, Result, Ok, Err}
+use Rattle.std.proofs.Common.{◌≡◌, ◌≢◌, ◌∙◌, sym, ap, subst, ℕ, ◌+◌, ◌<◌, ◌≤◌, zero, suc, List, [], ◌∷◌, true, false, Option, Some, None, refl, arith, length, Result, Ok, Err}
 use Rattle.std.specs.Prelude.{slice_set, OnOk, OnErr, IsTrue, ◌==◌, ◌&&◌, nat_lt}
 use Rattle.std.specs.List.{list_any, IsDistinct}
 use Rattle.std.proofs.lemmas.Bool.{and_parts, false≢true, eqb-true}

@@ -39,7 +39,6 @@ impl Attribute {
     }
 
     /// Tells that another attribute has the same name and the same value.
-    #[tactic(auto, using(crate::specs::Equality::attribute_decides))]
     pub fn is_same(&self, other: &Attribute) -> bool
         ensures { IsTrue result ↔ (self.now ≡ other.now) }
     {

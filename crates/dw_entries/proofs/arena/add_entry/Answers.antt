@@ -1,6 +1,6 @@
 use Rattle.std.proofs.Common.{◌≡◌, ◌∙◌, ap, arith, take, vec_len, length}
 use Rattle.dw_entries.specs.Entries.{filled_up}
-use Rattle.std.proofs.lemmas.Result.{on_err_weaker}
+use Rattle.std.proofs.lemmas.Result.{on_err_weaker, err_from_is_err_and}
 use Rattle.dw_entries.proofs.Filled.{length-filled_up, take-filled_up}
 use Rattle.dw_entries.proofs.arena.add_entry.Goals as goal
 
@@ -23,3 +23,6 @@ returns-then-is_err-clause-kept c =
     let es = c.args.entries.now in
     let n = c.len-old_count.result in
     on_err_weaker c.link-linked.result (λ h. c.truncate.ensures.items ∙ ap (take n) (h ∙ c.in_ok-fill_up.ensures.ok) ∙ ap (λ k. take k (filled_up c.args.count es.items)) (c.len-old_count.ensures ∙ es.ok.0) ∙ take-filled_up c.args.count es.items (omega (arith, c.requires.within, es.ok.0))) c.link-linked.ensures.kept
+
+pub returns-in_err-fill_up-clause-ok : goal.returns-in_err-fill_up-clause-ok
+returns-in_err-fill_up-clause-ok c = rw (err_from_is_err_and c.from_residual.result c.from_residual.ensures.1).1 tt

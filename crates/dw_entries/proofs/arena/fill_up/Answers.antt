@@ -1,6 +1,7 @@
 use Rattle.std.proofs.Common.{◌≡◌, ◌∙◌, sym, ap, ◌≤◌, ◌++◌, ◌∷◌, [], arith, vec_len, length}
 use Rattle.dw_entries.specs.Entries.{blank_entry, filled_up}
 use Rattle.dw_entries.proofs.Filled.{filled_up-same, filled_up-push}
+use Rattle.std.proofs.lemmas.Result.{err_from_is_err_and}
 use Rattle.dw_entries.proofs.arena.fill_up.Goals as goal
 
 pub blanks-init : goal.blanks-init
@@ -30,3 +31,15 @@ blanks-preserved c =
       room = omega (arith, p.capacity, i.room);
       items = p.items ∙ ap (λ x. c.blanks.entries.items ++ x ∷ []) (c.blank.ensures ∙ ap blank_entry id) ∙ ap (λ xs. xs ++ blank_entry n ∷ []) i.items ∙ filled_up-push n es.items enough ∙ ap (λ k. filled_up k es.items) (sym p.len);
     }
+
+pub returns-in_err-reserve-clause-ok : goal.returns-in_err-reserve-clause-ok
+returns-in_err-reserve-clause-ok c = rw (err_from_is_err_and c.from_residual.result c.from_residual.ensures.1).1 tt
+
+pub returns-in_err-push-clause-ok : goal.returns-in_err-push-clause-ok
+returns-in_err-push-clause-ok c = rw (err_from_is_err_and c.from_residual-in_err-push.result c.from_residual-in_err-push.ensures.1).1 tt
+
+pub returns-clause-err : goal.returns-clause-err
+returns-clause-err c = tt
+
+pub returns-clause-kept : goal.returns-clause-kept
+returns-clause-kept c = tt

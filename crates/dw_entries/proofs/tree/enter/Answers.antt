@@ -8,6 +8,7 @@ use Rattle.dw_entries.specs.Tree.{mark_of, marks}
 use Rattle.dw_entries.specs.Walk.{IsPath, pending}
 use Rattle.dw_entries.proofs.ChildReads.{children_read}
 use Rattle.dw_entries.proofs.Walk.{path_push, path_room, enter_leaf, enter_branch}
+use Rattle.std.proofs.lemmas.Result.{err_from_is_err_and}
 use Rattle.dw_entries.proofs.tree.enter.Goals as goal
 
 pub returns-in_ok-push-2-clause-path : goal.returns-in_ok-push-2-clause-path
@@ -37,3 +38,21 @@ returns-else-not-is_empty-clause-given c =
     ap (λ x. map mark_of x ++ pending es (length es) fs) c.in_ok-push.ensures.items
     ∙ ap (λ x. x ++ pending es (length es) fs) (map_push mark_of c.args.items.now.items _)
     ∙ enter_leaf es fs i (marks c.args.items.now.items) (path_room es fs i c.requires.path c.requires.parent c.requires.within) none
+
+pub returns-in_err-push-clause-path : goal.returns-in_err-push-clause-path
+returns-in_err-push-clause-path c = rw (err_from_is_err_and c.from_residual.result c.from_residual.ensures.1).1 tt
+
+pub returns-in_err-push-clause-given : goal.returns-in_err-push-clause-given
+returns-in_err-push-clause-given c = rw (err_from_is_err_and c.from_residual.result c.from_residual.ensures.1).1 tt
+
+pub returns-in_err-push-clause-grows : goal.returns-in_err-push-clause-grows
+returns-in_err-push-clause-grows c = rw (err_from_is_err_and c.from_residual.result c.from_residual.ensures.1).1 tt
+
+pub returns-in_err-push-2-clause-path : goal.returns-in_err-push-2-clause-path
+returns-in_err-push-2-clause-path c = rw (err_from_is_err_and c.from_residual-in_err-push-2.result c.from_residual-in_err-push-2.ensures.1).1 tt
+
+pub returns-in_err-push-2-clause-given : goal.returns-in_err-push-2-clause-given
+returns-in_err-push-2-clause-given c = rw (err_from_is_err_and c.from_residual-in_err-push-2.result c.from_residual-in_err-push-2.ensures.1).1 tt
+
+pub returns-in_err-push-2-clause-grows : goal.returns-in_err-push-2-clause-grows
+returns-in_err-push-2-clause-grows c = rw (err_from_is_err_and c.from_residual-in_err-push-2.result c.from_residual-in_err-push-2.ensures.1).1 tt

@@ -7,7 +7,7 @@ use Rattle.dw_base.specs.declared.common.Encoding.{Encoding}
 use Rattle.dw_base.specs.declared.error.Error.{Error}
 use Rattle.dw_base.specs.declared.error.Error.TheVariants as errors
 use Rattle.dw_expr.specs.Trees.{Node}
-use Rattle.dw_expr.specs.Causes.{length_fails, nodes_unplaced, size_fails}
+use Rattle.dw_expr.specs.Causes.{length_fails, size_fails}
 use Rattle.dw_expr.specs.Spelling.{expression_size}
 use Rattle.dw_expr.proofs.Placing.{size_same, size_grows, counted_grows, unplaced_large}
 use Rattle.dw_entries.specs.Content.{counted}
@@ -72,3 +72,9 @@ returns-clause-err g c =
     (λ x h. too_long e known ns x h.0 (λ place keeps.
     let size = ap counted (c.in_ok-size.ensures.ok ∙ same_size e known place ns keeps c.in_ok-size.ensures.sound) in
     omega (arith, h.1, size))) c.counted_size.ensures.err
+
+pub returns-in_err-size-clause-ok : goal.returns-in_err-size-clause-ok
+returns-in_err-size-clause-ok g c = rw (err_from_is_err_and c.from_residual.result c.from_residual.ensures.1).1 tt
+
+pub returns-in_err-size-clause-sound : goal.returns-in_err-size-clause-sound
+returns-in_err-size-clause-sound g c = rw (err_from_is_err_and c.from_residual.result c.from_residual.ensures.1).1 tt
