@@ -1,5 +1,6 @@
 -- Results in the tables of what values become.
 use Rattle.std.proofs.Common.{◌≡◌, sym, ap, subst, ℕ, Option, Result, Ok, Err, refl}
+use Rattle.std.specs.Result.{MatchResult, IsOkAnd}
 use Rattle.dw_base.specs.declared.address.Address.{Address}
 use Rattle.dw_base.specs.declared.address.DebugInfoRef.{DebugInfoRef}
 use Rattle.dw_base.specs.declared.ids.UnitEntryId.{UnitEntryId}
@@ -48,6 +49,13 @@ same_made (Err e) r h = ap with_value h
 
 pub outcome_made : {A : Type 0} (outcome : Result A ConvertError → Type 0) (make : A → AttributeValue) (r : Result AttributeValue ConvertError) → Made outcome make r → Made outcome (λ y. image.Value (make y)) (with_value r)
 outcome_made outcome make r h = (h.0, h.1, made_value h.0 make r h.2)
+
+-- a value that is made of what another leads to
+pub mapped : {A : Type 0} (outcome : Result A ConvertError → Type 0) (make : A → AttributeValue) (P : A → AttributeValue → Type 0) → ((x : A) (v : AttributeValue) → P x v → v ≡ make x) → (r : Result A ConvertError) (m : Result AttributeValue ConvertError)
+    → MatchResult r (λ x. IsOkAnd m (P x)) (λ e. m ≡ Err e) → outcome r → Made outcome make m
+mapped outcome make P f (Ok x) (Ok v) h k = (Ok x, k, ap Ok (f x v h))
+mapped outcome make P f (Ok x) (Err e) h k = absurd h
+mapped outcome make P f (Err e) m h k = (Err e, k, h)
 
 module _ (R E : Type 0) (reading : R → Reading) (answers : ℕ → Option Address → Type 0) (entries : ℕ → Option UnitEntryId) (infos : ℕ → Option DebugInfoRef) (u : UnitRef R E) where
   pub ranges_made : (p : ℕ) (r : Result Image ConvertError) → RangesFound reading answers u p r → Made (RangesOutcome reading answers entries infos u p) image.Ranges r

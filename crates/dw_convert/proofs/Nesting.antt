@@ -1,12 +1,14 @@
 -- Expressions that are converted, one operation after the other.
-use Rattle.std.proofs.Common.{◌≡◌, sym, ap, subst, ℕ, zero, suc, ◌+◌, ◌-◌, ◌<◌, ◌≤◌, ◌≢◌, List, [], ◌∷◌, ◌++◌, length, take, drop, map, get_or, Option, Result, Ok, Err, Bool, ℤ, IfOk, IfErr, IsFalse, ◌⊎◌, ⊎_elim, inl, inr, refl, arith}
+use Rattle.std.proofs.Common.{◌≡◌, sym, ap, subst, ℕ, zero, suc, ◌+◌, ◌-◌, ◌<◌, ◌≤◌, ◌≢◌, List, [], ◌∷◌, ◌++◌, length, take, drop, map, get_or, Option, Some, Result, Ok, Err, Bool, ℤ, IfOk, IfErr, IsFalse, ◌⊎◌, ⊎_elim, inl, inr, refl, arith}
+use Rattle.std.specs.Result.{MatchResult, IsOkAnd}
 use Rattle.std.proofs.lemmas.List.{take_all, length-map}
 use Rattle.std.proofs.lemmas.List.Elements.{All-get_or}
 use Rattle.dw_base.specs.declared.address.Address.{Address}
 use Rattle.dw_base.specs.declared.address.DebugInfoRef.{DebugInfoRef}
 use Rattle.dw_base.specs.declared.common.Encoding.{Encoding}
 use Rattle.dw_base.specs.declared.ids.UnitEntryId.{UnitEntryId}
-use Rattle.dw_expr.specs.Trees.{Node, entry_value, tree_of}
+use Rattle.dw_expr.specs.Trees as tree
+use Rattle.dw_expr.specs.Trees.{Node, Plain, plain, entry_value, tree_of}
 use Rattle.dw_expr.specs.Views.{node_of}
 use Rattle.dw_expr.specs.declared.op.Operation.{Operation as BuiltOperation}
 use Rattle.dw_read.specs.Reading.{Reading, left}
@@ -18,8 +20,8 @@ use Rattle.dw_sources.specs.declared.operation.Operation.{Operation as HeldOpera
 use Rattle.dw_sources.specs.declared.operation.Operation.TheVariants as held
 use Rattle.dw_convert.specs.Branches.{TargetOutcome}
 use Rattle.dw_convert.specs.Expressions.{AreOperations, Becomes, RefusesOperation, OutcomeWithin, LevelOutcome}
-use Rattle.dw_convert.specs.Listings.{IsListing, HasOrder, StepOutcome, FlatOutcome, StaysAs, leads_on, order_of, step_in, steps_in}
-use Rattle.dw_convert.specs.Operations.{OperationOutcome}
+use Rattle.dw_convert.specs.Listings.{IsListing, HasOrder, StepOutcome, FlatOutcome, StaysAs, as_node, leads_on, order_of, step_in, steps_in}
+use Rattle.dw_convert.specs.Operations.{OperationOutcome, Of}
 use Rattle.dw_convert.specs.Steps.{Step, begins}
 use Rattle.dw_convert.specs.declared.listing.Listing.{Listing}
 use Rattle.dw_convert.specs.declared.listing.Step.{Step as HeldStep}
@@ -114,6 +116,17 @@ module _ (R E : Type 0) (reading : R → Reading) (answers : ℕ → Option Addr
       pub branch_refused : s.operation ≡ held.Branch z → StepOutcome reading answers addresses entries infos depth l s (Err why)
       branch_refused e = becomes (held.Branch z) (Err why) e (Err why, nowhere, refl)
 
+    -- a branch that leads to an operation among them
+    module _ (places : List ℕ) (same : places ≡ l.begins.items) (z y : ℤ) (is : y ≡ z) (i : ℕ) (h : TargetOutcome places s.behind y (Ok i)) where
+      led : TargetOutcome l.begins.items s.behind z (Ok i)
+      led = subst (λ (x : ℤ). TargetOutcome l.begins.items s.behind x (Ok i)) is (subst (λ (ps : List ℕ). TargetOutcome ps s.behind y (Ok i)) same h)
+
+      pub skip_led : s.operation ≡ held.Skip z → StepOutcome reading answers addresses entries infos depth l s (Ok (plain (tree.Skip (Some i))))
+      skip_led e = becomes (held.Skip z) (Ok (plain (tree.Skip (Some i)))) e (Ok i, led, refl)
+
+      pub branch_led : s.operation ≡ held.Branch z → StepOutcome reading answers addresses entries infos depth l s (Ok (plain (tree.Branch (Some i))))
+      branch_led e = becomes (held.Branch z) (Ok (plain (tree.Branch (Some i)))) e (Ok i, led, refl)
+
     -- an expression within the operation, which a reader has left
     module _ (x : Expression R E) (e : s.operation ≡ held.EntryValue x) (r : Reading) (same : r ≡ reading x.0) where
       moved : (y : Result (List Node) ConvertError) → Within r.is_big l.encoding depth (left r) y → Within (reading x.0).is_big l.encoding depth (left (reading x.0)) y
@@ -124,6 +137,13 @@ module _ (R E : Type 0) (reading : R → Reading) (answers : ℕ → Option Addr
 
       pub nested_refused : (why : ConvertError) → Within r.is_big l.encoding depth (left r) (Err why) → StepOutcome reading answers addresses entries infos depth l s (Err why)
       nested_refused why h = becomes (held.EntryValue x) (Err why) e (Err why, moved (Err why) h, refl)
+
+-- an operation that is made of what its number leads to
+pub mapped : {A : Type 0} (outcome : Result A ConvertError → Type 0) (make : A → Plain) (P : A → BuiltOperation → Type 0) → ((x : A) (o : BuiltOperation) → P x o → node_of o ≡ plain (make x)) → (r : Result A ConvertError) (m : Result BuiltOperation ConvertError)
+    → MatchResult r (λ x. IsOkAnd m (P x)) (λ e. m ≡ Err e) → outcome r → Of outcome make (as_node m)
+mapped outcome make P f (Ok x) (Ok o) h k = (Ok x, k, ap Ok (f x o h))
+mapped outcome make P f (Ok x) (Err e) h k = absurd h
+mapped outcome make P f (Err e) m h k = (Err e, k, ap as_node h)
 
 -- an operation that leads on has an arm of its own
 pub record LeadsNowhere {R E : Type 0} (o : HeldOperation R E) : Type 0 where

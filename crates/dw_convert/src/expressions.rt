@@ -13,6 +13,7 @@ ghost use Rattle.dw_convert.specs.Lookups.{addresses_in};
 ghost use Rattle.dw_convert.specs.Operations.{TypedConstant, same_code, deref};
 
 use crate::address::{address_in, converted, indexed_in};
+use crate::constant::copied;
 use crate::listing::{Listing, Step, read_listing, target};
 use crate::references::{ConvertDebugInfoRef, convert_base};
 use dw_base::constants::{DW_OP_GNU_push_tls_address, DW_OP_form_tls_address};
@@ -21,7 +22,6 @@ use dw_expr::{Expression, Operation};
 use dw_read::{Expression as ReadExpression, Reader};
 use dw_read_units::UnitRef;
 use dw_sources::{ConvertError, ConvertResult, Operation as ReadOperation};
-use dw_writer::Bytes;
 use std::alloc::Global;
 
 /// How many expressions may stand within each other, the outermost counted. What is built takes the
@@ -282,12 +282,4 @@ fn deref(space: bool, size: u8, encoding: Encoding) -> Operation
     } else {
         Operation::DerefSize { space, size }
     }
-}
-
-/// A copy of the bytes that a reader has left.
-fn copied<R: Reader>(alloc: Global, bytes: &R) -> ConvertResult<Bytes>
-    ensures ok { IfOk result (λ copy. copy ≡ left (R.reading bytes.now)) }
-    ensures err { IfErr result (λ e. e ≡ NoMemory) }
-{
-    Bytes::new(alloc, bytes.to_slice()).map_err(|_| ConvertError::NoMemory)
 }

@@ -62,7 +62,7 @@ pub(crate) fn convert_value<R: Reader, C: ConvertDebugInfoRef, F: Fn(u64) -> Opt
             Ok(Image::Value(AttributeValue::Exprloc(read)))
         }
         other => {
-            let value = plain_value(alloc, unit, files, other, convert_address, refs)?;
+            let value = plain_value(alloc, unit, files, &other, convert_address, refs)?;
             Ok(Image::Value(value))
         }
     }
@@ -73,32 +73,33 @@ fn plain_value<R: Reader, C: ConvertDebugInfoRef, F: Fn(u64) -> Option<Address>>
     alloc: Global,
     unit: UnitRef<'_, R>,
     files: &[FileId],
-    value: ReadValue<R>,
+    value: &ReadValue<R>,
     convert_address: &F,
     refs: &C,
 ) -> ConvertResult<AttributeValue>
     requires { F.IsAlwaysCallable convert_address.now }
     ensures { (result ≡ Err NoMemory) ⊎ PlainOutcome R.reading (F.post convert_address.now)
-        (C.entries refs.now) (C.infos refs.now) unit.entry files.now (value_of R.reading value)
+        (C.entries refs.now) (C.infos refs.now) unit.entry files.now (value_of R.reading value.now)
         result }
 {
     match value {
         ReadValue::Addr(address) => {
-            converted(address, convert_address).map(AttributeValue::Address)
+            converted(*address, convert_address).map(AttributeValue::Address)
         }
         ReadValue::DebugAddrIndex(index) => {
-            indexed(unit, index, convert_address).map(AttributeValue::Address)
+            indexed(unit, *index, convert_address).map(AttributeValue::Address)
         }
-        ReadValue::UnitRef(entry) => refs.convert_unit_ref(entry).map(AttributeValue::UnitRef),
+        ReadValue::UnitRef(entry) => refs.convert_unit_ref(*entry).map(AttributeValue::UnitRef),
         ReadValue::DebugInfoRef(entry) => {
-            refs.convert_debug_info_ref(entry)
+            refs.convert_debug_info_ref(*entry)
                 .map(AttributeValue::DebugInfoRef)
         }
         ReadValue::FileIndex(index) => {
-            convert_file_index(unit.encoding().version, files, index).map(AttributeValue::FileIndex)
+            let version = unit.encoding().version;
+            convert_file_index(version, files, *index).map(AttributeValue::FileIndex)
         }
-        ReadValue::DebugLineRef(offset) => program_image(unit.unit.line_program, offset),
-        other => same_value(alloc, &other),
+        ReadValue::DebugLineRef(offset) => program_image(unit.unit.line_program, *offset),
+        other => same_value(alloc, other),
     }
 }
 

@@ -1,5 +1,5 @@
-use Rattle.std.proofs.Common.{◌∙◌, sym, ap, [], ◌∷◌, ◌++◌, ⊎_elim, inl, inr}
-use Rattle.std.proofs.lemmas.Result.{IfOk-weaker}
+use Rattle.std.proofs.Common.{◌∙◌, sym, ap, [], ◌∷◌, ◌++◌, ⊎_elim, inl, inr, refl}
+use Rattle.std.proofs.lemmas.Result.{IfOk-weaker, IfErr-weaker}
 use Rattle.dw_base.specs.declared.constants.DwAt.{DwAt}
 use Rattle.dw_convert.specs.AttributeLists.{is_dropped}
 use Rattle.dw_convert.specs.Tables.{tables}
@@ -33,3 +33,15 @@ pub returns-clause-ok : goal.returns-clause-ok
 returns-clause-ok g c =
     let values = c.attributes.converted.items in
     IfOk-weaker c.once.result _ _ (λ v e. all_done _ _ g.R.Reader.reading (goal.F-post g c.args.convert_address.now) (g.C.ConvertDebugInfoRef.entries c.args.refs.now) (g.C.ConvertDebugInfoRef.infos c.args.refs.now) c.args.unit c.args.files.now c.args.attributes.now c.attributes.attribute-index _ values v.items _ c.attributes-test.false c.attributes.invariant e) c.once.ensures.ok
+
+pub returns-in_err-value-clause-ok : goal.returns-in_err-value-clause-ok
+returns-in_err-value-clause-ok g c = rw (is_err _ _ c.from_residual.ensures) tt
+
+pub returns-in_err-push-clause-ok : goal.returns-in_err-push-clause-ok
+returns-in_err-push-clause-ok g c = rw (is_err _ _ c.from_residual-in_err-push.ensures) tt
+
+pub returns-in_err-push-clause-err : goal.returns-in_err-push-clause-err
+returns-in_err-push-clause-err g c = rw (is_err _ _ c.from_residual-in_err-push.ensures) (inl refl)
+
+pub returns-clause-err : goal.returns-clause-err
+returns-clause-err g c = IfErr-weaker c.once.result _ _ (λ e h. inl h) c.once.ensures.err

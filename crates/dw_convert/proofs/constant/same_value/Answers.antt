@@ -1,4 +1,5 @@
-use Rattle.std.proofs.Common.{refl, inr}
+use Rattle.std.proofs.Common.{refl, inr, SFits, w64, rules}
+use Rattle.std.proofs.lemmas.Int.{to_z-of_z}
 use Rattle.dw_convert.proofs.constant.same_value.Goals as goal
 
 pub returns-in-Data1 : goal.returns-in-Data1
@@ -75,3 +76,8 @@ returns-in-Inline g c = inr (rw c.in-Inline.is refl)
 
 pub returns-in-Ordering : goal.returns-in-Ordering
 returns-in-Ordering g c = inr (rw c.in-Ordering.is refl)
+
+pub returns-in-Sdata : goal.returns-in-Sdata
+returns-in-Sdata g c =
+    let fits : SFits w64 c.in-Sdata.number = search rules in
+    inr (rw (c.in-Sdata.is, to_z-of_z w64 c.in-Sdata.number fits) refl)

@@ -1,4 +1,4 @@
-use Rattle.std.proofs.Common.{◌≡◌, ◌∙◌, ◌+◌, ◌-◌, sym, ap, subst, List, [], ◌∷◌, ◌++◌, Ok, Err, ⊎_elim, inl, inr}
+use Rattle.std.proofs.Common.{◌≡◌, ◌∙◌, ◌+◌, ◌-◌, sym, ap, subst, List, [], ◌∷◌, ◌++◌, Ok, Err, ⊎_elim, inl, inr, refl}
 use Rattle.std.proofs.lemmas.List.{map-append}
 use Rattle.dw_expr.specs.Trees.{Node}
 use Rattle.dw_expr.specs.Views.{node_of, nodes_in}
@@ -76,3 +76,36 @@ convert_within-returns-clause-ok g t c =
     let r = reading c.args.expression.0 in
     rw c.from_operations.ensures (at_level answers addresses entries infos r.is_big c.args.encoding c.args.depth _ (Ok nodes) c.if-depth-eq0.false
     (all_done _ _ reading answers addresses entries infos r c.args.encoding c.in_ok-listing.listing c.in_ok-listing.ensures.ok (c.args.depth - 1) c.deref-step-items.result.now c.steps.step-index nodes c.deref-step-items.ensures.value c.steps-test.false c.steps.invariant))
+
+pub convert_within-returns-then-depth-eq0-clause-ok : goal.convert_within-returns-then-depth-eq0-clause-ok
+convert_within-returns-then-depth-eq0-clause-ok g t c = tt
+
+pub convert_within-returns-then-depth-eq0-clause-err : goal.convert_within-returns-then-depth-eq0-clause-err
+convert_within-returns-then-depth-eq0-clause-err g t c = inl refl
+
+pub convert_within-returns-in_err-listing-clause-ok : goal.convert_within-returns-in_err-listing-clause-ok
+convert_within-returns-in_err-listing-clause-ok g t c = rw (is_err _ _ c.from_residual.ensures) tt
+
+pub convert_within-returns-in_err-operations-clause-ok : goal.convert_within-returns-in_err-operations-clause-ok
+convert_within-returns-in_err-operations-clause-ok g t c = rw (is_err _ _ c.from_residual-in_err-operations.ensures) tt
+
+pub convert_within-returns-in_err-operations-clause-err : goal.convert_within-returns-in_err-operations-clause-err
+convert_within-returns-in_err-operations-clause-err g t c = rw (is_err _ _ c.from_residual-in_err-operations.ensures) (inl refl)
+
+pub convert_within-returns-in_err-operation-clause-ok : goal.convert_within-returns-in_err-operation-clause-ok
+convert_within-returns-in_err-operation-clause-ok g t c = rw (is_err _ _ c.from_residual-in_err-operation.ensures) tt
+
+pub convert_within-returns-in_err-push-clause-ok : goal.convert_within-returns-in_err-push-clause-ok
+convert_within-returns-in_err-push-clause-ok g t c = rw (is_err _ _ c.from_residual-in_err-push.ensures) tt
+
+pub convert_within-returns-in_err-push-clause-err : goal.convert_within-returns-in_err-push-clause-err
+convert_within-returns-in_err-push-clause-err g t c = rw (is_err _ _ c.from_residual-in_err-push.ensures) (inl refl)
+
+pub convert_within-returns-clause-err : goal.convert_within-returns-clause-err
+convert_within-returns-clause-err g t c = tt
+
+pub convert_operation-returns-in_err-inner-in-EntryValue-clause-ok : goal.convert_operation-returns-in_err-inner-in-EntryValue-clause-ok
+convert_operation-returns-in_err-inner-in-EntryValue-clause-ok g t c = rw (is_err _ _ c.from_residual.ensures) tt
+
+pub convert_operation-returns-in_ok-inner-in-EntryValue-clause-err : goal.convert_operation-returns-in_ok-inner-in-EntryValue-clause-err
+convert_operation-returns-in_ok-inner-in-EntryValue-clause-err g t c = tt

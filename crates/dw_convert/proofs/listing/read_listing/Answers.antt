@@ -1,4 +1,4 @@
-use Rattle.std.proofs.Common.{◌≡◌, ◌∙◌, sym, ap, subst, ℕ, ◌-◌, List, [], ◌∷◌, ◌++◌, refl}
+use Rattle.std.proofs.Common.{◌≡◌, ◌∙◌, sym, ap, subst, ℕ, ◌-◌, List, [], ◌∷◌, ◌++◌, refl, inl}
 use Rattle.dw_sources.proofs.Progress.{fewer_left}
 use Rattle.dw_convert.specs.declared.listing.Step.{Step as HeldStep}
 use Rattle.dw_convert.proofs.Addresses.{is_err}
@@ -50,3 +50,12 @@ returns-in_err-push-3-clause-ok g c = rw (is_err _ _ c.from_residual-in_err-push
 
 pub returns-clause-err : goal.returns-clause-err
 returns-clause-err g c = tt
+
+pub returns-in_err-push-clause-err : goal.returns-in_err-push-clause-err
+returns-in_err-push-clause-err g c = rw (is_err _ _ c.from_residual.ensures) (inl refl)
+
+pub returns-in_err-push-2-clause-err : goal.returns-in_err-push-2-clause-err
+returns-in_err-push-2-clause-err g c = rw (is_err _ _ c.from_residual-in_err-push-2.ensures) (inl refl)
+
+pub returns-in_err-push-3-clause-err : goal.returns-in_err-push-3-clause-err
+returns-in_err-push-3-clause-err g c = rw (is_err _ _ c.from_residual-in_err-push-3.ensures) (inl refl)

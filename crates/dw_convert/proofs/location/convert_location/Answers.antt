@@ -1,4 +1,4 @@
-use Rattle.std.proofs.Common.{◌≡◌, Err, ⊎_elim, inl, inr}
+use Rattle.std.proofs.Common.{◌≡◌, Err, ⊎_elim, inl, inr, refl}
 use Rattle.dw_convert.proofs.Addresses.{is_err}
 use Rattle.dw_convert.proofs.LocationSteps.{range_converted, range_refused, default_converted, default_refused}
 use Rattle.dw_convert.proofs.location.convert_location.Goals as goal
@@ -42,3 +42,8 @@ returns-in_err-expression-in-Default-clause-ok g c = rw (is_err _ _ c.from_resid
 
 pub returns-in_ok-expression-in-Default-clause-err : goal.returns-in_ok-expression-in-Default-clause-err
 returns-in_ok-expression-in-Default-clause-err g c = tt
+
+pub returns-in_err-range-in-Base-clause-err : goal.returns-in_err-range-in-Base-clause-err
+returns-in_err-range-in-Base-clause-err g c =
+    let why = c.in_err-range-in-Base.field-0.0 in
+    rw (is_err _ why c.from_residual.ensures, c.in-Base.is) (inr (Err why, c.in_err-range-in-Base.ensures, refl))

@@ -105,3 +105,33 @@ returns-in_err-item-clause-err g c =
       begun = i.begun;
       cause = inl (record { error = c.in_err-item.field-0.0; reason = refused_here _ _ reading _ _ _ _ _ i.order i.encoding c.in_err-item.ensures; is = refl });
     })))
+
+pub returns-in_err-items-clause-ok : goal.returns-in_err-items-clause-ok
+returns-in_err-items-clause-ok g c = rw (is_err _ _ c.from_residual.ensures) tt
+
+pub returns-in_err-items-clause-written : goal.returns-in_err-items-clause-written
+returns-in_err-items-clause-written g c = rw (is_err _ _ c.from_residual.ensures) tt
+
+pub returns-in_err-item-clause-ok : goal.returns-in_err-item-clause-ok
+returns-in_err-item-clause-ok g c = rw (is_err _ _ c.from_residual-in_err-item.ensures) tt
+
+pub returns-in_err-item-clause-written : goal.returns-in_err-item-clause-written
+returns-in_err-item-clause-written g c = rw (is_err _ _ c.from_residual-in_err-item.ensures) tt
+
+pub returns-in_err-range-clause-ok : goal.returns-in_err-range-clause-ok
+returns-in_err-range-clause-ok g c = rw (is_err _ _ c.from_residual-in_err-range.ensures) tt
+
+pub returns-in_err-range-clause-written : goal.returns-in_err-range-clause-written
+returns-in_err-range-clause-written g c = rw (is_err _ _ c.from_residual-in_err-range.ensures) tt
+
+pub returns-in_err-keep-clause-ok : goal.returns-in_err-keep-clause-ok
+returns-in_err-keep-clause-ok g c = rw (is_err _ _ c.from_residual-in_err-keep.ensures) tt
+
+pub returns-in_err-keep-clause-written : goal.returns-in_err-keep-clause-written
+returns-in_err-keep-clause-written g c = rw (is_err _ _ c.from_residual-in_err-keep.ensures) tt
+
+pub returns-in_err-keep-clause-err : goal.returns-in_err-keep-clause-err
+returns-in_err-keep-clause-err g c = rw (is_err _ _ c.from_residual-in_err-keep.ensures) (inl c.in_err-keep.ensures.err)
+
+pub returns-clause-err : goal.returns-clause-err
+returns-clause-err g c = tt

@@ -23,3 +23,12 @@ pub returns-clause-err : goal.returns-clause-err
 returns-clause-err g c =
     let q : locations_of g.R.Reader.reading c.args.unit c.args.index ≡ Ok c.in_ok-offset.offset.0 = ap of_read (found_list _ _ _ _ _ (search rules) c.in_ok-offset.ensures.ok) in
     err_then c.locations_at.result _ _ _ (λ e h. after_ok _ (LocationsFound g.R.Reader.reading (goal.F-post g c.args.convert_address.now) (g.C.ConvertDebugInfoRef.entries c.args.refs.now) (g.C.ConvertDebugInfoRef.infos c.args.refs.now) c.args.unit) _ _ q h) c.locations_at.ensures.err
+
+pub returns-in_err-offset-clause-ok : goal.returns-in_err-offset-clause-ok
+returns-in_err-offset-clause-ok g c = rw (is_err _ _ c.from_residual.ensures) tt
+
+pub returns-in_err-offset-clause-text : goal.returns-in_err-offset-clause-text
+returns-in_err-offset-clause-text g c = rw (is_err _ _ c.from_residual.ensures) tt
+
+pub returns-clause-text : goal.returns-clause-text
+returns-clause-text g c = c.locations_at.ensures.text

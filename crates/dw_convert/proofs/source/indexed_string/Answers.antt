@@ -23,3 +23,12 @@ pub returns-clause-err : goal.returns-clause-err
 returns-clause-err g c =
     let q : string_of g.R.Reader.reading c.args.unit c.args.index ≡ string_in g.R.Reader.reading c.args.unit c.in_ok-offset.offset.0 = ap of_read (led_to_text _ _ _ _ _ _ _ c.in_ok-offset.ensures.ok refl) in
     IfErr-weaker c.string_at.result _ _ (λ e h. made_from _ _ image.String _ q h) c.string_at.ensures.err
+
+pub returns-in_err-offset-clause-ok : goal.returns-in_err-offset-clause-ok
+returns-in_err-offset-clause-ok g c = rw (is_err _ _ c.from_residual.ensures) tt
+
+pub returns-in_err-offset-clause-text : goal.returns-in_err-offset-clause-text
+returns-in_err-offset-clause-text g c = rw (is_err _ _ c.from_residual.ensures) tt
+
+pub returns-clause-text : goal.returns-clause-text
+returns-clause-text g c = c.string_at.ensures.text

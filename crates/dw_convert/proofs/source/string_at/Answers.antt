@@ -17,3 +17,12 @@ returns-clause-ok g c = made_ok _ image.String _ (ap of_read (found_text _ _ _ c
 
 pub returns-clause-text : goal.returns-clause-text
 returns-clause-text g c = read_text _ _ _ c.in_ok-text.ensures.ok
+
+pub returns-in_err-text-clause-ok : goal.returns-in_err-text-clause-ok
+returns-in_err-text-clause-ok g c = rw (is_err _ _ c.from_residual.ensures) tt
+
+pub returns-in_err-text-clause-text : goal.returns-in_err-text-clause-text
+returns-in_err-text-clause-text g c = rw (is_err _ _ c.from_residual.ensures) tt
+
+pub returns-clause-err : goal.returns-clause-err
+returns-clause-err g c = tt

@@ -1,4 +1,4 @@
-use Rattle.std.proofs.Common.{◌≡◌, Err, inr}
+use Rattle.std.proofs.Common.{◌≡◌, Err, inr, Ok, inl, ⊎_elim, refl}
 use Rattle.std.proofs.lemmas.Result.{IfErr-weaker}
 use Rattle.dw_read.specs.Orders.{value_order}
 use Rattle.dw_convert.specs.Values.{order_or_little}
@@ -124,3 +124,12 @@ returns-in_ok-value-in_default-clause-text g c = tt
 
 pub returns-in_ok-value-in_default-clause-err : goal.returns-in_ok-value-in_default-clause-err
 returns-in_ok-value-in_default-clause-err g c = tt
+
+pub returns-in_ok-read-in-Exprloc-clause-ok : goal.returns-in_ok-read-in-Exprloc-clause-ok
+returns-in_ok-read-in-Exprloc-clause-ok g c = rw c.in-Exprloc.is (Ok c.in_ok-read-in-Exprloc.read, c.in_ok-read-in-Exprloc.ensures.ok, refl)
+
+pub returns-in_err-read-in-Exprloc-clause-err : goal.returns-in_err-read-in-Exprloc-clause-err
+returns-in_err-read-in-Exprloc-clause-err g c =
+    let why = c.in_err-read-in-Exprloc.field-0.0 in
+    let e : c.from_residual.result ≡ Err why = is_err _ _ c.from_residual.ensures in
+    rw (e, c.in-Exprloc.is) (⊎_elim (λ n. inl n) (λ h. inr (Err why, h, refl)) c.in_err-read-in-Exprloc.ensures.err)
