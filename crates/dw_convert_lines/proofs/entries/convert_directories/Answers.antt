@@ -107,3 +107,24 @@ returns-clause-same g c =
       layout = q.layout ∙ i.layout;
       order = order_closed _ _ reading _ _ _ _ begun.parts i.order i.layout begun.described i.open_yet q ∙ i.order;
     }
+
+pub returns-in_err-entry-clause-ok : goal.returns-in_err-entry-clause-ok
+returns-in_err-entry-clause-ok g c = rw (is_err _ _ c.from_residual.ensures) tt
+
+pub returns-in_err-entry-clause-same : goal.returns-in_err-entry-clause-same
+returns-in_err-entry-clause-same g c = rw (is_err _ _ c.from_residual.ensures) tt
+
+pub returns-in_err-entry-clause-target : goal.returns-in_err-entry-clause-target
+returns-in_err-entry-clause-target g c = rw (is_err _ _ c.from_residual.ensures) tt
+
+pub returns-in_err-convert_directory-clause-ok : goal.returns-in_err-convert_directory-clause-ok
+returns-in_err-convert_directory-clause-ok g c = rw (is_err _ _ c.from_residual-in_err-convert_directory.ensures) tt
+
+pub returns-in_err-convert_directory-clause-same : goal.returns-in_err-convert_directory-clause-same
+returns-in_err-convert_directory-clause-same g c = rw (is_err _ _ c.from_residual-in_err-convert_directory.ensures) tt
+
+pub returns-in_err-convert_directory-clause-target : goal.returns-in_err-convert_directory-clause-target
+returns-in_err-convert_directory-clause-target g c = rw (is_err _ _ c.from_residual-in_err-convert_directory.ensures) tt
+
+pub returns-clause-err : goal.returns-clause-err
+returns-clause-err g c = tt

@@ -96,3 +96,18 @@ returns-clause-ok g c =
       walked = i.walked parts has;
       end = closed_here _ _ reading _ _ _ _ parts i.order i.layout has i.open_yet q;
     }
+
+pub returns-in_err-entry-clause-ok : goal.returns-in_err-entry-clause-ok
+returns-in_err-entry-clause-ok g c = rw (is_err _ _ c.from_residual.ensures) tt
+
+pub returns-in_err-entry-clause-target : goal.returns-in_err-entry-clause-target
+returns-in_err-entry-clause-target g c = rw (is_err _ _ c.from_residual.ensures) tt
+
+pub returns-in_err-convert_file-clause-ok : goal.returns-in_err-convert_file-clause-ok
+returns-in_err-convert_file-clause-ok g c = rw (is_err _ _ c.from_residual-in_err-convert_file.ensures) tt
+
+pub returns-in_err-convert_file-clause-target : goal.returns-in_err-convert_file-clause-target
+returns-in_err-convert_file-clause-target g c = rw (is_err _ _ c.from_residual-in_err-convert_file.ensures) tt
+
+pub returns-clause-err : goal.returns-clause-err
+returns-clause-err g c = tt

@@ -102,3 +102,30 @@ pub returns-in_err-push-in-Ok : goal.returns-in_err-push-in-Ok
 returns-in_err-push-in-Ok g c =
     let e = is_err _ NoMemory c.from_residual-in_err-push-in-Ok.ensures in
     rw e (record { ok = tt; target = tt; err = inl refl })
+
+pub returns-in_err-name-clause-ok : goal.returns-in_err-name-clause-ok
+returns-in_err-name-clause-ok g c = rw (is_err _ _ c.from_residual.ensures) tt
+
+pub returns-in_err-name-clause-target : goal.returns-in_err-name-clause-target
+returns-in_err-name-clause-target g c = rw (is_err _ _ c.from_residual.ensures) tt
+
+pub returns-in_err-number-clause-ok : goal.returns-in_err-number-clause-ok
+returns-in_err-number-clause-ok g c = rw (is_err _ _ c.from_residual-in_err-number.ensures) tt
+
+pub returns-in_err-number-clause-target : goal.returns-in_err-number-clause-target
+returns-in_err-number-clause-target g c = rw (is_err _ _ c.from_residual-in_err-number.ensures) tt
+
+pub returns-in_err-directory-clause-ok : goal.returns-in_err-directory-clause-ok
+returns-in_err-directory-clause-ok g c = rw (is_err _ _ c.from_residual-in_err-directory.ensures) tt
+
+pub returns-in_err-directory-clause-target : goal.returns-in_err-directory-clause-target
+returns-in_err-directory-clause-target g c = rw (is_err _ _ c.from_residual-in_err-directory.ensures) tt
+
+pub returns-in_err-info-clause-ok : goal.returns-in_err-info-clause-ok
+returns-in_err-info-clause-ok g c = rw (is_err _ _ c.from_residual-in_err-info.ensures) tt
+
+pub returns-in_err-info-clause-target : goal.returns-in_err-info-clause-target
+returns-in_err-info-clause-target g c = rw (is_err _ _ c.from_residual-in_err-info.ensures) tt
+
+pub returns-in_ok-push-in-Ok-clause-err : goal.returns-in_ok-push-in-Ok-clause-err
+returns-in_ok-push-in-Ok-clause-err g c = tt

@@ -69,3 +69,33 @@ returns-clause-ok g c =
     let x = entry_of reading c.args.entry.now in
     let source : Option LineString × Tables = (c.in_ok-source.source, tables c.convert_source.new.strings c.convert_source.new.line_strings) in
     info_made texts c.args.is_big t x c.in_ok-timestamp.timestamp c.in_ok-timestamp.ensures c.in_ok-size.size c.in_ok-size.ensures (nat_le 5 c.args.version) (le-leb 5 c.args.version c.if-version-lt5.false) c.in_ok-md5.md5 c.in_ok-md5.ensures source c.in_ok-source.ensures.ok
+
+pub returns-in_err-timestamp-clause-ok : goal.returns-in_err-timestamp-clause-ok
+returns-in_err-timestamp-clause-ok g c = rw (is_err _ _ c.from_residual.ensures) tt
+
+pub returns-in_err-timestamp-clause-text : goal.returns-in_err-timestamp-clause-text
+returns-in_err-timestamp-clause-text g c = rw (is_err _ _ c.from_residual.ensures) tt
+
+pub returns-in_err-size-clause-ok : goal.returns-in_err-size-clause-ok
+returns-in_err-size-clause-ok g c = rw (is_err _ _ c.from_residual-in_err-size.ensures) tt
+
+pub returns-in_err-size-clause-text : goal.returns-in_err-size-clause-text
+returns-in_err-size-clause-text g c = rw (is_err _ _ c.from_residual-in_err-size.ensures) tt
+
+pub returns-in_err-md5-clause-ok : goal.returns-in_err-md5-clause-ok
+returns-in_err-md5-clause-ok g c = rw (is_err _ _ c.from_residual-in_err-md5.ensures) tt
+
+pub returns-in_err-md5-clause-text : goal.returns-in_err-md5-clause-text
+returns-in_err-md5-clause-text g c = rw (is_err _ _ c.from_residual-in_err-md5.ensures) tt
+
+pub returns-in_err-source-clause-ok : goal.returns-in_err-source-clause-ok
+returns-in_err-source-clause-ok g c = rw (is_err _ _ c.from_residual-in_err-source.ensures) tt
+
+pub returns-in_err-source-clause-text : goal.returns-in_err-source-clause-text
+returns-in_err-source-clause-text g c = rw (is_err _ _ c.from_residual-in_err-source.ensures) tt
+
+pub returns-then-version-lt5-clause-err : goal.returns-then-version-lt5-clause-err
+returns-then-version-lt5-clause-err g c = tt
+
+pub returns-clause-err : goal.returns-clause-err
+returns-clause-err g c = tt

@@ -56,3 +56,12 @@ returns-clause-ok g c =
 
 pub convert_directories-requires-clause-begun : goal.convert_directories-requires-clause-begun
 convert_directories-requires-clause-begun g c = c.requires.begun
+
+pub returns-in_err-directories-clause-ok : goal.returns-in_err-directories-clause-ok
+returns-in_err-directories-clause-ok g c = rw (is_err _ _ c.from_residual.ensures) tt
+
+pub returns-in_err-convert_directories-clause-ok : goal.returns-in_err-convert_directories-clause-ok
+returns-in_err-convert_directories-clause-ok g c = rw (is_err _ _ c.from_residual-in_err-convert_directories.ensures) tt
+
+pub returns-in_err-directories-clause-err : goal.returns-in_err-directories-clause-err
+returns-in_err-directories-clause-err g c = rw (is_err _ _ c.from_residual.ensures) (inl c.in_err-directories.ensures.err)

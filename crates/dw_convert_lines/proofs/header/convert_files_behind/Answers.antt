@@ -51,3 +51,18 @@ returns-clause-ok g c =
     let rest = left (reading c.convert_files.new.entries.input) in
     all_files _ _ reading texts h refs c.args.entries.now d c.requires.laid f v x rest begins first
     (subst (λ (b : Bool). EntriesOutcome reading (file_image texts b refs c.args.directories.now) f v (Ok (x, rest))) c.is_big-is_big.ensures c.in_ok-convert_files.ensures.ok)
+
+pub returns-in_err-listed-clause-ok : goal.returns-in_err-listed-clause-ok
+returns-in_err-listed-clause-ok g c = rw (is_err _ _ c.from_residual.ensures) tt
+
+pub returns-in_err-files-clause-ok : goal.returns-in_err-files-clause-ok
+returns-in_err-files-clause-ok g c = rw (is_err _ _ c.from_residual-in_err-files.ensures) tt
+
+pub returns-in_err-convert_files-clause-ok : goal.returns-in_err-convert_files-clause-ok
+returns-in_err-convert_files-clause-ok g c = rw (is_err _ _ c.from_residual-in_err-convert_files.ensures) tt
+
+pub returns-in_err-files-clause-err : goal.returns-in_err-files-clause-err
+returns-in_err-files-clause-err g c = rw (is_err _ _ c.from_residual-in_err-files.ensures) (inl c.in_err-files.ensures.err)
+
+pub returns-clause-err : goal.returns-clause-err
+returns-clause-err g c = tt

@@ -51,3 +51,9 @@ returns-clause-err g c =
     let u = tables c.working_directory.new.strings c.working_directory.new.line_strings in
     err_then c.program_with_entries.result _ _ _ (λ e o. behind_working _ _ reading texts h c.args.encoding c.args.line_encoding t _ i c.working_directory.new.entries c.in_ok-working.working u _ begins c.tells_working_directory-is_new.ensures c.in_ok-working.ensures.ok c.in_ok-working.ensures.same o)
     c.program_with_entries.ensures.err
+
+pub returns-in_err-entries-clause-ok : goal.returns-in_err-entries-clause-ok
+returns-in_err-entries-clause-ok g c = rw (is_err _ _ c.from_residual.ensures) tt
+
+pub returns-in_err-working-clause-ok : goal.returns-in_err-working-clause-ok
+returns-in_err-working-clause-ok g c = rw (is_err _ _ c.from_residual-in_err-working.ensures) tt

@@ -38,3 +38,15 @@ convert_entries-requires-clause-begun g c = c.requires.begun
 
 pub convert_entries-requires-clause-laid : goal.convert_entries-requires-clause-laid
 convert_entries-requires-clause-laid g c = c.requires.laid
+
+pub returns-in_err-program-clause-ok : goal.returns-in_err-program-clause-ok
+returns-in_err-program-clause-ok g c = rw (is_err _ _ c.from_residual.ensures) tt
+
+pub returns-in_err-files-clause-ok : goal.returns-in_err-files-clause-ok
+returns-in_err-files-clause-ok g c = rw (is_err _ _ c.from_residual-in_err-files.ensures) tt
+
+pub returns-in_err-program-clause-err : goal.returns-in_err-program-clause-err
+returns-in_err-program-clause-err g c = rw (is_err _ _ c.from_residual.ensures) (inl c.in_err-program.ensures.err)
+
+pub returns-clause-err : goal.returns-clause-err
+returns-clause-err g c = tt

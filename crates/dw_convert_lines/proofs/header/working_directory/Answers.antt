@@ -1,3 +1,4 @@
+use Rattle.std.proofs.lemmas.Result.{IfErr-weaker}
 use Rattle.std.proofs.Common.{◌≡◌, sym, subst, refl, inl, inr, ℕ, Option, Ok, Err}
 use Rattle.std.specs.Prelude.{nat_le}
 use Rattle.dw_read.specs.Reading.{left}
@@ -65,3 +66,33 @@ returns-in_default-clause-err g c =
     let reading = g.R.Reader.reading in
     let q = closes _ _ reading _ _ _ c.in_ok-entry.ensures c.in_default.is in
     inr (λ parts has. working_none _ _ _ _ _ _ _ _ c.if-is_new.true (closed_here _ _ reading _ _ _ _ parts refl refl has c.requires.open_yet q))
+
+pub returns-in_err-entry-clause-ok : goal.returns-in_err-entry-clause-ok
+returns-in_err-entry-clause-ok g c = rw (is_err _ _ c.from_residual.ensures) tt
+
+pub returns-in_err-entry-clause-text : goal.returns-in_err-entry-clause-text
+returns-in_err-entry-clause-text g c = rw (is_err _ _ c.from_residual.ensures) tt
+
+pub returns-in_err-entry-clause-same : goal.returns-in_err-entry-clause-same
+returns-in_err-entry-clause-same g c = rw (is_err _ _ c.from_residual.ensures) tt
+
+pub returns-in_err-entry-clause-open : goal.returns-in_err-entry-clause-open
+returns-in_err-entry-clause-open g c = rw (is_err _ _ c.from_residual.ensures) tt
+
+pub returns-in_default-clause-ok : goal.returns-in_default-clause-ok
+returns-in_default-clause-ok g c = tt
+
+pub returns-in_default-clause-text : goal.returns-in_default-clause-text
+returns-in_default-clause-text g c = tt
+
+pub returns-in_default-clause-same : goal.returns-in_default-clause-same
+returns-in_default-clause-same g c = tt
+
+pub returns-in_default-clause-open : goal.returns-in_default-clause-open
+returns-in_default-clause-open g c = tt
+
+pub returns-then-is_new-clause-text : goal.returns-then-is_new-clause-text
+returns-then-is_new-clause-text g c = c.convert_name.ensures.text
+
+pub returns-clause-err : goal.returns-clause-err
+returns-clause-err g c = IfErr-weaker c.inline.result _ _ (λ e h. inl h) c.inline.ensures.err

@@ -79,3 +79,24 @@ returns-in_err-add_end-in-EndsSequence-clause-err g c =
           let step : stepped h i (registers_of c.args.machine.registers) ≡ Some (registers_of c.in-Some.registers) = sym (c.step.ensures big) ∙ ap (option_map registers_of) c.in-Some.is in
           end_refused h c.args.header.now.encoding.encoding.version c.args.files.now (goal.F-post g c.args.convert_address.now) i (registers_of c.args.machine.registers) (registers_of c.in-Some.registers) c.args.machine.base step c.args.program.now why (sym c.effect_of.ensures ∙ c.in-EndsSequence.is) n)
     ])
+
+pub returns-in_err-add_row-in-ShowsRow-clause-ok : goal.returns-in_err-add_row-in-ShowsRow-clause-ok
+returns-in_err-add_row-in-ShowsRow-clause-ok g c = rw (is_err _ _ c.from_residual.ensures) tt
+
+pub returns-in_err-add_end-in-EndsSequence-clause-ok : goal.returns-in_err-add_end-in-EndsSequence-clause-ok
+returns-in_err-add_end-in-EndsSequence-clause-ok g c = rw (is_err _ _ c.from_residual-in_err-add_end-in-EndsSequence.ensures) tt
+
+pub returns-in_ok-add_row-in-ShowsRow-clause-err : goal.returns-in_ok-add_row-in-ShowsRow-clause-err
+returns-in_ok-add_row-in-ShowsRow-clause-err g c = tt
+
+pub returns-in_ok-add_end-in-EndsSequence-clause-err : goal.returns-in_ok-add_end-in-EndsSequence-clause-err
+returns-in_ok-add_end-in-EndsSequence-clause-err g c = tt
+
+pub returns-then-in_sequence-clause-err : goal.returns-then-in_sequence-clause-err
+returns-then-in_sequence-clause-err g c = tt
+
+pub returns-else-in_sequence-clause-err : goal.returns-else-in_sequence-clause-err
+returns-else-in_sequence-clause-err g c = tt
+
+pub returns-in-Nothing-clause-err : goal.returns-in-Nothing-clause-err
+returns-in-Nothing-clause-err g c = tt

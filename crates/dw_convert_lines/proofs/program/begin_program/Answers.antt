@@ -39,3 +39,9 @@ returns-clause-begun g c =
     (told _ _ reading (texts_of reading c.args.dwarf.now) c.args.encoding c.args.line_encoding (tables c.args.strings.now c.args.line_strings.now) (Ok (converting x.0 x.1.items c.convert_header.new.strings c.convert_header.new.line_strings)) c.args.program.now c.header-header.result.now c.line_encoding.result c.opcode_base.result c.unwrap_or-target.result
     c.header-header.ensures c.line_encoding.ensures c.opcode_base.ensures (c.unwrap_or-target.ensures ∙ ap (λ (x : Encoding). unwrap_or c.args.encoding x) c.encoding.ensures)
     (Ok c.in_ok-parameters.parameters, c.in_ok-parameters.ensures, o))) c.convert_header.ensures.ok
+
+pub returns-in_err-parameters-clause-ok : goal.returns-in_err-parameters-clause-ok
+returns-in_err-parameters-clause-ok g c = rw (is_err _ _ c.from_residual.ensures) tt
+
+pub returns-in_err-parameters-clause-begun : goal.returns-in_err-parameters-clause-begun
+returns-in_err-parameters-clause-begun g c = rw (is_err _ _ c.from_residual.ensures) tt

@@ -1,3 +1,4 @@
+use Rattle.dw_convert_lines.proofs.Reasons.{is_err}
 use Rattle.std.proofs.Common.{sym, subst, ap, refl, Ok, Err}
 use Rattle.dw_line.specs.LinePrograms.{file_count_of}
 use Rattle.dw_read_lines.specs.declared.header.LineProgramHeader.{LineProgramHeader}
@@ -38,3 +39,6 @@ returns-clause-err g c =
       c.in_ok-target.ensures.ok,
       subst (λ (h : LineProgramHeader _ _). RowsOutcome reading answers h c.in_ok-target.files.items c.in_ok-target.target (Err e)) c.header.ensures o,
     )) c.with_rows.ensures.err
+
+pub returns-in_err-target-clause-ok : goal.returns-in_err-target-clause-ok
+returns-in_err-target-clause-ok g c = rw (is_err _ _ c.from_residual.ensures) tt

@@ -37,3 +37,9 @@ returns-clause-ok g c =
 
 pub returns-clause-text : goal.returns-clause-text
 returns-clause-text g c = IfOk-weaker c.read_null_terminated.result _ _ (λ text h. text_of _ (left (g.R.Reader.reading text), left (g.R.Reader.reading c.read_null_terminated.new.self)) h.value) c.read_null_terminated.ensures.ok
+
+pub returns-in_err-skip-clause-ok : goal.returns-in_err-skip-clause-ok
+returns-in_err-skip-clause-ok g c = rw (err_from_is_err_and c.from_residual.result c.from_residual.ensures.1).1 tt
+
+pub returns-in_err-skip-clause-text : goal.returns-in_err-skip-clause-text
+returns-in_err-skip-clause-text g c = rw (err_from_is_err_and c.from_residual.result c.from_residual.ensures.1).1 tt
