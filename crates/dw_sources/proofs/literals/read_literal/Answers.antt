@@ -168,3 +168,165 @@ pub returns-in_default-clause-ok : goal.returns-in_default-clause-ok
 unfolding literals
 returns-in_default-clause-ok g c =
     no_row (literals (g.R.Reader.reading c.args.input.now).is_big c.args.encoding c.args.opcode.0) _ (g.met.R.Reader.is_reading c.args.input.now) (rw (ne_eqb c.args.opcode.0 3 (omega arith), ne_eqb c.args.opcode.0 8 (omega arith), ne_eqb c.args.opcode.0 9 (omega arith), ne_eqb c.args.opcode.0 10 (omega arith), ne_eqb c.args.opcode.0 11 (omega arith), ne_eqb c.args.opcode.0 12 (omega arith), ne_eqb c.args.opcode.0 13 (omega arith), ne_eqb c.args.opcode.0 14 (omega arith), ne_eqb c.args.opcode.0 15 (omega arith), ne_eqb c.args.opcode.0 16 (omega arith), ne_eqb c.args.opcode.0 17 (omega arith), ne_eqb c.args.opcode.0 161 (omega arith), ne_eqb c.args.opcode.0 162 (omega arith)) refl)
+
+pub returns-in_err-read_address-in-DW_OP_addr-clause-ok : goal.returns-in_err-read_address-in-DW_OP_addr-clause-ok
+returns-in_err-read_address-in-DW_OP_addr-clause-ok g c = rw (err_from_is_err_and c.from_residual.result c.from_residual.ensures.1).1 tt
+
+pub returns-in_err-read_address-in-DW_OP_addr-clause-parts : goal.returns-in_err-read_address-in-DW_OP_addr-clause-parts
+returns-in_err-read_address-in-DW_OP_addr-clause-parts g c = rw (err_from_is_err_and c.from_residual.result c.from_residual.ensures.1).1 tt
+
+pub returns-in_ok-read_address-in-DW_OP_addr-clause-err : goal.returns-in_ok-read_address-in-DW_OP_addr-clause-err
+returns-in_ok-read_address-in-DW_OP_addr-clause-err g c = tt
+
+pub returns-in_err-read_u8-in-DW_OP_const1u-clause-ok : goal.returns-in_err-read_u8-in-DW_OP_const1u-clause-ok
+returns-in_err-read_u8-in-DW_OP_const1u-clause-ok g c = rw (err_from_is_err_and c.from_residual-in_err-read_u8-in-DW_OP_const1u.result c.from_residual-in_err-read_u8-in-DW_OP_const1u.ensures.1).1 tt
+
+pub returns-in_err-read_u8-in-DW_OP_const1u-clause-parts : goal.returns-in_err-read_u8-in-DW_OP_const1u-clause-parts
+returns-in_err-read_u8-in-DW_OP_const1u-clause-parts g c = rw (err_from_is_err_and c.from_residual-in_err-read_u8-in-DW_OP_const1u.result c.from_residual-in_err-read_u8-in-DW_OP_const1u.ensures.1).1 tt
+
+pub returns-in_ok-read_u8-in-DW_OP_const1u-clause-err : goal.returns-in_ok-read_u8-in-DW_OP_const1u-clause-err
+returns-in_ok-read_u8-in-DW_OP_const1u-clause-err g c = tt
+
+pub returns-in_err-read_i8-in-DW_OP_const1s-clause-ok : goal.returns-in_err-read_i8-in-DW_OP_const1s-clause-ok
+returns-in_err-read_i8-in-DW_OP_const1s-clause-ok g c = rw (err_from_is_err_and c.from_residual-in_err-read_i8-in-DW_OP_const1s.result c.from_residual-in_err-read_i8-in-DW_OP_const1s.ensures.1).1 tt
+
+pub returns-in_err-read_i8-in-DW_OP_const1s-clause-parts : goal.returns-in_err-read_i8-in-DW_OP_const1s-clause-parts
+returns-in_err-read_i8-in-DW_OP_const1s-clause-parts g c = rw (err_from_is_err_and c.from_residual-in_err-read_i8-in-DW_OP_const1s.result c.from_residual-in_err-read_i8-in-DW_OP_const1s.ensures.1).1 tt
+
+pub returns-in_ok-read_i8-in-DW_OP_const1s-clause-err : goal.returns-in_ok-read_i8-in-DW_OP_const1s-clause-err
+returns-in_ok-read_i8-in-DW_OP_const1s-clause-err g c = tt
+
+pub returns-in_err-read_u16-in-DW_OP_const2u-clause-ok : goal.returns-in_err-read_u16-in-DW_OP_const2u-clause-ok
+returns-in_err-read_u16-in-DW_OP_const2u-clause-ok g c = rw (err_from_is_err_and c.from_residual-in_err-read_u16-in-DW_OP_const2u.result c.from_residual-in_err-read_u16-in-DW_OP_const2u.ensures.1).1 tt
+
+pub returns-in_err-read_u16-in-DW_OP_const2u-clause-parts : goal.returns-in_err-read_u16-in-DW_OP_const2u-clause-parts
+returns-in_err-read_u16-in-DW_OP_const2u-clause-parts g c = rw (err_from_is_err_and c.from_residual-in_err-read_u16-in-DW_OP_const2u.result c.from_residual-in_err-read_u16-in-DW_OP_const2u.ensures.1).1 tt
+
+pub returns-in_ok-read_u16-in-DW_OP_const2u-clause-err : goal.returns-in_ok-read_u16-in-DW_OP_const2u-clause-err
+returns-in_ok-read_u16-in-DW_OP_const2u-clause-err g c = tt
+
+pub returns-in_err-read_i16-in-DW_OP_const2s-clause-ok : goal.returns-in_err-read_i16-in-DW_OP_const2s-clause-ok
+returns-in_err-read_i16-in-DW_OP_const2s-clause-ok g c = rw (err_from_is_err_and c.from_residual-in_err-read_i16-in-DW_OP_const2s.result c.from_residual-in_err-read_i16-in-DW_OP_const2s.ensures.1).1 tt
+
+pub returns-in_err-read_i16-in-DW_OP_const2s-clause-parts : goal.returns-in_err-read_i16-in-DW_OP_const2s-clause-parts
+returns-in_err-read_i16-in-DW_OP_const2s-clause-parts g c = rw (err_from_is_err_and c.from_residual-in_err-read_i16-in-DW_OP_const2s.result c.from_residual-in_err-read_i16-in-DW_OP_const2s.ensures.1).1 tt
+
+pub returns-in_ok-read_i16-in-DW_OP_const2s-clause-err : goal.returns-in_ok-read_i16-in-DW_OP_const2s-clause-err
+returns-in_ok-read_i16-in-DW_OP_const2s-clause-err g c = tt
+
+pub returns-in_err-read_u32-in-DW_OP_const4u-clause-ok : goal.returns-in_err-read_u32-in-DW_OP_const4u-clause-ok
+returns-in_err-read_u32-in-DW_OP_const4u-clause-ok g c = rw (err_from_is_err_and c.from_residual-in_err-read_u32-in-DW_OP_const4u.result c.from_residual-in_err-read_u32-in-DW_OP_const4u.ensures.1).1 tt
+
+pub returns-in_err-read_u32-in-DW_OP_const4u-clause-parts : goal.returns-in_err-read_u32-in-DW_OP_const4u-clause-parts
+returns-in_err-read_u32-in-DW_OP_const4u-clause-parts g c = rw (err_from_is_err_and c.from_residual-in_err-read_u32-in-DW_OP_const4u.result c.from_residual-in_err-read_u32-in-DW_OP_const4u.ensures.1).1 tt
+
+pub returns-in_ok-read_u32-in-DW_OP_const4u-clause-err : goal.returns-in_ok-read_u32-in-DW_OP_const4u-clause-err
+returns-in_ok-read_u32-in-DW_OP_const4u-clause-err g c = tt
+
+pub returns-in_err-read_i32-in-DW_OP_const4s-clause-ok : goal.returns-in_err-read_i32-in-DW_OP_const4s-clause-ok
+returns-in_err-read_i32-in-DW_OP_const4s-clause-ok g c = rw (err_from_is_err_and c.from_residual-in_err-read_i32-in-DW_OP_const4s.result c.from_residual-in_err-read_i32-in-DW_OP_const4s.ensures.1).1 tt
+
+pub returns-in_err-read_i32-in-DW_OP_const4s-clause-parts : goal.returns-in_err-read_i32-in-DW_OP_const4s-clause-parts
+returns-in_err-read_i32-in-DW_OP_const4s-clause-parts g c = rw (err_from_is_err_and c.from_residual-in_err-read_i32-in-DW_OP_const4s.result c.from_residual-in_err-read_i32-in-DW_OP_const4s.ensures.1).1 tt
+
+pub returns-in_ok-read_i32-in-DW_OP_const4s-clause-err : goal.returns-in_ok-read_i32-in-DW_OP_const4s-clause-err
+returns-in_ok-read_i32-in-DW_OP_const4s-clause-err g c = tt
+
+pub returns-in_err-read_u64-in-DW_OP_const8u-clause-ok : goal.returns-in_err-read_u64-in-DW_OP_const8u-clause-ok
+returns-in_err-read_u64-in-DW_OP_const8u-clause-ok g c = rw (err_from_is_err_and c.from_residual-in_err-read_u64-in-DW_OP_const8u.result c.from_residual-in_err-read_u64-in-DW_OP_const8u.ensures.1).1 tt
+
+pub returns-in_err-read_u64-in-DW_OP_const8u-clause-parts : goal.returns-in_err-read_u64-in-DW_OP_const8u-clause-parts
+returns-in_err-read_u64-in-DW_OP_const8u-clause-parts g c = rw (err_from_is_err_and c.from_residual-in_err-read_u64-in-DW_OP_const8u.result c.from_residual-in_err-read_u64-in-DW_OP_const8u.ensures.1).1 tt
+
+pub returns-in_ok-read_u64-in-DW_OP_const8u-clause-err : goal.returns-in_ok-read_u64-in-DW_OP_const8u-clause-err
+returns-in_ok-read_u64-in-DW_OP_const8u-clause-err g c = tt
+
+pub returns-in_err-read_i64-in-DW_OP_const8s-clause-ok : goal.returns-in_err-read_i64-in-DW_OP_const8s-clause-ok
+returns-in_err-read_i64-in-DW_OP_const8s-clause-ok g c = rw (err_from_is_err_and c.from_residual-in_err-read_i64-in-DW_OP_const8s.result c.from_residual-in_err-read_i64-in-DW_OP_const8s.ensures.1).1 tt
+
+pub returns-in_err-read_i64-in-DW_OP_const8s-clause-parts : goal.returns-in_err-read_i64-in-DW_OP_const8s-clause-parts
+returns-in_err-read_i64-in-DW_OP_const8s-clause-parts g c = rw (err_from_is_err_and c.from_residual-in_err-read_i64-in-DW_OP_const8s.result c.from_residual-in_err-read_i64-in-DW_OP_const8s.ensures.1).1 tt
+
+pub returns-in_ok-read_i64-in-DW_OP_const8s-clause-err : goal.returns-in_ok-read_i64-in-DW_OP_const8s-clause-err
+returns-in_ok-read_i64-in-DW_OP_const8s-clause-err g c = tt
+
+pub returns-in_err-read_uleb128-in-DW_OP_constu-clause-ok : goal.returns-in_err-read_uleb128-in-DW_OP_constu-clause-ok
+returns-in_err-read_uleb128-in-DW_OP_constu-clause-ok g c = rw (err_from_is_err_and c.from_residual-in_err-read_uleb128-in-DW_OP_constu.result c.from_residual-in_err-read_uleb128-in-DW_OP_constu.ensures.1).1 tt
+
+pub returns-in_err-read_uleb128-in-DW_OP_constu-clause-parts : goal.returns-in_err-read_uleb128-in-DW_OP_constu-clause-parts
+returns-in_err-read_uleb128-in-DW_OP_constu-clause-parts g c = rw (err_from_is_err_and c.from_residual-in_err-read_uleb128-in-DW_OP_constu.result c.from_residual-in_err-read_uleb128-in-DW_OP_constu.ensures.1).1 tt
+
+pub returns-in_ok-read_uleb128-in-DW_OP_constu-clause-err : goal.returns-in_ok-read_uleb128-in-DW_OP_constu-clause-err
+returns-in_ok-read_uleb128-in-DW_OP_constu-clause-err g c = tt
+
+pub returns-in_err-read_sleb128-in-DW_OP_consts-clause-ok : goal.returns-in_err-read_sleb128-in-DW_OP_consts-clause-ok
+returns-in_err-read_sleb128-in-DW_OP_consts-clause-ok g c = rw (err_from_is_err_and c.from_residual-in_err-read_sleb128-in-DW_OP_consts.result c.from_residual-in_err-read_sleb128-in-DW_OP_consts.ensures.1).1 tt
+
+pub returns-in_err-read_sleb128-in-DW_OP_consts-clause-parts : goal.returns-in_err-read_sleb128-in-DW_OP_consts-clause-parts
+returns-in_err-read_sleb128-in-DW_OP_consts-clause-parts g c = rw (err_from_is_err_and c.from_residual-in_err-read_sleb128-in-DW_OP_consts.result c.from_residual-in_err-read_sleb128-in-DW_OP_consts.ensures.1).1 tt
+
+pub returns-in_ok-read_sleb128-in-DW_OP_consts-clause-err : goal.returns-in_ok-read_sleb128-in-DW_OP_consts-clause-err
+returns-in_ok-read_sleb128-in-DW_OP_consts-clause-err g c = tt
+
+pub returns-in_err-read_uleb128-in-DW_OP_addrx-clause-ok : goal.returns-in_err-read_uleb128-in-DW_OP_addrx-clause-ok
+returns-in_err-read_uleb128-in-DW_OP_addrx-clause-ok g c = rw (err_from_is_err_and c.from_residual-in_err-read_uleb128-in-DW_OP_addrx.result c.from_residual-in_err-read_uleb128-in-DW_OP_addrx.ensures.1).1 tt
+
+pub returns-in_err-read_uleb128-in-DW_OP_addrx-clause-parts : goal.returns-in_err-read_uleb128-in-DW_OP_addrx-clause-parts
+returns-in_err-read_uleb128-in-DW_OP_addrx-clause-parts g c = rw (err_from_is_err_and c.from_residual-in_err-read_uleb128-in-DW_OP_addrx.result c.from_residual-in_err-read_uleb128-in-DW_OP_addrx.ensures.1).1 tt
+
+pub returns-in_ok-read_uleb128-in-DW_OP_addrx-clause-err : goal.returns-in_ok-read_uleb128-in-DW_OP_addrx-clause-err
+returns-in_ok-read_uleb128-in-DW_OP_addrx-clause-err g c = tt
+
+pub returns-in_err-read_uleb128-in-DW_OP_constx-clause-ok : goal.returns-in_err-read_uleb128-in-DW_OP_constx-clause-ok
+returns-in_err-read_uleb128-in-DW_OP_constx-clause-ok g c = rw (err_from_is_err_and c.from_residual-in_err-read_uleb128-in-DW_OP_constx.result c.from_residual-in_err-read_uleb128-in-DW_OP_constx.ensures.1).1 tt
+
+pub returns-in_err-read_uleb128-in-DW_OP_constx-clause-parts : goal.returns-in_err-read_uleb128-in-DW_OP_constx-clause-parts
+returns-in_err-read_uleb128-in-DW_OP_constx-clause-parts g c = rw (err_from_is_err_and c.from_residual-in_err-read_uleb128-in-DW_OP_constx.result c.from_residual-in_err-read_uleb128-in-DW_OP_constx.ensures.1).1 tt
+
+pub returns-in_ok-read_uleb128-in-DW_OP_constx-clause-err : goal.returns-in_ok-read_uleb128-in-DW_OP_constx-clause-err
+returns-in_ok-read_uleb128-in-DW_OP_constx-clause-err g c = tt
+
+pub returns-in_default-clause-err : goal.returns-in_default-clause-err
+returns-in_default-clause-err g c = tt
+
+pub returns-in_ok-read_address-in-DW_OP_addr-clause-parts : goal.returns-in_ok-read_address-in-DW_OP_addr-clause-parts
+returns-in_ok-read_address-in-DW_OP_addr-clause-parts g c = tt
+
+pub returns-in_ok-read_u8-in-DW_OP_const1u-clause-parts : goal.returns-in_ok-read_u8-in-DW_OP_const1u-clause-parts
+returns-in_ok-read_u8-in-DW_OP_const1u-clause-parts g c = tt
+
+pub returns-in_ok-read_i8-in-DW_OP_const1s-clause-parts : goal.returns-in_ok-read_i8-in-DW_OP_const1s-clause-parts
+returns-in_ok-read_i8-in-DW_OP_const1s-clause-parts g c = tt
+
+pub returns-in_ok-read_u16-in-DW_OP_const2u-clause-parts : goal.returns-in_ok-read_u16-in-DW_OP_const2u-clause-parts
+returns-in_ok-read_u16-in-DW_OP_const2u-clause-parts g c = tt
+
+pub returns-in_ok-read_i16-in-DW_OP_const2s-clause-parts : goal.returns-in_ok-read_i16-in-DW_OP_const2s-clause-parts
+returns-in_ok-read_i16-in-DW_OP_const2s-clause-parts g c = tt
+
+pub returns-in_ok-read_u32-in-DW_OP_const4u-clause-parts : goal.returns-in_ok-read_u32-in-DW_OP_const4u-clause-parts
+returns-in_ok-read_u32-in-DW_OP_const4u-clause-parts g c = tt
+
+pub returns-in_ok-read_i32-in-DW_OP_const4s-clause-parts : goal.returns-in_ok-read_i32-in-DW_OP_const4s-clause-parts
+returns-in_ok-read_i32-in-DW_OP_const4s-clause-parts g c = tt
+
+pub returns-in_ok-read_u64-in-DW_OP_const8u-clause-parts : goal.returns-in_ok-read_u64-in-DW_OP_const8u-clause-parts
+returns-in_ok-read_u64-in-DW_OP_const8u-clause-parts g c = tt
+
+pub returns-in_ok-read_i64-in-DW_OP_const8s-clause-parts : goal.returns-in_ok-read_i64-in-DW_OP_const8s-clause-parts
+returns-in_ok-read_i64-in-DW_OP_const8s-clause-parts g c = tt
+
+pub returns-in_ok-read_uleb128-in-DW_OP_constu-clause-parts : goal.returns-in_ok-read_uleb128-in-DW_OP_constu-clause-parts
+returns-in_ok-read_uleb128-in-DW_OP_constu-clause-parts g c = tt
+
+pub returns-in_ok-read_sleb128-in-DW_OP_consts-clause-parts : goal.returns-in_ok-read_sleb128-in-DW_OP_consts-clause-parts
+returns-in_ok-read_sleb128-in-DW_OP_consts-clause-parts g c = tt
+
+pub returns-in_ok-read_uleb128-in-DW_OP_addrx-clause-parts : goal.returns-in_ok-read_uleb128-in-DW_OP_addrx-clause-parts
+returns-in_ok-read_uleb128-in-DW_OP_addrx-clause-parts g c = tt
+
+pub returns-in_ok-read_uleb128-in-DW_OP_constx-clause-parts : goal.returns-in_ok-read_uleb128-in-DW_OP_constx-clause-parts
+returns-in_ok-read_uleb128-in-DW_OP_constx-clause-parts g c = tt
+
+pub returns-in_default-clause-parts : goal.returns-in_default-clause-parts
+returns-in_default-clause-parts g c = tt

@@ -38,3 +38,30 @@ returns-in-None-clause-ok g c = old_took location_behind c.args.encoding _ _ _ (
 
 pub returns-then-encoding-eq5-clause-progress : goal.returns-then-encoding-eq5-clause-progress
 returns-then-encoding-eq5-clause-progress g c = further (Option Span) (location_behind _ c.args.encoding.address_size c.in_ok-kind.kind) (g.R.Reader.reading c.args.input.now) _ _ _ (number_on 1 _ _ (omega arith) c.in_ok-kind.ensures.passes) c.in_ok-before.ensures.ok
+
+pub returns-in_err-kind-clause-ok : goal.returns-in_err-kind-clause-ok
+returns-in_err-kind-clause-ok g c = rw (err_from_is_err_and c.from_residual.result c.from_residual.ensures.1).1 tt
+
+pub returns-in_err-kind-clause-progress : goal.returns-in_err-kind-clause-progress
+returns-in_err-kind-clause-progress g c = rw (err_from_is_err_and c.from_residual.result c.from_residual.ensures.1).1 tt
+
+pub returns-in_err-before-clause-ok : goal.returns-in_err-before-clause-ok
+returns-in_err-before-clause-ok g c = rw (err_from_is_err_and c.from_residual-in_err-before.result c.from_residual-in_err-before.ensures.1).1 tt
+
+pub returns-in_err-before-clause-progress : goal.returns-in_err-before-clause-progress
+returns-in_err-before-clause-progress g c = rw (err_from_is_err_and c.from_residual-in_err-before.result c.from_residual-in_err-before.ensures.1).1 tt
+
+pub returns-then-encoding-eq5-clause-err : goal.returns-then-encoding-eq5-clause-err
+returns-then-encoding-eq5-clause-err g c = tt
+
+pub returns-in_err-range-clause-ok : goal.returns-in_err-range-clause-ok
+returns-in_err-range-clause-ok g c = rw (err_from_is_err_and c.from_residual-in_err-range.result c.from_residual-in_err-range.ensures.1).1 tt
+
+pub returns-in_err-range-clause-progress : goal.returns-in_err-range-clause-progress
+returns-in_err-range-clause-progress g c = rw (err_from_is_err_and c.from_residual-in_err-range.result c.from_residual-in_err-range.ensures.1).1 tt
+
+pub returns-in-Some-clause-err : goal.returns-in-Some-clause-err
+returns-in-Some-clause-err g c = tt
+
+pub returns-in-None-clause-err : goal.returns-in-None-clause-err
+returns-in-None-clause-err g c = tt

@@ -27,3 +27,27 @@ returns-clause-ok g c = old_expression c.args.encoding c.in_ok-size.size _ _ _ _
 
 pub returns-clause-part : goal.returns-clause-part
 returns-clause-part g c = within 2 c.in_ok-size.size _ _ _ _ c.in_ok-size.ensures.passes c.in_ok-bytes-2.ensures.part c.in_ok-bytes-2.ensures.ok
+
+pub returns-in_err-bytes-clause-ok : goal.returns-in_err-bytes-clause-ok
+returns-in_err-bytes-clause-ok g c = rw (err_from_is_err_and c.from_residual.result c.from_residual.ensures.1).1 tt
+
+pub returns-in_err-bytes-clause-part : goal.returns-in_err-bytes-clause-part
+returns-in_err-bytes-clause-part g c = rw (err_from_is_err_and c.from_residual.result c.from_residual.ensures.1).1 tt
+
+pub returns-then-encoding-eq5-clause-err : goal.returns-then-encoding-eq5-clause-err
+returns-then-encoding-eq5-clause-err g c = tt
+
+pub returns-in_err-size-clause-ok : goal.returns-in_err-size-clause-ok
+returns-in_err-size-clause-ok g c = rw (err_from_is_err_and c.from_residual-in_err-size.result c.from_residual-in_err-size.ensures.1).1 tt
+
+pub returns-in_err-size-clause-part : goal.returns-in_err-size-clause-part
+returns-in_err-size-clause-part g c = rw (err_from_is_err_and c.from_residual-in_err-size.result c.from_residual-in_err-size.ensures.1).1 tt
+
+pub returns-in_err-bytes-2-clause-ok : goal.returns-in_err-bytes-2-clause-ok
+returns-in_err-bytes-2-clause-ok g c = rw (err_from_is_err_and c.from_residual-in_err-bytes-2.result c.from_residual-in_err-bytes-2.ensures.1).1 tt
+
+pub returns-in_err-bytes-2-clause-part : goal.returns-in_err-bytes-2-clause-part
+returns-in_err-bytes-2-clause-part g c = rw (err_from_is_err_and c.from_residual-in_err-bytes-2.result c.from_residual-in_err-bytes-2.ensures.1).1 tt
+
+pub returns-clause-err : goal.returns-clause-err
+returns-clause-err g c = tt

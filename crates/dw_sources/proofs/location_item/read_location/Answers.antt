@@ -38,3 +38,33 @@ returns-in_ok-expression-in-Spot-clause-parts g c =
 
 pub returns-in_ok-expression-in-Spot-clause-progress : goal.returns-in_ok-expression-in-Spot-clause-progress
 returns-in_ok-expression-in-Spot-clause-progress g c = further (List ℕ) (expression_read _ c.args.encoding) (g.R.Reader.reading c.args.input.now) _ _ _ c.in_ok-before.ensures.progress c.in_ok-expression-in-Spot.ensures.ok
+
+pub returns-in_err-before-clause-ok : goal.returns-in_err-before-clause-ok
+returns-in_err-before-clause-ok g c = rw (err_from_is_err_and c.from_residual.result c.from_residual.ensures.1).1 tt
+
+pub returns-in_err-before-clause-parts : goal.returns-in_err-before-clause-parts
+returns-in_err-before-clause-parts g c = rw (err_from_is_err_and c.from_residual.result c.from_residual.ensures.1).1 tt
+
+pub returns-in_err-before-clause-progress : goal.returns-in_err-before-clause-progress
+returns-in_err-before-clause-progress g c = rw (err_from_is_err_and c.from_residual.result c.from_residual.ensures.1).1 tt
+
+pub returns-in_default-clause-err : goal.returns-in_default-clause-err
+returns-in_default-clause-err g c = tt
+
+pub returns-in-Base-clause-err : goal.returns-in-Base-clause-err
+returns-in-Base-clause-err g c = tt
+
+pub returns-in-Basex-clause-err : goal.returns-in-Basex-clause-err
+returns-in-Basex-clause-err g c = tt
+
+pub returns-in_err-expression-in-Spot-clause-ok : goal.returns-in_err-expression-in-Spot-clause-ok
+returns-in_err-expression-in-Spot-clause-ok g c = rw (err_from_is_err_and c.from_residual-in_err-expression-in-Spot.result c.from_residual-in_err-expression-in-Spot.ensures.1).1 tt
+
+pub returns-in_err-expression-in-Spot-clause-parts : goal.returns-in_err-expression-in-Spot-clause-parts
+returns-in_err-expression-in-Spot-clause-parts g c = rw (err_from_is_err_and c.from_residual-in_err-expression-in-Spot.result c.from_residual-in_err-expression-in-Spot.ensures.1).1 tt
+
+pub returns-in_err-expression-in-Spot-clause-progress : goal.returns-in_err-expression-in-Spot-clause-progress
+returns-in_err-expression-in-Spot-clause-progress g c = rw (err_from_is_err_and c.from_residual-in_err-expression-in-Spot.result c.from_residual-in_err-expression-in-Spot.ensures.1).1 tt
+
+pub returns-in_ok-expression-in-Spot-clause-err : goal.returns-in_ok-expression-in-Spot-clause-err
+returns-in_ok-expression-in-Spot-clause-err g c = tt

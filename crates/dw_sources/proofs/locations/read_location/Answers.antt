@@ -30,3 +30,21 @@ returns-in_err-operation-clause-err g c =
 
 pub returns-clause-ok : goal.returns-clause-ok
 returns-clause-ok g c = rw (other_rows (g.R.Reader.reading c.args.input.now).is_big c.args.encoding c.args.opcode.0 c.in_default.ensures.none) c.in_ok-operation.ensures.ok
+
+pub returns-in_err-offset-clause-ok : goal.returns-in_err-offset-clause-ok
+returns-in_err-offset-clause-ok g c = rw (err_from_is_err_and c.from_residual.result c.from_residual.ensures.1).1 tt
+
+pub returns-in_err-offset-clause-parts : goal.returns-in_err-offset-clause-parts
+returns-in_err-offset-clause-parts g c = rw (err_from_is_err_and c.from_residual.result c.from_residual.ensures.1).1 tt
+
+pub returns-in-Some-clause-err : goal.returns-in-Some-clause-err
+returns-in-Some-clause-err g c = tt
+
+pub returns-in_err-operation-clause-ok : goal.returns-in_err-operation-clause-ok
+returns-in_err-operation-clause-ok g c = rw (err_from_is_err_and c.from_residual-in_err-operation.result c.from_residual-in_err-operation.ensures.1).1 tt
+
+pub returns-in_err-operation-clause-parts : goal.returns-in_err-operation-clause-parts
+returns-in_err-operation-clause-parts g c = rw (err_from_is_err_and c.from_residual-in_err-operation.result c.from_residual-in_err-operation.ensures.1).1 tt
+
+pub returns-clause-err : goal.returns-clause-err
+returns-clause-err g c = tt

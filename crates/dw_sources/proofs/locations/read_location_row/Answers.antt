@@ -120,3 +120,90 @@ pub returns-in_default-clause-ok : goal.returns-in_default-clause-ok
 unfolding location_rows
 returns-in_default-clause-ok g c =
     no_row (location_rows (g.R.Reader.reading c.args.input.now).is_big c.args.encoding c.args.opcode.0) _ (g.met.R.Reader.is_reading c.args.input.now) (rw (ne_eqb c.args.opcode.0 144 (omega arith), ne_eqb c.args.opcode.0 145 (omega arith), ne_eqb c.args.opcode.0 146 (omega arith), ne_eqb c.args.opcode.0 147 (omega arith), ne_eqb c.args.opcode.0 157 (omega arith), ne_eqb c.args.opcode.0 158 (omega arith), ne_eqb c.args.opcode.0 163 (omega arith), ne_eqb c.args.opcode.0 243 (omega arith), ne_eqb c.args.opcode.0 237 (omega arith)) refl)
+
+pub returns-in_err-read_register-in-DW_OP_regx-clause-ok : goal.returns-in_err-read_register-in-DW_OP_regx-clause-ok
+returns-in_err-read_register-in-DW_OP_regx-clause-ok g c = rw (err_from_is_err_and c.from_residual.result c.from_residual.ensures.1).1 tt
+
+pub returns-in_err-read_register-in-DW_OP_regx-clause-parts : goal.returns-in_err-read_register-in-DW_OP_regx-clause-parts
+returns-in_err-read_register-in-DW_OP_regx-clause-parts g c = rw (err_from_is_err_and c.from_residual.result c.from_residual.ensures.1).1 tt
+
+pub returns-in_ok-read_register-in-DW_OP_regx-clause-err : goal.returns-in_ok-read_register-in-DW_OP_regx-clause-err
+returns-in_ok-read_register-in-DW_OP_regx-clause-err g c = tt
+
+pub returns-in_err-read_sleb128-in-DW_OP_fbreg-clause-ok : goal.returns-in_err-read_sleb128-in-DW_OP_fbreg-clause-ok
+returns-in_err-read_sleb128-in-DW_OP_fbreg-clause-ok g c = rw (err_from_is_err_and c.from_residual-in_err-read_sleb128-in-DW_OP_fbreg.result c.from_residual-in_err-read_sleb128-in-DW_OP_fbreg.ensures.1).1 tt
+
+pub returns-in_err-read_sleb128-in-DW_OP_fbreg-clause-parts : goal.returns-in_err-read_sleb128-in-DW_OP_fbreg-clause-parts
+returns-in_err-read_sleb128-in-DW_OP_fbreg-clause-parts g c = rw (err_from_is_err_and c.from_residual-in_err-read_sleb128-in-DW_OP_fbreg.result c.from_residual-in_err-read_sleb128-in-DW_OP_fbreg.ensures.1).1 tt
+
+pub returns-in_ok-read_sleb128-in-DW_OP_fbreg-clause-err : goal.returns-in_ok-read_sleb128-in-DW_OP_fbreg-clause-err
+returns-in_ok-read_sleb128-in-DW_OP_fbreg-clause-err g c = tt
+
+pub returns-in_err-read_register-in-DW_OP_bregx-clause-ok : goal.returns-in_err-read_register-in-DW_OP_bregx-clause-ok
+returns-in_err-read_register-in-DW_OP_bregx-clause-ok g c = rw (err_from_is_err_and c.from_residual-in_err-read_register-in-DW_OP_bregx.result c.from_residual-in_err-read_register-in-DW_OP_bregx.ensures.1).1 tt
+
+pub returns-in_err-read_register-in-DW_OP_bregx-clause-parts : goal.returns-in_err-read_register-in-DW_OP_bregx-clause-parts
+returns-in_err-read_register-in-DW_OP_bregx-clause-parts g c = rw (err_from_is_err_and c.from_residual-in_err-read_register-in-DW_OP_bregx.result c.from_residual-in_err-read_register-in-DW_OP_bregx.ensures.1).1 tt
+
+pub returns-in_err-read_sleb128-in-DW_OP_bregx-clause-ok : goal.returns-in_err-read_sleb128-in-DW_OP_bregx-clause-ok
+returns-in_err-read_sleb128-in-DW_OP_bregx-clause-ok g c = rw (err_from_is_err_and c.from_residual-in_err-read_sleb128-in-DW_OP_bregx.result c.from_residual-in_err-read_sleb128-in-DW_OP_bregx.ensures.1).1 tt
+
+pub returns-in_err-read_sleb128-in-DW_OP_bregx-clause-parts : goal.returns-in_err-read_sleb128-in-DW_OP_bregx-clause-parts
+returns-in_err-read_sleb128-in-DW_OP_bregx-clause-parts g c = rw (err_from_is_err_and c.from_residual-in_err-read_sleb128-in-DW_OP_bregx.result c.from_residual-in_err-read_sleb128-in-DW_OP_bregx.ensures.1).1 tt
+
+pub returns-in_ok-read_sleb128-in-DW_OP_bregx-clause-err : goal.returns-in_ok-read_sleb128-in-DW_OP_bregx-clause-err
+returns-in_ok-read_sleb128-in-DW_OP_bregx-clause-err g c = tt
+
+pub returns-in_err-read_piece-in-DW_OP_piece-clause-ok : goal.returns-in_err-read_piece-in-DW_OP_piece-clause-ok
+returns-in_err-read_piece-in-DW_OP_piece-clause-ok g c = rw (err_from_is_err_and c.from_residual-in_err-read_piece-in-DW_OP_piece.result c.from_residual-in_err-read_piece-in-DW_OP_piece.ensures.1).1 tt
+
+pub returns-in_err-read_piece-in-DW_OP_piece-clause-parts : goal.returns-in_err-read_piece-in-DW_OP_piece-clause-parts
+returns-in_err-read_piece-in-DW_OP_piece-clause-parts g c = rw (err_from_is_err_and c.from_residual-in_err-read_piece-in-DW_OP_piece.result c.from_residual-in_err-read_piece-in-DW_OP_piece.ensures.1).1 tt
+
+pub returns-in_ok-read_piece-in-DW_OP_piece-clause-err : goal.returns-in_ok-read_piece-in-DW_OP_piece-clause-err
+returns-in_ok-read_piece-in-DW_OP_piece-clause-err g c = tt
+
+pub returns-in_err-read_uleb128-in-DW_OP_bit_piece-clause-ok : goal.returns-in_err-read_uleb128-in-DW_OP_bit_piece-clause-ok
+returns-in_err-read_uleb128-in-DW_OP_bit_piece-clause-ok g c = rw (err_from_is_err_and c.from_residual-in_err-read_uleb128-in-DW_OP_bit_piece.result c.from_residual-in_err-read_uleb128-in-DW_OP_bit_piece.ensures.1).1 tt
+
+pub returns-in_err-read_uleb128-in-DW_OP_bit_piece-clause-parts : goal.returns-in_err-read_uleb128-in-DW_OP_bit_piece-clause-parts
+returns-in_err-read_uleb128-in-DW_OP_bit_piece-clause-parts g c = rw (err_from_is_err_and c.from_residual-in_err-read_uleb128-in-DW_OP_bit_piece.result c.from_residual-in_err-read_uleb128-in-DW_OP_bit_piece.ensures.1).1 tt
+
+pub returns-in_err-read_uleb128-in-DW_OP_bit_piece-2-clause-ok : goal.returns-in_err-read_uleb128-in-DW_OP_bit_piece-2-clause-ok
+returns-in_err-read_uleb128-in-DW_OP_bit_piece-2-clause-ok g c = rw (err_from_is_err_and c.from_residual-in_err-read_uleb128-in-DW_OP_bit_piece-2.result c.from_residual-in_err-read_uleb128-in-DW_OP_bit_piece-2.ensures.1).1 tt
+
+pub returns-in_err-read_uleb128-in-DW_OP_bit_piece-2-clause-parts : goal.returns-in_err-read_uleb128-in-DW_OP_bit_piece-2-clause-parts
+returns-in_err-read_uleb128-in-DW_OP_bit_piece-2-clause-parts g c = rw (err_from_is_err_and c.from_residual-in_err-read_uleb128-in-DW_OP_bit_piece-2.result c.from_residual-in_err-read_uleb128-in-DW_OP_bit_piece-2.ensures.1).1 tt
+
+pub returns-in_ok-read_uleb128-in-DW_OP_bit_piece-2-clause-err : goal.returns-in_ok-read_uleb128-in-DW_OP_bit_piece-2-clause-err
+returns-in_ok-read_uleb128-in-DW_OP_bit_piece-2-clause-err g c = tt
+
+pub returns-in_err-read_block-in-DW_OP_implicit_value-clause-ok : goal.returns-in_err-read_block-in-DW_OP_implicit_value-clause-ok
+returns-in_err-read_block-in-DW_OP_implicit_value-clause-ok g c = rw (err_from_is_err_and c.from_residual-in_err-read_block-in-DW_OP_implicit_value.result c.from_residual-in_err-read_block-in-DW_OP_implicit_value.ensures.1).1 tt
+
+pub returns-in_err-read_block-in-DW_OP_implicit_value-clause-parts : goal.returns-in_err-read_block-in-DW_OP_implicit_value-clause-parts
+returns-in_err-read_block-in-DW_OP_implicit_value-clause-parts g c = rw (err_from_is_err_and c.from_residual-in_err-read_block-in-DW_OP_implicit_value.result c.from_residual-in_err-read_block-in-DW_OP_implicit_value.ensures.1).1 tt
+
+pub returns-in_ok-read_block-in-DW_OP_implicit_value-clause-err : goal.returns-in_ok-read_block-in-DW_OP_implicit_value-clause-err
+returns-in_ok-read_block-in-DW_OP_implicit_value-clause-err g c = tt
+
+pub returns-in_err-read_block-in-DW_OP_entry_value-clause-ok : goal.returns-in_err-read_block-in-DW_OP_entry_value-clause-ok
+returns-in_err-read_block-in-DW_OP_entry_value-clause-ok g c = rw (err_from_is_err_and c.from_residual-in_err-read_block-in-DW_OP_entry_value.result c.from_residual-in_err-read_block-in-DW_OP_entry_value.ensures.1).1 tt
+
+pub returns-in_err-read_block-in-DW_OP_entry_value-clause-parts : goal.returns-in_err-read_block-in-DW_OP_entry_value-clause-parts
+returns-in_err-read_block-in-DW_OP_entry_value-clause-parts g c = rw (err_from_is_err_and c.from_residual-in_err-read_block-in-DW_OP_entry_value.result c.from_residual-in_err-read_block-in-DW_OP_entry_value.ensures.1).1 tt
+
+pub returns-in_ok-read_block-in-DW_OP_entry_value-clause-err : goal.returns-in_ok-read_block-in-DW_OP_entry_value-clause-err
+returns-in_ok-read_block-in-DW_OP_entry_value-clause-err g c = tt
+
+pub returns-in_err-read_wasm-in-DW_OP_WASM_location-clause-ok : goal.returns-in_err-read_wasm-in-DW_OP_WASM_location-clause-ok
+returns-in_err-read_wasm-in-DW_OP_WASM_location-clause-ok g c = rw (err_from_is_err_and c.from_residual-in_err-read_wasm-in-DW_OP_WASM_location.result c.from_residual-in_err-read_wasm-in-DW_OP_WASM_location.ensures.1).1 tt
+
+pub returns-in_err-read_wasm-in-DW_OP_WASM_location-clause-parts : goal.returns-in_err-read_wasm-in-DW_OP_WASM_location-clause-parts
+returns-in_err-read_wasm-in-DW_OP_WASM_location-clause-parts g c = rw (err_from_is_err_and c.from_residual-in_err-read_wasm-in-DW_OP_WASM_location.result c.from_residual-in_err-read_wasm-in-DW_OP_WASM_location.ensures.1).1 tt
+
+pub returns-in_ok-read_wasm-in-DW_OP_WASM_location-clause-err : goal.returns-in_ok-read_wasm-in-DW_OP_WASM_location-clause-err
+returns-in_ok-read_wasm-in-DW_OP_WASM_location-clause-err g c = tt
+
+pub returns-in_default-clause-err : goal.returns-in_default-clause-err
+returns-in_default-clause-err g c = tt

@@ -48,3 +48,51 @@ pub returns-in_ok-read_u32-in-3-clause-ok : goal.returns-in_ok-read_u32-in-3-cla
 returns-in_ok-read_u32-in-3-clause-ok g c =
     let k = c.in_ok-kind.ensures.ok in
     wasm_took _ _ c.in_ok-kind.kind k 3 ℕ (number_read (g.R.Reader.reading c.args.input.now).is_big 4) WasmGlobal _ _ (omega arith) refl (number_after _ _ c.in_ok-kind.kind k 4 _ _ c.in_ok-read_u32-in-3.ensures.ok)
+
+pub returns-in_err-kind-clause-ok : goal.returns-in_err-kind-clause-ok
+returns-in_err-kind-clause-ok g c = rw (err_from_is_err_and c.from_residual.result c.from_residual.ensures.1).1 tt
+
+pub returns-in_err-kind-clause-parts : goal.returns-in_err-kind-clause-parts
+returns-in_err-kind-clause-parts g c = rw (err_from_is_err_and c.from_residual.result c.from_residual.ensures.1).1 tt
+
+pub returns-in_default-clause-ok : goal.returns-in_default-clause-ok
+returns-in_default-clause-ok g c = tt
+
+pub returns-in_default-clause-parts : goal.returns-in_default-clause-parts
+returns-in_default-clause-parts g c = tt
+
+pub returns-in_err-read_uleb32-in-0-clause-ok : goal.returns-in_err-read_uleb32-in-0-clause-ok
+returns-in_err-read_uleb32-in-0-clause-ok g c = rw (err_from_is_err_and c.from_residual-in_err-read_uleb32-in-0.result c.from_residual-in_err-read_uleb32-in-0.ensures.1).1 tt
+
+pub returns-in_err-read_uleb32-in-0-clause-parts : goal.returns-in_err-read_uleb32-in-0-clause-parts
+returns-in_err-read_uleb32-in-0-clause-parts g c = rw (err_from_is_err_and c.from_residual-in_err-read_uleb32-in-0.result c.from_residual-in_err-read_uleb32-in-0.ensures.1).1 tt
+
+pub returns-in_ok-read_uleb32-in-0-clause-err : goal.returns-in_ok-read_uleb32-in-0-clause-err
+returns-in_ok-read_uleb32-in-0-clause-err g c = tt
+
+pub returns-in_err-read_uleb32-in-1-clause-ok : goal.returns-in_err-read_uleb32-in-1-clause-ok
+returns-in_err-read_uleb32-in-1-clause-ok g c = rw (err_from_is_err_and c.from_residual-in_err-read_uleb32-in-1.result c.from_residual-in_err-read_uleb32-in-1.ensures.1).1 tt
+
+pub returns-in_err-read_uleb32-in-1-clause-parts : goal.returns-in_err-read_uleb32-in-1-clause-parts
+returns-in_err-read_uleb32-in-1-clause-parts g c = rw (err_from_is_err_and c.from_residual-in_err-read_uleb32-in-1.result c.from_residual-in_err-read_uleb32-in-1.ensures.1).1 tt
+
+pub returns-in_ok-read_uleb32-in-1-clause-err : goal.returns-in_ok-read_uleb32-in-1-clause-err
+returns-in_ok-read_uleb32-in-1-clause-err g c = tt
+
+pub returns-in_err-read_uleb32-in-2-clause-ok : goal.returns-in_err-read_uleb32-in-2-clause-ok
+returns-in_err-read_uleb32-in-2-clause-ok g c = rw (err_from_is_err_and c.from_residual-in_err-read_uleb32-in-2.result c.from_residual-in_err-read_uleb32-in-2.ensures.1).1 tt
+
+pub returns-in_err-read_uleb32-in-2-clause-parts : goal.returns-in_err-read_uleb32-in-2-clause-parts
+returns-in_err-read_uleb32-in-2-clause-parts g c = rw (err_from_is_err_and c.from_residual-in_err-read_uleb32-in-2.result c.from_residual-in_err-read_uleb32-in-2.ensures.1).1 tt
+
+pub returns-in_ok-read_uleb32-in-2-clause-err : goal.returns-in_ok-read_uleb32-in-2-clause-err
+returns-in_ok-read_uleb32-in-2-clause-err g c = tt
+
+pub returns-in_err-read_u32-in-3-clause-ok : goal.returns-in_err-read_u32-in-3-clause-ok
+returns-in_err-read_u32-in-3-clause-ok g c = rw (err_from_is_err_and c.from_residual-in_err-read_u32-in-3.result c.from_residual-in_err-read_u32-in-3.ensures.1).1 tt
+
+pub returns-in_err-read_u32-in-3-clause-parts : goal.returns-in_err-read_u32-in-3-clause-parts
+returns-in_err-read_u32-in-3-clause-parts g c = rw (err_from_is_err_and c.from_residual-in_err-read_u32-in-3.result c.from_residual-in_err-read_u32-in-3.ensures.1).1 tt
+
+pub returns-in_ok-read_u32-in-3-clause-err : goal.returns-in_ok-read_u32-in-3-clause-err
+returns-in_ok-read_u32-in-3-clause-err g c = tt

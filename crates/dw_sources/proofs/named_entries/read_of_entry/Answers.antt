@@ -92,3 +92,66 @@ pub returns-in_default-clause-ok : goal.returns-in_default-clause-ok
 unfolding entry_operations
 returns-in_default-clause-ok g c =
     no_row (entry_operations (g.R.Reader.reading c.args.input.now).is_big c.args.encoding c.args.opcode.0) _ (g.met.R.Reader.is_reading c.args.input.now) (rw (ne_eqb c.args.opcode.0 152 (omega arith), ne_eqb c.args.opcode.0 153 (omega arith), ne_eqb c.args.opcode.0 154 (omega arith), ne_eqb c.args.opcode.0 160 (omega arith), ne_eqb c.args.opcode.0 242 (omega arith), ne_eqb c.args.opcode.0 250 (omega arith), ne_eqb c.args.opcode.0 253 (omega arith)) refl)
+
+pub returns-in_err-read_u16-in-DW_OP_call2-clause-ok : goal.returns-in_err-read_u16-in-DW_OP_call2-clause-ok
+returns-in_err-read_u16-in-DW_OP_call2-clause-ok g c = rw (err_from_is_err_and c.from_residual.result c.from_residual.ensures.1).1 tt
+
+pub returns-in_err-read_u16-in-DW_OP_call2-clause-parts : goal.returns-in_err-read_u16-in-DW_OP_call2-clause-parts
+returns-in_err-read_u16-in-DW_OP_call2-clause-parts g c = rw (err_from_is_err_and c.from_residual.result c.from_residual.ensures.1).1 tt
+
+pub returns-in_ok-read_u16-in-DW_OP_call2-clause-err : goal.returns-in_ok-read_u16-in-DW_OP_call2-clause-err
+returns-in_ok-read_u16-in-DW_OP_call2-clause-err g c = tt
+
+pub returns-in_err-read_u32-in-DW_OP_call4-clause-ok : goal.returns-in_err-read_u32-in-DW_OP_call4-clause-ok
+returns-in_err-read_u32-in-DW_OP_call4-clause-ok g c = rw (err_from_is_err_and c.from_residual-in_err-read_u32-in-DW_OP_call4.result c.from_residual-in_err-read_u32-in-DW_OP_call4.ensures.1).1 tt
+
+pub returns-in_err-read_u32-in-DW_OP_call4-clause-parts : goal.returns-in_err-read_u32-in-DW_OP_call4-clause-parts
+returns-in_err-read_u32-in-DW_OP_call4-clause-parts g c = rw (err_from_is_err_and c.from_residual-in_err-read_u32-in-DW_OP_call4.result c.from_residual-in_err-read_u32-in-DW_OP_call4.ensures.1).1 tt
+
+pub returns-in_ok-read_u32-in-DW_OP_call4-clause-err : goal.returns-in_ok-read_u32-in-DW_OP_call4-clause-err
+returns-in_ok-read_u32-in-DW_OP_call4-clause-err g c = tt
+
+pub returns-in_err-read_word-in-DW_OP_call_ref-clause-ok : goal.returns-in_err-read_word-in-DW_OP_call_ref-clause-ok
+returns-in_err-read_word-in-DW_OP_call_ref-clause-ok g c = rw (err_from_is_err_and c.from_residual-in_err-read_word-in-DW_OP_call_ref.result c.from_residual-in_err-read_word-in-DW_OP_call_ref.ensures.1).1 tt
+
+pub returns-in_err-read_word-in-DW_OP_call_ref-clause-parts : goal.returns-in_err-read_word-in-DW_OP_call_ref-clause-parts
+returns-in_err-read_word-in-DW_OP_call_ref-clause-parts g c = rw (err_from_is_err_and c.from_residual-in_err-read_word-in-DW_OP_call_ref.result c.from_residual-in_err-read_word-in-DW_OP_call_ref.ensures.1).1 tt
+
+pub returns-in_ok-read_word-in-DW_OP_call_ref-clause-err : goal.returns-in_ok-read_word-in-DW_OP_call_ref-clause-err
+returns-in_ok-read_word-in-DW_OP_call_ref-clause-err g c = tt
+
+pub returns-in_err-read_info_place-in-DW_OP_implicit_pointer-clause-ok : goal.returns-in_err-read_info_place-in-DW_OP_implicit_pointer-clause-ok
+returns-in_err-read_info_place-in-DW_OP_implicit_pointer-clause-ok g c = rw (err_from_is_err_and c.from_residual-in_err-read_info_place-in-DW_OP_implicit_pointer.result c.from_residual-in_err-read_info_place-in-DW_OP_implicit_pointer.ensures.1).1 tt
+
+pub returns-in_err-read_info_place-in-DW_OP_implicit_pointer-clause-parts : goal.returns-in_err-read_info_place-in-DW_OP_implicit_pointer-clause-parts
+returns-in_err-read_info_place-in-DW_OP_implicit_pointer-clause-parts g c = rw (err_from_is_err_and c.from_residual-in_err-read_info_place-in-DW_OP_implicit_pointer.result c.from_residual-in_err-read_info_place-in-DW_OP_implicit_pointer.ensures.1).1 tt
+
+pub returns-in_err-read_sleb128-in-DW_OP_implicit_pointer-clause-ok : goal.returns-in_err-read_sleb128-in-DW_OP_implicit_pointer-clause-ok
+returns-in_err-read_sleb128-in-DW_OP_implicit_pointer-clause-ok g c = rw (err_from_is_err_and c.from_residual-in_err-read_sleb128-in-DW_OP_implicit_pointer.result c.from_residual-in_err-read_sleb128-in-DW_OP_implicit_pointer.ensures.1).1 tt
+
+pub returns-in_err-read_sleb128-in-DW_OP_implicit_pointer-clause-parts : goal.returns-in_err-read_sleb128-in-DW_OP_implicit_pointer-clause-parts
+returns-in_err-read_sleb128-in-DW_OP_implicit_pointer-clause-parts g c = rw (err_from_is_err_and c.from_residual-in_err-read_sleb128-in-DW_OP_implicit_pointer.result c.from_residual-in_err-read_sleb128-in-DW_OP_implicit_pointer.ensures.1).1 tt
+
+pub returns-in_ok-read_sleb128-in-DW_OP_implicit_pointer-clause-err : goal.returns-in_ok-read_sleb128-in-DW_OP_implicit_pointer-clause-err
+returns-in_ok-read_sleb128-in-DW_OP_implicit_pointer-clause-err g c = tt
+
+pub returns-in_err-read_u32-in-DW_OP_GNU_parameter_ref-clause-ok : goal.returns-in_err-read_u32-in-DW_OP_GNU_parameter_ref-clause-ok
+returns-in_err-read_u32-in-DW_OP_GNU_parameter_ref-clause-ok g c = rw (err_from_is_err_and c.from_residual-in_err-read_u32-in-DW_OP_GNU_parameter_ref.result c.from_residual-in_err-read_u32-in-DW_OP_GNU_parameter_ref.ensures.1).1 tt
+
+pub returns-in_err-read_u32-in-DW_OP_GNU_parameter_ref-clause-parts : goal.returns-in_err-read_u32-in-DW_OP_GNU_parameter_ref-clause-parts
+returns-in_err-read_u32-in-DW_OP_GNU_parameter_ref-clause-parts g c = rw (err_from_is_err_and c.from_residual-in_err-read_u32-in-DW_OP_GNU_parameter_ref.result c.from_residual-in_err-read_u32-in-DW_OP_GNU_parameter_ref.ensures.1).1 tt
+
+pub returns-in_ok-read_u32-in-DW_OP_GNU_parameter_ref-clause-err : goal.returns-in_ok-read_u32-in-DW_OP_GNU_parameter_ref-clause-err
+returns-in_ok-read_u32-in-DW_OP_GNU_parameter_ref-clause-err g c = tt
+
+pub returns-in_err-read_word-in-DW_OP_GNU_variable_value-clause-ok : goal.returns-in_err-read_word-in-DW_OP_GNU_variable_value-clause-ok
+returns-in_err-read_word-in-DW_OP_GNU_variable_value-clause-ok g c = rw (err_from_is_err_and c.from_residual-in_err-read_word-in-DW_OP_GNU_variable_value.result c.from_residual-in_err-read_word-in-DW_OP_GNU_variable_value.ensures.1).1 tt
+
+pub returns-in_err-read_word-in-DW_OP_GNU_variable_value-clause-parts : goal.returns-in_err-read_word-in-DW_OP_GNU_variable_value-clause-parts
+returns-in_err-read_word-in-DW_OP_GNU_variable_value-clause-parts g c = rw (err_from_is_err_and c.from_residual-in_err-read_word-in-DW_OP_GNU_variable_value.result c.from_residual-in_err-read_word-in-DW_OP_GNU_variable_value.ensures.1).1 tt
+
+pub returns-in_ok-read_word-in-DW_OP_GNU_variable_value-clause-err : goal.returns-in_ok-read_word-in-DW_OP_GNU_variable_value-clause-err
+returns-in_ok-read_word-in-DW_OP_GNU_variable_value-clause-err g c = tt
+
+pub returns-in_default-clause-err : goal.returns-in_default-clause-err
+returns-in_default-clause-err g c = tt

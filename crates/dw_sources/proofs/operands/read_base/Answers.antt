@@ -13,3 +13,12 @@ returns-then-place-eq0-clause-ok g c = base_took c.in_ok-place.place _ _ _ (base
 
 pub returns-clause-ok : goal.returns-clause-ok
 returns-clause-ok g c = base_took c.in_ok-place.place _ _ _ (base_typed c.in_ok-place.place (omega arith)) c.in_ok-place.ensures.ok
+
+pub returns-in_err-place-clause-ok : goal.returns-in_err-place-clause-ok
+returns-in_err-place-clause-ok g c = rw (err_from_is_err_and c.from_residual.result c.from_residual.ensures.1).1 tt
+
+pub returns-then-place-eq0-clause-err : goal.returns-then-place-eq0-clause-err
+returns-then-place-eq0-clause-err g c = tt
+
+pub returns-clause-err : goal.returns-clause-err
+returns-clause-err g c = tt

@@ -15,3 +15,9 @@ pub returns-clause-ok : goal.returns-clause-ok
 returns-clause-ok g c =
     let fits : SFits w8 c.cast_signed.result = search rules in
     rw (to_z-of_z w8 c.cast_signed.result fits) (signed_took 1 _ _ _ _ c.cast_signed.ensures c.in_ok-number.ensures.ok)
+
+pub returns-in_err-number-clause-ok : goal.returns-in_err-number-clause-ok
+returns-in_err-number-clause-ok g c = rw (err_from_is_err_and c.from_residual.result c.from_residual.ensures.1).1 tt
+
+pub returns-clause-err : goal.returns-clause-err
+returns-clause-err g c = tt

@@ -18,3 +18,15 @@ returns-in_err-place-2-clause-err g c =
 
 pub returns-clause-ok : goal.returns-clause-ok
 returns-clause-ok g c = info_new c.args.encoding _ _ _ (omega arith) c.in_ok-place-2.ensures.ok
+
+pub returns-in_err-place-clause-ok : goal.returns-in_err-place-clause-ok
+returns-in_err-place-clause-ok g c = rw (err_from_is_err_and c.from_residual.result c.from_residual.ensures.1).1 tt
+
+pub returns-then-encoding-eq2-clause-err : goal.returns-then-encoding-eq2-clause-err
+returns-then-encoding-eq2-clause-err g c = tt
+
+pub returns-in_err-place-2-clause-ok : goal.returns-in_err-place-2-clause-ok
+returns-in_err-place-2-clause-ok g c = rw (err_from_is_err_and c.from_residual-in_err-place-2.result c.from_residual-in_err-place-2.ensures.1).1 tt
+
+pub returns-clause-err : goal.returns-clause-err
+returns-clause-err g c = tt

@@ -17,3 +17,18 @@ returns-clause-ok g c = short_took c.in_ok-size.size _ _ _ _ c.in_ok-size.ensure
 
 pub returns-clause-part : goal.returns-clause-part
 returns-clause-part g c = within 1 c.in_ok-size.size _ _ _ _ c.in_ok-size.ensures.passes c.in_ok-bytes.ensures.part c.in_ok-bytes.ensures.ok
+
+pub returns-in_err-size-clause-ok : goal.returns-in_err-size-clause-ok
+returns-in_err-size-clause-ok g c = rw (err_from_is_err_and c.from_residual.result c.from_residual.ensures.1).1 tt
+
+pub returns-in_err-size-clause-part : goal.returns-in_err-size-clause-part
+returns-in_err-size-clause-part g c = rw (err_from_is_err_and c.from_residual.result c.from_residual.ensures.1).1 tt
+
+pub returns-in_err-bytes-clause-ok : goal.returns-in_err-bytes-clause-ok
+returns-in_err-bytes-clause-ok g c = rw (err_from_is_err_and c.from_residual-in_err-bytes.result c.from_residual-in_err-bytes.ensures.1).1 tt
+
+pub returns-in_err-bytes-clause-part : goal.returns-in_err-bytes-clause-part
+returns-in_err-bytes-clause-part g c = rw (err_from_is_err_and c.from_residual-in_err-bytes.result c.from_residual-in_err-bytes.ensures.1).1 tt
+
+pub returns-clause-err : goal.returns-clause-err
+returns-clause-err g c = tt

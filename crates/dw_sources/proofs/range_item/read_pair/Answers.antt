@@ -35,3 +35,24 @@ returns-then-begin-marker-clause-progress g c = further ℕ (address_read _ c.ar
 
 pub returns-clause-progress : goal.returns-clause-progress
 returns-clause-progress g c = further ℕ (address_read _ c.args.size) (g.R.Reader.reading c.args.input.now) _ _ c.in_ok-end.end (address_on c.args.size c.in_ok-begin.begin _ _ (g.met.R.Reader.is_reading c.args.input.now) (g.met.R.Reader.is_reading c.read_address.new.self) c.in_ok-begin.ensures.ok) (address_took c.args.size c.in_ok-end.end _ _ c.in_ok-end.ensures.ok)
+
+pub returns-in_err-begin-clause-ok : goal.returns-in_err-begin-clause-ok
+returns-in_err-begin-clause-ok g c = rw (err_from_is_err_and c.from_residual.result c.from_residual.ensures.1).1 tt
+
+pub returns-in_err-begin-clause-progress : goal.returns-in_err-begin-clause-progress
+returns-in_err-begin-clause-progress g c = rw (err_from_is_err_and c.from_residual.result c.from_residual.ensures.1).1 tt
+
+pub returns-in_err-end-clause-ok : goal.returns-in_err-end-clause-ok
+returns-in_err-end-clause-ok g c = rw (err_from_is_err_and c.from_residual-in_err-end.result c.from_residual-in_err-end.ensures.1).1 tt
+
+pub returns-in_err-end-clause-progress : goal.returns-in_err-end-clause-progress
+returns-in_err-end-clause-progress g c = rw (err_from_is_err_and c.from_residual-in_err-end.result c.from_residual-in_err-end.ensures.1).1 tt
+
+pub returns-then-end-eq0-clause-err : goal.returns-then-end-eq0-clause-err
+returns-then-end-eq0-clause-err g c = tt
+
+pub returns-then-begin-marker-clause-err : goal.returns-then-begin-marker-clause-err
+returns-then-begin-marker-clause-err g c = tt
+
+pub returns-clause-err : goal.returns-clause-err
+returns-clause-err g c = tt

@@ -32,3 +32,27 @@ returns-clause-ok g c = old_took range_behind c.args.encoding _ _ _ (omega arith
 
 pub returns-then-encoding-eq5-clause-progress : goal.returns-then-encoding-eq5-clause-progress
 returns-then-encoding-eq5-clause-progress g c = further (Option Span) (range_behind _ c.args.encoding.address_size c.in_ok-kind.kind) (g.R.Reader.reading c.args.input.now) _ _ _ (number_on 1 _ _ (omega arith) c.in_ok-kind.ensures.passes) c.in_ok-item.ensures.ok
+
+pub returns-in_err-kind-clause-ok : goal.returns-in_err-kind-clause-ok
+returns-in_err-kind-clause-ok g c = rw (err_from_is_err_and c.from_residual.result c.from_residual.ensures.1).1 tt
+
+pub returns-in_err-kind-clause-progress : goal.returns-in_err-kind-clause-progress
+returns-in_err-kind-clause-progress g c = rw (err_from_is_err_and c.from_residual.result c.from_residual.ensures.1).1 tt
+
+pub returns-in_err-item-clause-ok : goal.returns-in_err-item-clause-ok
+returns-in_err-item-clause-ok g c = rw (err_from_is_err_and c.from_residual-in_err-item.result c.from_residual-in_err-item.ensures.1).1 tt
+
+pub returns-in_err-item-clause-progress : goal.returns-in_err-item-clause-progress
+returns-in_err-item-clause-progress g c = rw (err_from_is_err_and c.from_residual-in_err-item.result c.from_residual-in_err-item.ensures.1).1 tt
+
+pub returns-then-encoding-eq5-clause-err : goal.returns-then-encoding-eq5-clause-err
+returns-then-encoding-eq5-clause-err g c = tt
+
+pub returns-in_err-item-2-clause-ok : goal.returns-in_err-item-2-clause-ok
+returns-in_err-item-2-clause-ok g c = rw (err_from_is_err_and c.from_residual-in_err-item-2.result c.from_residual-in_err-item-2.ensures.1).1 tt
+
+pub returns-in_err-item-2-clause-progress : goal.returns-in_err-item-2-clause-progress
+returns-in_err-item-2-clause-progress g c = rw (err_from_is_err_and c.from_residual-in_err-item-2.result c.from_residual-in_err-item-2.ensures.1).1 tt
+
+pub returns-clause-err : goal.returns-clause-err
+returns-clause-err g c = tt

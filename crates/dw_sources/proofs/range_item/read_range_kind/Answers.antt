@@ -125,3 +125,66 @@ pub returns-in_default-clause-err : goal.returns-in_default-clause-err
 unfolding range_row
 returns-in_default-clause-err g c =
     no_kind (g.R.Reader.reading c.args.input.now).is_big c.args.size c.args.kind.0 _ (rw (ne_eqb c.args.kind.0 0 (omega arith), ne_eqb c.args.kind.0 1 (omega arith), ne_eqb c.args.kind.0 2 (omega arith), ne_eqb c.args.kind.0 3 (omega arith), ne_eqb c.args.kind.0 4 (omega arith), ne_eqb c.args.kind.0 5 (omega arith), ne_eqb c.args.kind.0 6 (omega arith), ne_eqb c.args.kind.0 7 (omega arith)) refl)
+
+pub returns-in-DW_RLE_end_of_list-clause-err : goal.returns-in-DW_RLE_end_of_list-clause-err
+returns-in-DW_RLE_end_of_list-clause-err g c = tt
+
+pub returns-in_err-read_uleb128-in-DW_RLE_base_addressx-clause-ok : goal.returns-in_err-read_uleb128-in-DW_RLE_base_addressx-clause-ok
+returns-in_err-read_uleb128-in-DW_RLE_base_addressx-clause-ok g c = rw (err_from_is_err_and c.from_residual.result c.from_residual.ensures.1).1 tt
+
+pub returns-in_ok-read_uleb128-in-DW_RLE_base_addressx-clause-err : goal.returns-in_ok-read_uleb128-in-DW_RLE_base_addressx-clause-err
+returns-in_ok-read_uleb128-in-DW_RLE_base_addressx-clause-err g c = tt
+
+pub returns-in_err-read_uleb128-in-DW_RLE_startx_endx-clause-ok : goal.returns-in_err-read_uleb128-in-DW_RLE_startx_endx-clause-ok
+returns-in_err-read_uleb128-in-DW_RLE_startx_endx-clause-ok g c = rw (err_from_is_err_and c.from_residual-in_err-read_uleb128-in-DW_RLE_startx_endx.result c.from_residual-in_err-read_uleb128-in-DW_RLE_startx_endx.ensures.1).1 tt
+
+pub returns-in_err-read_uleb128-in-DW_RLE_startx_endx-2-clause-ok : goal.returns-in_err-read_uleb128-in-DW_RLE_startx_endx-2-clause-ok
+returns-in_err-read_uleb128-in-DW_RLE_startx_endx-2-clause-ok g c = rw (err_from_is_err_and c.from_residual-in_err-read_uleb128-in-DW_RLE_startx_endx-2.result c.from_residual-in_err-read_uleb128-in-DW_RLE_startx_endx-2.ensures.1).1 tt
+
+pub returns-in_ok-read_uleb128-in-DW_RLE_startx_endx-2-clause-err : goal.returns-in_ok-read_uleb128-in-DW_RLE_startx_endx-2-clause-err
+returns-in_ok-read_uleb128-in-DW_RLE_startx_endx-2-clause-err g c = tt
+
+pub returns-in_err-read_uleb128-in-DW_RLE_startx_length-clause-ok : goal.returns-in_err-read_uleb128-in-DW_RLE_startx_length-clause-ok
+returns-in_err-read_uleb128-in-DW_RLE_startx_length-clause-ok g c = rw (err_from_is_err_and c.from_residual-in_err-read_uleb128-in-DW_RLE_startx_length.result c.from_residual-in_err-read_uleb128-in-DW_RLE_startx_length.ensures.1).1 tt
+
+pub returns-in_err-read_uleb128-in-DW_RLE_startx_length-2-clause-ok : goal.returns-in_err-read_uleb128-in-DW_RLE_startx_length-2-clause-ok
+returns-in_err-read_uleb128-in-DW_RLE_startx_length-2-clause-ok g c = rw (err_from_is_err_and c.from_residual-in_err-read_uleb128-in-DW_RLE_startx_length-2.result c.from_residual-in_err-read_uleb128-in-DW_RLE_startx_length-2.ensures.1).1 tt
+
+pub returns-in_ok-read_uleb128-in-DW_RLE_startx_length-2-clause-err : goal.returns-in_ok-read_uleb128-in-DW_RLE_startx_length-2-clause-err
+returns-in_ok-read_uleb128-in-DW_RLE_startx_length-2-clause-err g c = tt
+
+pub returns-in_err-read_uleb128-in-DW_RLE_offset_pair-clause-ok : goal.returns-in_err-read_uleb128-in-DW_RLE_offset_pair-clause-ok
+returns-in_err-read_uleb128-in-DW_RLE_offset_pair-clause-ok g c = rw (err_from_is_err_and c.from_residual-in_err-read_uleb128-in-DW_RLE_offset_pair.result c.from_residual-in_err-read_uleb128-in-DW_RLE_offset_pair.ensures.1).1 tt
+
+pub returns-in_err-read_uleb128-in-DW_RLE_offset_pair-2-clause-ok : goal.returns-in_err-read_uleb128-in-DW_RLE_offset_pair-2-clause-ok
+returns-in_err-read_uleb128-in-DW_RLE_offset_pair-2-clause-ok g c = rw (err_from_is_err_and c.from_residual-in_err-read_uleb128-in-DW_RLE_offset_pair-2.result c.from_residual-in_err-read_uleb128-in-DW_RLE_offset_pair-2.ensures.1).1 tt
+
+pub returns-in_ok-read_uleb128-in-DW_RLE_offset_pair-2-clause-err : goal.returns-in_ok-read_uleb128-in-DW_RLE_offset_pair-2-clause-err
+returns-in_ok-read_uleb128-in-DW_RLE_offset_pair-2-clause-err g c = tt
+
+pub returns-in_err-read_address-in-DW_RLE_base_address-clause-ok : goal.returns-in_err-read_address-in-DW_RLE_base_address-clause-ok
+returns-in_err-read_address-in-DW_RLE_base_address-clause-ok g c = rw (err_from_is_err_and c.from_residual-in_err-read_address-in-DW_RLE_base_address.result c.from_residual-in_err-read_address-in-DW_RLE_base_address.ensures.1).1 tt
+
+pub returns-in_ok-read_address-in-DW_RLE_base_address-clause-err : goal.returns-in_ok-read_address-in-DW_RLE_base_address-clause-err
+returns-in_ok-read_address-in-DW_RLE_base_address-clause-err g c = tt
+
+pub returns-in_err-read_address-in-DW_RLE_start_end-clause-ok : goal.returns-in_err-read_address-in-DW_RLE_start_end-clause-ok
+returns-in_err-read_address-in-DW_RLE_start_end-clause-ok g c = rw (err_from_is_err_and c.from_residual-in_err-read_address-in-DW_RLE_start_end.result c.from_residual-in_err-read_address-in-DW_RLE_start_end.ensures.1).1 tt
+
+pub returns-in_err-read_address-in-DW_RLE_start_end-2-clause-ok : goal.returns-in_err-read_address-in-DW_RLE_start_end-2-clause-ok
+returns-in_err-read_address-in-DW_RLE_start_end-2-clause-ok g c = rw (err_from_is_err_and c.from_residual-in_err-read_address-in-DW_RLE_start_end-2.result c.from_residual-in_err-read_address-in-DW_RLE_start_end-2.ensures.1).1 tt
+
+pub returns-in_ok-read_address-in-DW_RLE_start_end-2-clause-err : goal.returns-in_ok-read_address-in-DW_RLE_start_end-2-clause-err
+returns-in_ok-read_address-in-DW_RLE_start_end-2-clause-err g c = tt
+
+pub returns-in_err-read_address-in-DW_RLE_start_length-clause-ok : goal.returns-in_err-read_address-in-DW_RLE_start_length-clause-ok
+returns-in_err-read_address-in-DW_RLE_start_length-clause-ok g c = rw (err_from_is_err_and c.from_residual-in_err-read_address-in-DW_RLE_start_length.result c.from_residual-in_err-read_address-in-DW_RLE_start_length.ensures.1).1 tt
+
+pub returns-in_err-read_uleb128-in-DW_RLE_start_length-clause-ok : goal.returns-in_err-read_uleb128-in-DW_RLE_start_length-clause-ok
+returns-in_err-read_uleb128-in-DW_RLE_start_length-clause-ok g c = rw (err_from_is_err_and c.from_residual-in_err-read_uleb128-in-DW_RLE_start_length.result c.from_residual-in_err-read_uleb128-in-DW_RLE_start_length.ensures.1).1 tt
+
+pub returns-in_ok-read_uleb128-in-DW_RLE_start_length-clause-err : goal.returns-in_ok-read_uleb128-in-DW_RLE_start_length-clause-err
+returns-in_ok-read_uleb128-in-DW_RLE_start_length-clause-err g c = tt
+
+pub returns-in_default-clause-ok : goal.returns-in_default-clause-ok
+returns-in_default-clause-ok g c = tt

@@ -129,3 +129,54 @@ returns-clause-err g c =
     let s5 = still_none (λ b. typed_operations b c.args.encoding c.args.opcode.0) _ _ _ _ s4 _ (took_none _ _ _ _ _ _ _ c.in_ok-operation-4.ensures.ok c.in_default-5.is) in
     let s6 = still_none (λ b. locations b c.args.encoding c.args.opcode.0) _ _ _ _ s5 _ (took_none _ _ _ _ _ _ _ c.in_ok-operation-5.ensures.ok c.in_default-6.is) in
     s6.same
+
+pub returns-in-Some-clause-err : goal.returns-in-Some-clause-err
+returns-in-Some-clause-err g c = tt
+
+pub returns-in_err-operation-clause-ok : goal.returns-in_err-operation-clause-ok
+returns-in_err-operation-clause-ok g c = rw (err_from_is_err_and c.from_residual.result c.from_residual.ensures.1).1 tt
+
+pub returns-in_err-operation-clause-parts : goal.returns-in_err-operation-clause-parts
+returns-in_err-operation-clause-parts g c = rw (err_from_is_err_and c.from_residual.result c.from_residual.ensures.1).1 tt
+
+pub returns-in-Some-2-clause-err : goal.returns-in-Some-2-clause-err
+returns-in-Some-2-clause-err g c = tt
+
+pub returns-in_err-operation-2-clause-ok : goal.returns-in_err-operation-2-clause-ok
+returns-in_err-operation-2-clause-ok g c = rw (err_from_is_err_and c.from_residual-in_err-operation-2.result c.from_residual-in_err-operation-2.ensures.1).1 tt
+
+pub returns-in_err-operation-2-clause-parts : goal.returns-in_err-operation-2-clause-parts
+returns-in_err-operation-2-clause-parts g c = rw (err_from_is_err_and c.from_residual-in_err-operation-2.result c.from_residual-in_err-operation-2.ensures.1).1 tt
+
+pub returns-in-Some-3-clause-err : goal.returns-in-Some-3-clause-err
+returns-in-Some-3-clause-err g c = tt
+
+pub returns-in_err-operation-3-clause-ok : goal.returns-in_err-operation-3-clause-ok
+returns-in_err-operation-3-clause-ok g c = rw (err_from_is_err_and c.from_residual-in_err-operation-3.result c.from_residual-in_err-operation-3.ensures.1).1 tt
+
+pub returns-in_err-operation-3-clause-parts : goal.returns-in_err-operation-3-clause-parts
+returns-in_err-operation-3-clause-parts g c = rw (err_from_is_err_and c.from_residual-in_err-operation-3.result c.from_residual-in_err-operation-3.ensures.1).1 tt
+
+pub returns-in-Some-4-clause-err : goal.returns-in-Some-4-clause-err
+returns-in-Some-4-clause-err g c = tt
+
+pub returns-in_err-operation-4-clause-ok : goal.returns-in_err-operation-4-clause-ok
+returns-in_err-operation-4-clause-ok g c = rw (err_from_is_err_and c.from_residual-in_err-operation-4.result c.from_residual-in_err-operation-4.ensures.1).1 tt
+
+pub returns-in_err-operation-4-clause-parts : goal.returns-in_err-operation-4-clause-parts
+returns-in_err-operation-4-clause-parts g c = rw (err_from_is_err_and c.from_residual-in_err-operation-4.result c.from_residual-in_err-operation-4.ensures.1).1 tt
+
+pub returns-in-Some-5-clause-err : goal.returns-in-Some-5-clause-err
+returns-in-Some-5-clause-err g c = tt
+
+pub returns-in_err-operation-5-clause-ok : goal.returns-in_err-operation-5-clause-ok
+returns-in_err-operation-5-clause-ok g c = rw (err_from_is_err_and c.from_residual-in_err-operation-5.result c.from_residual-in_err-operation-5.ensures.1).1 tt
+
+pub returns-in_err-operation-5-clause-parts : goal.returns-in_err-operation-5-clause-parts
+returns-in_err-operation-5-clause-parts g c = rw (err_from_is_err_and c.from_residual-in_err-operation-5.result c.from_residual-in_err-operation-5.ensures.1).1 tt
+
+pub returns-in-Some-6-clause-err : goal.returns-in-Some-6-clause-err
+returns-in-Some-6-clause-err g c = tt
+
+pub returns-clause-parts : goal.returns-clause-parts
+returns-clause-parts g c = tt

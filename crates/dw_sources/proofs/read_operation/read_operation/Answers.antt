@@ -22,3 +22,24 @@ returns-clause-parts g c = holds_after g.R.Reader.reading _ _ c.in_ok-operation.
 
 pub returns-clause-progress : goal.returns-clause-progress
 returns-clause-progress g c = beyond 1 _ _ _ _ c.in_ok-code.ensures.passes c.in_ok-operation.ensures.ok.passes (omega arith)
+
+pub returns-in_err-code-clause-ok : goal.returns-in_err-code-clause-ok
+returns-in_err-code-clause-ok g c = rw (err_from_is_err_and c.from_residual.result c.from_residual.ensures.1).1 tt
+
+pub returns-in_err-code-clause-parts : goal.returns-in_err-code-clause-parts
+returns-in_err-code-clause-parts g c = rw (err_from_is_err_and c.from_residual.result c.from_residual.ensures.1).1 tt
+
+pub returns-in_err-code-clause-progress : goal.returns-in_err-code-clause-progress
+returns-in_err-code-clause-progress g c = rw (err_from_is_err_and c.from_residual.result c.from_residual.ensures.1).1 tt
+
+pub returns-in_err-operation-clause-ok : goal.returns-in_err-operation-clause-ok
+returns-in_err-operation-clause-ok g c = rw (err_from_is_err_and c.from_residual-in_err-operation.result c.from_residual-in_err-operation.ensures.1).1 tt
+
+pub returns-in_err-operation-clause-parts : goal.returns-in_err-operation-clause-parts
+returns-in_err-operation-clause-parts g c = rw (err_from_is_err_and c.from_residual-in_err-operation.result c.from_residual-in_err-operation.ensures.1).1 tt
+
+pub returns-in_err-operation-clause-progress : goal.returns-in_err-operation-clause-progress
+returns-in_err-operation-clause-progress g c = rw (err_from_is_err_and c.from_residual-in_err-operation.result c.from_residual-in_err-operation.ensures.1).1 tt
+
+pub returns-clause-err : goal.returns-clause-err
+returns-clause-err g c = tt

@@ -87,3 +87,60 @@ pub returns-in_default-clause-ok : goal.returns-in_default-clause-ok
 unfolding stack_operations
 returns-in_default-clause-ok g c =
     no_row (stack_operations (g.R.Reader.reading c.args.input.now).is_big c.args.encoding c.args.opcode.0) _ (g.met.R.Reader.is_reading c.args.input.now) (rw (ne_eqb c.args.opcode.0 21 (omega arith), ne_eqb c.args.opcode.0 148 (omega arith), ne_eqb c.args.opcode.0 149 (omega arith), ne_eqb c.args.opcode.0 35 (omega arith), ne_eqb c.args.opcode.0 40 (omega arith), ne_eqb c.args.opcode.0 47 (omega arith)) refl)
+
+pub returns-in_err-read_u8-in-DW_OP_pick-clause-ok : goal.returns-in_err-read_u8-in-DW_OP_pick-clause-ok
+returns-in_err-read_u8-in-DW_OP_pick-clause-ok g c = rw (err_from_is_err_and c.from_residual.result c.from_residual.ensures.1).1 tt
+
+pub returns-in_err-read_u8-in-DW_OP_pick-clause-parts : goal.returns-in_err-read_u8-in-DW_OP_pick-clause-parts
+returns-in_err-read_u8-in-DW_OP_pick-clause-parts g c = rw (err_from_is_err_and c.from_residual.result c.from_residual.ensures.1).1 tt
+
+pub returns-in_ok-read_u8-in-DW_OP_pick-clause-err : goal.returns-in_ok-read_u8-in-DW_OP_pick-clause-err
+returns-in_ok-read_u8-in-DW_OP_pick-clause-err g c = tt
+
+pub returns-in_err-read_u8-in-DW_OP_deref_size-clause-ok : goal.returns-in_err-read_u8-in-DW_OP_deref_size-clause-ok
+returns-in_err-read_u8-in-DW_OP_deref_size-clause-ok g c = rw (err_from_is_err_and c.from_residual-in_err-read_u8-in-DW_OP_deref_size.result c.from_residual-in_err-read_u8-in-DW_OP_deref_size.ensures.1).1 tt
+
+pub returns-in_err-read_u8-in-DW_OP_deref_size-clause-parts : goal.returns-in_err-read_u8-in-DW_OP_deref_size-clause-parts
+returns-in_err-read_u8-in-DW_OP_deref_size-clause-parts g c = rw (err_from_is_err_and c.from_residual-in_err-read_u8-in-DW_OP_deref_size.result c.from_residual-in_err-read_u8-in-DW_OP_deref_size.ensures.1).1 tt
+
+pub returns-in_ok-read_u8-in-DW_OP_deref_size-clause-err : goal.returns-in_ok-read_u8-in-DW_OP_deref_size-clause-err
+returns-in_ok-read_u8-in-DW_OP_deref_size-clause-err g c = tt
+
+pub returns-in_err-read_u8-in-DW_OP_xderef_size-clause-ok : goal.returns-in_err-read_u8-in-DW_OP_xderef_size-clause-ok
+returns-in_err-read_u8-in-DW_OP_xderef_size-clause-ok g c = rw (err_from_is_err_and c.from_residual-in_err-read_u8-in-DW_OP_xderef_size.result c.from_residual-in_err-read_u8-in-DW_OP_xderef_size.ensures.1).1 tt
+
+pub returns-in_err-read_u8-in-DW_OP_xderef_size-clause-parts : goal.returns-in_err-read_u8-in-DW_OP_xderef_size-clause-parts
+returns-in_err-read_u8-in-DW_OP_xderef_size-clause-parts g c = rw (err_from_is_err_and c.from_residual-in_err-read_u8-in-DW_OP_xderef_size.result c.from_residual-in_err-read_u8-in-DW_OP_xderef_size.ensures.1).1 tt
+
+pub returns-in_ok-read_u8-in-DW_OP_xderef_size-clause-err : goal.returns-in_ok-read_u8-in-DW_OP_xderef_size-clause-err
+returns-in_ok-read_u8-in-DW_OP_xderef_size-clause-err g c = tt
+
+pub returns-in_err-read_uleb128-in-DW_OP_plus_uconst-clause-ok : goal.returns-in_err-read_uleb128-in-DW_OP_plus_uconst-clause-ok
+returns-in_err-read_uleb128-in-DW_OP_plus_uconst-clause-ok g c = rw (err_from_is_err_and c.from_residual-in_err-read_uleb128-in-DW_OP_plus_uconst.result c.from_residual-in_err-read_uleb128-in-DW_OP_plus_uconst.ensures.1).1 tt
+
+pub returns-in_err-read_uleb128-in-DW_OP_plus_uconst-clause-parts : goal.returns-in_err-read_uleb128-in-DW_OP_plus_uconst-clause-parts
+returns-in_err-read_uleb128-in-DW_OP_plus_uconst-clause-parts g c = rw (err_from_is_err_and c.from_residual-in_err-read_uleb128-in-DW_OP_plus_uconst.result c.from_residual-in_err-read_uleb128-in-DW_OP_plus_uconst.ensures.1).1 tt
+
+pub returns-in_ok-read_uleb128-in-DW_OP_plus_uconst-clause-err : goal.returns-in_ok-read_uleb128-in-DW_OP_plus_uconst-clause-err
+returns-in_ok-read_uleb128-in-DW_OP_plus_uconst-clause-err g c = tt
+
+pub returns-in_err-read_i16-in-DW_OP_bra-clause-ok : goal.returns-in_err-read_i16-in-DW_OP_bra-clause-ok
+returns-in_err-read_i16-in-DW_OP_bra-clause-ok g c = rw (err_from_is_err_and c.from_residual-in_err-read_i16-in-DW_OP_bra.result c.from_residual-in_err-read_i16-in-DW_OP_bra.ensures.1).1 tt
+
+pub returns-in_err-read_i16-in-DW_OP_bra-clause-parts : goal.returns-in_err-read_i16-in-DW_OP_bra-clause-parts
+returns-in_err-read_i16-in-DW_OP_bra-clause-parts g c = rw (err_from_is_err_and c.from_residual-in_err-read_i16-in-DW_OP_bra.result c.from_residual-in_err-read_i16-in-DW_OP_bra.ensures.1).1 tt
+
+pub returns-in_ok-read_i16-in-DW_OP_bra-clause-err : goal.returns-in_ok-read_i16-in-DW_OP_bra-clause-err
+returns-in_ok-read_i16-in-DW_OP_bra-clause-err g c = tt
+
+pub returns-in_err-read_i16-in-DW_OP_skip-clause-ok : goal.returns-in_err-read_i16-in-DW_OP_skip-clause-ok
+returns-in_err-read_i16-in-DW_OP_skip-clause-ok g c = rw (err_from_is_err_and c.from_residual-in_err-read_i16-in-DW_OP_skip.result c.from_residual-in_err-read_i16-in-DW_OP_skip.ensures.1).1 tt
+
+pub returns-in_err-read_i16-in-DW_OP_skip-clause-parts : goal.returns-in_err-read_i16-in-DW_OP_skip-clause-parts
+returns-in_err-read_i16-in-DW_OP_skip-clause-parts g c = rw (err_from_is_err_and c.from_residual-in_err-read_i16-in-DW_OP_skip.result c.from_residual-in_err-read_i16-in-DW_OP_skip.ensures.1).1 tt
+
+pub returns-in_ok-read_i16-in-DW_OP_skip-clause-err : goal.returns-in_ok-read_i16-in-DW_OP_skip-clause-err
+returns-in_ok-read_i16-in-DW_OP_skip-clause-err g c = tt
+
+pub returns-in_default-clause-err : goal.returns-in_default-clause-err
+returns-in_default-clause-err g c = tt

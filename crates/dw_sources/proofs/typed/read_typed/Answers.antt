@@ -112,3 +112,84 @@ pub returns-in_default-clause-ok : goal.returns-in_default-clause-ok
 unfolding typed_operations
 returns-in_default-clause-ok g c =
     no_row (typed_operations (g.R.Reader.reading c.args.input.now).is_big c.args.encoding c.args.opcode.0) _ (g.met.R.Reader.is_reading c.args.input.now) (rw (ne_eqb c.args.opcode.0 164 (omega arith), ne_eqb c.args.opcode.0 244 (omega arith), ne_eqb c.args.opcode.0 165 (omega arith), ne_eqb c.args.opcode.0 245 (omega arith), ne_eqb c.args.opcode.0 166 (omega arith), ne_eqb c.args.opcode.0 246 (omega arith), ne_eqb c.args.opcode.0 167 (omega arith), ne_eqb c.args.opcode.0 168 (omega arith), ne_eqb c.args.opcode.0 247 (omega arith), ne_eqb c.args.opcode.0 169 (omega arith), ne_eqb c.args.opcode.0 249 (omega arith)) refl)
+
+pub returns-in_err-read_uleb128-in-DW_OP_const_type-clause-ok : goal.returns-in_err-read_uleb128-in-DW_OP_const_type-clause-ok
+returns-in_err-read_uleb128-in-DW_OP_const_type-clause-ok g c = rw (err_from_is_err_and c.from_residual-in_err-read_uleb128-in-DW_OP_const_type.result c.from_residual-in_err-read_uleb128-in-DW_OP_const_type.ensures.1).1 tt
+
+pub returns-in_err-read_uleb128-in-DW_OP_const_type-clause-parts : goal.returns-in_err-read_uleb128-in-DW_OP_const_type-clause-parts
+returns-in_err-read_uleb128-in-DW_OP_const_type-clause-parts g c = rw (err_from_is_err_and c.from_residual-in_err-read_uleb128-in-DW_OP_const_type.result c.from_residual-in_err-read_uleb128-in-DW_OP_const_type.ensures.1).1 tt
+
+pub returns-in_err-read_short_block-in-DW_OP_const_type-clause-ok : goal.returns-in_err-read_short_block-in-DW_OP_const_type-clause-ok
+returns-in_err-read_short_block-in-DW_OP_const_type-clause-ok g c = rw (err_from_is_err_and c.from_residual-in_err-read_short_block-in-DW_OP_const_type.result c.from_residual-in_err-read_short_block-in-DW_OP_const_type.ensures.1).1 tt
+
+pub returns-in_err-read_short_block-in-DW_OP_const_type-clause-parts : goal.returns-in_err-read_short_block-in-DW_OP_const_type-clause-parts
+returns-in_err-read_short_block-in-DW_OP_const_type-clause-parts g c = rw (err_from_is_err_and c.from_residual-in_err-read_short_block-in-DW_OP_const_type.result c.from_residual-in_err-read_short_block-in-DW_OP_const_type.ensures.1).1 tt
+
+pub returns-in_ok-read_short_block-in-DW_OP_const_type-clause-err : goal.returns-in_ok-read_short_block-in-DW_OP_const_type-clause-err
+returns-in_ok-read_short_block-in-DW_OP_const_type-clause-err g c = tt
+
+pub returns-in_err-read_register-in-DW_OP_regval_type-clause-ok : goal.returns-in_err-read_register-in-DW_OP_regval_type-clause-ok
+returns-in_err-read_register-in-DW_OP_regval_type-clause-ok g c = rw (err_from_is_err_and c.from_residual-in_err-read_register-in-DW_OP_regval_type.result c.from_residual-in_err-read_register-in-DW_OP_regval_type.ensures.1).1 tt
+
+pub returns-in_err-read_register-in-DW_OP_regval_type-clause-parts : goal.returns-in_err-read_register-in-DW_OP_regval_type-clause-parts
+returns-in_err-read_register-in-DW_OP_regval_type-clause-parts g c = rw (err_from_is_err_and c.from_residual-in_err-read_register-in-DW_OP_regval_type.result c.from_residual-in_err-read_register-in-DW_OP_regval_type.ensures.1).1 tt
+
+pub returns-in_err-read_uleb128-in-DW_OP_regval_type-clause-ok : goal.returns-in_err-read_uleb128-in-DW_OP_regval_type-clause-ok
+returns-in_err-read_uleb128-in-DW_OP_regval_type-clause-ok g c = rw (err_from_is_err_and c.from_residual-in_err-read_uleb128-in-DW_OP_regval_type.result c.from_residual-in_err-read_uleb128-in-DW_OP_regval_type.ensures.1).1 tt
+
+pub returns-in_err-read_uleb128-in-DW_OP_regval_type-clause-parts : goal.returns-in_err-read_uleb128-in-DW_OP_regval_type-clause-parts
+returns-in_err-read_uleb128-in-DW_OP_regval_type-clause-parts g c = rw (err_from_is_err_and c.from_residual-in_err-read_uleb128-in-DW_OP_regval_type.result c.from_residual-in_err-read_uleb128-in-DW_OP_regval_type.ensures.1).1 tt
+
+pub returns-in_ok-read_uleb128-in-DW_OP_regval_type-clause-err : goal.returns-in_ok-read_uleb128-in-DW_OP_regval_type-clause-err
+returns-in_ok-read_uleb128-in-DW_OP_regval_type-clause-err g c = tt
+
+pub returns-in_err-read_u8-in-DW_OP_deref_type-clause-ok : goal.returns-in_err-read_u8-in-DW_OP_deref_type-clause-ok
+returns-in_err-read_u8-in-DW_OP_deref_type-clause-ok g c = rw (err_from_is_err_and c.from_residual-in_err-read_u8-in-DW_OP_deref_type.result c.from_residual-in_err-read_u8-in-DW_OP_deref_type.ensures.1).1 tt
+
+pub returns-in_err-read_u8-in-DW_OP_deref_type-clause-parts : goal.returns-in_err-read_u8-in-DW_OP_deref_type-clause-parts
+returns-in_err-read_u8-in-DW_OP_deref_type-clause-parts g c = rw (err_from_is_err_and c.from_residual-in_err-read_u8-in-DW_OP_deref_type.result c.from_residual-in_err-read_u8-in-DW_OP_deref_type.ensures.1).1 tt
+
+pub returns-in_err-read_uleb128-in-DW_OP_deref_type-clause-ok : goal.returns-in_err-read_uleb128-in-DW_OP_deref_type-clause-ok
+returns-in_err-read_uleb128-in-DW_OP_deref_type-clause-ok g c = rw (err_from_is_err_and c.from_residual-in_err-read_uleb128-in-DW_OP_deref_type.result c.from_residual-in_err-read_uleb128-in-DW_OP_deref_type.ensures.1).1 tt
+
+pub returns-in_err-read_uleb128-in-DW_OP_deref_type-clause-parts : goal.returns-in_err-read_uleb128-in-DW_OP_deref_type-clause-parts
+returns-in_err-read_uleb128-in-DW_OP_deref_type-clause-parts g c = rw (err_from_is_err_and c.from_residual-in_err-read_uleb128-in-DW_OP_deref_type.result c.from_residual-in_err-read_uleb128-in-DW_OP_deref_type.ensures.1).1 tt
+
+pub returns-in_ok-read_uleb128-in-DW_OP_deref_type-clause-err : goal.returns-in_ok-read_uleb128-in-DW_OP_deref_type-clause-err
+returns-in_ok-read_uleb128-in-DW_OP_deref_type-clause-err g c = tt
+
+pub returns-in_err-read_u8-in-DW_OP_xderef_type-clause-ok : goal.returns-in_err-read_u8-in-DW_OP_xderef_type-clause-ok
+returns-in_err-read_u8-in-DW_OP_xderef_type-clause-ok g c = rw (err_from_is_err_and c.from_residual.result c.from_residual.ensures.1).1 tt
+
+pub returns-in_err-read_u8-in-DW_OP_xderef_type-clause-parts : goal.returns-in_err-read_u8-in-DW_OP_xderef_type-clause-parts
+returns-in_err-read_u8-in-DW_OP_xderef_type-clause-parts g c = rw (err_from_is_err_and c.from_residual.result c.from_residual.ensures.1).1 tt
+
+pub returns-in_err-read_uleb128-in-DW_OP_xderef_type-clause-ok : goal.returns-in_err-read_uleb128-in-DW_OP_xderef_type-clause-ok
+returns-in_err-read_uleb128-in-DW_OP_xderef_type-clause-ok g c = rw (err_from_is_err_and c.from_residual-in_err-read_uleb128-in-DW_OP_xderef_type.result c.from_residual-in_err-read_uleb128-in-DW_OP_xderef_type.ensures.1).1 tt
+
+pub returns-in_err-read_uleb128-in-DW_OP_xderef_type-clause-parts : goal.returns-in_err-read_uleb128-in-DW_OP_xderef_type-clause-parts
+returns-in_err-read_uleb128-in-DW_OP_xderef_type-clause-parts g c = rw (err_from_is_err_and c.from_residual-in_err-read_uleb128-in-DW_OP_xderef_type.result c.from_residual-in_err-read_uleb128-in-DW_OP_xderef_type.ensures.1).1 tt
+
+pub returns-in_ok-read_uleb128-in-DW_OP_xderef_type-clause-err : goal.returns-in_ok-read_uleb128-in-DW_OP_xderef_type-clause-err
+returns-in_ok-read_uleb128-in-DW_OP_xderef_type-clause-err g c = tt
+
+pub returns-in_err-read_base-in-DW_OP_convert-clause-ok : goal.returns-in_err-read_base-in-DW_OP_convert-clause-ok
+returns-in_err-read_base-in-DW_OP_convert-clause-ok g c = rw (err_from_is_err_and c.from_residual-in_err-read_base-in-DW_OP_convert.result c.from_residual-in_err-read_base-in-DW_OP_convert.ensures.1).1 tt
+
+pub returns-in_err-read_base-in-DW_OP_convert-clause-parts : goal.returns-in_err-read_base-in-DW_OP_convert-clause-parts
+returns-in_err-read_base-in-DW_OP_convert-clause-parts g c = rw (err_from_is_err_and c.from_residual-in_err-read_base-in-DW_OP_convert.result c.from_residual-in_err-read_base-in-DW_OP_convert.ensures.1).1 tt
+
+pub returns-in_ok-read_base-in-DW_OP_convert-clause-err : goal.returns-in_ok-read_base-in-DW_OP_convert-clause-err
+returns-in_ok-read_base-in-DW_OP_convert-clause-err g c = tt
+
+pub returns-in_err-read_base-in-DW_OP_reinterpret-clause-ok : goal.returns-in_err-read_base-in-DW_OP_reinterpret-clause-ok
+returns-in_err-read_base-in-DW_OP_reinterpret-clause-ok g c = rw (err_from_is_err_and c.from_residual-in_err-read_base-in-DW_OP_reinterpret.result c.from_residual-in_err-read_base-in-DW_OP_reinterpret.ensures.1).1 tt
+
+pub returns-in_err-read_base-in-DW_OP_reinterpret-clause-parts : goal.returns-in_err-read_base-in-DW_OP_reinterpret-clause-parts
+returns-in_err-read_base-in-DW_OP_reinterpret-clause-parts g c = rw (err_from_is_err_and c.from_residual-in_err-read_base-in-DW_OP_reinterpret.result c.from_residual-in_err-read_base-in-DW_OP_reinterpret.ensures.1).1 tt
+
+pub returns-in_ok-read_base-in-DW_OP_reinterpret-clause-err : goal.returns-in_ok-read_base-in-DW_OP_reinterpret-clause-err
+returns-in_ok-read_base-in-DW_OP_reinterpret-clause-err g c = tt
+
+pub returns-in_default-clause-err : goal.returns-in_default-clause-err
+returns-in_default-clause-err g c = tt
