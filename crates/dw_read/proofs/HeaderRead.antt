@@ -6,7 +6,7 @@ use Rattle.dw_base.specs.Numbers.{◌>>=◌, when, bytes_at, number_at, initial_
 use Rattle.dw_base.specs.Headers.{Header, is_unit_type, has_identity, has_type_offset, identity_at, type_offset_at, old_fields_at, new_fields_at, fields_at, header_at}
 use Rattle.dw_base.specs.declared.common.Format.{Format}
 use Rattle.dw_read.specs.Reasons.{◌=>>◌, if_so, bytes_read, number_read, initial_length_read}
-use Rattle.dw_read.specs.Headers.{optional_read, old_fields_read, new_fields_read, fields_read, header_read}
+use Rattle.dw_read.specs.Headers.{optional_read, old_fields_read, new_begin_read, new_fields_read, fields_read, header_read}
 use Rattle.dw_read.specs.declared.error.ReadError.{ReadError}
 use Rattle.dw_read.specs.declared.error.ReadError.TheVariants.{UnknownVersion, UnsupportedAddressSize, UnknownUnitType}
 use Rattle.dw_read.proofs.Laws.{IsReadOf, then_ok, if_so_ok, number_law, bytes_law, initial_length_law}
@@ -40,47 +40,74 @@ pub old_whole : (big : Bool) (f : Format) (v table size : ℕ) (bs mid rest : Li
 unfolding old_fields_read
 old_whole big f v table size bs mid rest h k w = rw (h, k, w) refl
 
-pub new_no_type : (big : Bool) (f : Format) (bs : List ℕ) (e : ReadError) → number_read big 1 bs ≡ Err e → new_fields_read big f bs ≡ Err e
-unfolding new_fields_read
-new_no_type big f bs e h = rw h refl
+pub begin_no_type : (big : Bool) (f : Format) (bs : List ℕ) (e : ReadError) → number_read big 1 bs ≡ Err e → new_begin_read big f bs ≡ Err e
+unfolding new_begin_read
+begin_no_type big f bs e h = rw h refl
 
-pub new_no_size : (big : Bool) (f : Format) (t : ℕ) (bs a : List ℕ) (e : ReadError) → number_read big 1 bs ≡ Ok (t, a) → number_read big 1 a ≡ Err e → new_fields_read big f bs ≡ Err e
-unfolding new_fields_read
-new_no_size big f t bs a e h k = rw (h, k) refl
+pub begin_no_size : (big : Bool) (f : Format) (t : ℕ) (bs a : List ℕ) (e : ReadError) → number_read big 1 bs ≡ Ok (t, a) → number_read big 1 a ≡ Err e → new_begin_read big f bs ≡ Err e
+unfolding new_begin_read
+begin_no_size big f t bs a e h k = rw (h, k) refl
 
-pub new_no_table : (big : Bool) (f : Format) (t size : ℕ) (bs a b : List ℕ) (e : ReadError) → number_read big 1 bs ≡ Ok (t, a) → number_read big 1 a ≡ Ok (size, b) → number_read big (word_of f) b ≡ Err e → new_fields_read big f bs ≡ Err e
-unfolding new_fields_read
-new_no_table big f t size bs a b e h k l = rw (h, k, l) refl
+pub begin_no_table : (big : Bool) (f : Format) (t size : ℕ) (bs a b : List ℕ) (e : ReadError) → number_read big 1 bs ≡ Ok (t, a) → number_read big 1 a ≡ Ok (size, b) → number_read big (word_of f) b ≡ Err e → new_begin_read big f bs ≡ Err e
+unfolding new_begin_read
+begin_no_table big f t size bs a b e h k l = rw (h, k, l) refl
 
 -- the three numbers that each header of version 5 begins with after its version
 pub record Begins (big : Bool) (f : Format) (bs : List ℕ) (t size table : ℕ) (c : List ℕ) : Type 0 where
-  pub is : new_fields_read big f bs ≡ if_so (is_unit_type t) (UnknownUnitType (record { 0 = t })) (if_so (is_width size) (UnsupportedAddressSize size)
-      (optional_read (has_identity t) big 8 c =>> λ identity. optional_read (has_type_offset t) big (word_of f) identity.1 =>> λ place. Ok (
-        record { encoding = record { address_size = size; format = f; version = 5 }; unit_type = Some t; table_offset = table; identity = identity.0; type_offset = place.0 },
-        place.1,
-      )))
+  pub is : new_begin_read big f bs ≡ if_so (is_unit_type t) (UnknownUnitType (record { 0 = t })) (if_so (is_width size) (UnsupportedAddressSize size) (Ok ((t, size, table), c)))
 
 pub new_begins : (big : Bool) (f : Format) (t size table : ℕ) (bs a b c : List ℕ) → number_read big 1 bs ≡ Ok (t, a) → number_read big 1 a ≡ Ok (size, b) → number_read big (word_of f) b ≡ Ok (table, c) → Begins big f bs t size table c
-unfolding new_fields_read
+unfolding new_begin_read
 new_begins big f t size table bs a b c h k l = record { is = rw (h, k, l) refl }
 
-pub new_bad_type : (big : Bool) (f : Format) (t size table : ℕ) (bs c : List ℕ) → Begins big f bs t size table c → is_unit_type t ≡ false → new_fields_read big f bs ≡ Err (UnknownUnitType (record { 0 = t }))
-new_bad_type big f t size table bs c h u = h.is ∙ rw u refl
+pub begin_bad_type : (big : Bool) (f : Format) (t size table : ℕ) (bs c : List ℕ) → Begins big f bs t size table c → is_unit_type t ≡ false → new_begin_read big f bs ≡ Err (UnknownUnitType (record { 0 = t }))
+begin_bad_type big f t size table bs c h u = h.is ∙ rw u refl
 
-pub new_bad_size : (big : Bool) (f : Format) (t size table : ℕ) (bs c : List ℕ) → Begins big f bs t size table c → is_unit_type t ≡ true → is_width size ≡ false → new_fields_read big f bs ≡ Err (UnsupportedAddressSize size)
-new_bad_size big f t size table bs c h u w = h.is ∙ rw (u, w) refl
+pub begin_bad_size : (big : Bool) (f : Format) (t size table : ℕ) (bs c : List ℕ) → Begins big f bs t size table c → is_unit_type t ≡ true → is_width size ≡ false → new_begin_read big f bs ≡ Err (UnsupportedAddressSize size)
+begin_bad_size big f t size table bs c h u w = h.is ∙ rw (u, w) refl
 
-pub new_no_identity : (big : Bool) (f : Format) (t size table : ℕ) (bs c : List ℕ) (e : ReadError) → Begins big f bs t size table c → is_unit_type t ≡ true → is_width size ≡ true → optional_read (has_identity t) big 8 c ≡ Err e → new_fields_read big f bs ≡ Err e
-new_no_identity big f t size table bs c e h u w i = h.is ∙ rw (u, w, i) refl
+pub begin_whole : (big : Bool) (f : Format) (t size table : ℕ) (bs c : List ℕ) → Begins big f bs t size table c → is_unit_type t ≡ true → is_width size ≡ true → new_begin_read big f bs ≡ Ok ((t, size, table), c)
+begin_whole big f t size table bs c h u w = h.is ∙ rw (u, w) refl
 
-pub new_no_place : (big : Bool) (f : Format) (t size table : ℕ) (identity : Option ℕ) (bs c d : List ℕ) (e : ReadError) → Begins big f bs t size table c → is_unit_type t ≡ true → is_width size ≡ true → optional_read (has_identity t) big 8 c ≡ Ok (identity, d)
+-- what stands behind those numbers
+abbrev behind_begin : Bool → Format → (ℕ × ℕ × ℕ) × List ℕ → Result (Header × List ℕ) ReadError
+behind_begin big f x =
+    optional_read (has_identity x.0.0) big 8 x.1 =>> λ identity. optional_read (has_type_offset x.0.0) big (word_of f) identity.1 =>> λ place. Ok (
+      record { encoding = record { address_size = x.0.1; format = f; version = 5 }; unit_type = Some x.0.0; table_offset = x.0.2; identity = identity.0; type_offset = place.0 },
+      place.1,
+    )
+
+then_then : {A B C : Type 0} (r : Result A ReadError) (f : A → Result B ReadError) (g : B → Result C ReadError) (h : A → Result C ReadError) → ((x : A) → h x ≡ (f x =>> g)) → (r =>> h) ≡ ((r =>> f) =>> g)
+then_then (Ok x) f g h k = k x
+then_then (Err e) f g h k = refl
+
+both_then : {A B : Type 0} (a b : Bool) (e y : ReadError) (x : A) (g : A → Result B ReadError) → if_so a e (if_so b y (g x)) ≡ (if_so a e (if_so b y (Ok x)) =>> g)
+both_then true true e y x g = refl
+both_then true false e y x g = refl
+both_then false b e y x g = refl
+
+begun_first : (big : Bool) (f : Format) (bs : List ℕ) → new_fields_read big f bs ≡ (new_begin_read big f bs =>> behind_begin big f)
+unfolding new_fields_read new_begin_read
+begun_first big f bs =
+    then_then (number_read big 1 bs) _ (behind_begin big f) _ (λ type.
+    then_then (number_read big 1 type.1) _ (behind_begin big f) _ (λ size.
+    then_then (number_read big (word_of f) size.1) _ (behind_begin big f) _ (λ table.
+    both_then (is_unit_type type.0) (is_width size.0) (UnknownUnitType (record { 0 = type.0 })) (UnsupportedAddressSize size.0) ((type.0, size.0, table.0), table.1) (behind_begin big f))))
+
+pub new_not_begun : (big : Bool) (f : Format) (bs : List ℕ) (e : ReadError) → new_begin_read big f bs ≡ Err e → new_fields_read big f bs ≡ Err e
+new_not_begun big f bs e h = begun_first big f bs ∙ rw h refl
+
+pub new_no_identity : (big : Bool) (f : Format) (t size table : ℕ) (bs c : List ℕ) (e : ReadError) → new_begin_read big f bs ≡ Ok ((t, size, table), c) → optional_read (has_identity t) big 8 c ≡ Err e → new_fields_read big f bs ≡ Err e
+new_no_identity big f t size table bs c e h i = begun_first big f bs ∙ rw (h, i) refl
+
+pub new_no_place : (big : Bool) (f : Format) (t size table : ℕ) (identity : Option ℕ) (bs c d : List ℕ) (e : ReadError) → new_begin_read big f bs ≡ Ok ((t, size, table), c) → optional_read (has_identity t) big 8 c ≡ Ok (identity, d)
     → optional_read (has_type_offset t) big (word_of f) d ≡ Err e → new_fields_read big f bs ≡ Err e
-new_no_place big f t size table identity bs c d e h u w i p = h.is ∙ rw (u, w, i, p) refl
+new_no_place big f t size table identity bs c d e h i p = begun_first big f bs ∙ rw (h, i, p) refl
 
-pub new_whole : (big : Bool) (f : Format) (t size table : ℕ) (identity place : Option ℕ) (bs c d last : List ℕ) → Begins big f bs t size table c → is_unit_type t ≡ true → is_width size ≡ true → optional_read (has_identity t) big 8 c ≡ Ok (identity, d)
+pub new_whole : (big : Bool) (f : Format) (t size table : ℕ) (identity place : Option ℕ) (bs c d last : List ℕ) → new_begin_read big f bs ≡ Ok ((t, size, table), c) → optional_read (has_identity t) big 8 c ≡ Ok (identity, d)
     → optional_read (has_type_offset t) big (word_of f) d ≡ Ok (place, last)
     → new_fields_read big f bs ≡ Ok (record { encoding = record { address_size = size; format = f; version = 5 }; unit_type = Some t; table_offset = table; identity = identity; type_offset = place }, last)
-new_whole big f t size table identity place bs c d last h u w i p = h.is ∙ rw (u, w, i, p) refl
+new_whole big f t size table identity place bs c d last h i p = begun_first big f bs ∙ rw (h, i, p) refl
 
 pub no_version : (big : Bool) (f : Format) (bs : List ℕ) (e : ReadError) → number_read big 2 bs ≡ Err e → fields_read big f bs ≡ Err e
 unfolding fields_read

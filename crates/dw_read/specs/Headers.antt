@@ -27,6 +27,13 @@ old_fields_read big format version bytes =
       size.1,
     ))
 
+-- what each header of version 5 begins with after its version: the unit's type, the size of addresses and the offset of the table
+unfoldable pub new_begin_read : Bool → Format → Read (ℕ × ℕ × ℕ)
+new_begin_read big format bytes =
+    number_read big 1 bytes =>> λ type. number_read big 1 type.1 =>> λ size. number_read big (word_of format) size.1 =>> λ table.
+    if_so (is_unit_type type.0) (UnknownUnitType (record { 0 = type.0 })) (if_so (is_width size.0) (UnsupportedAddressSize size.0)
+    (Ok ((type.0, size.0, table.0), table.1)))
+
 -- what follows it in version 5
 unfoldable pub new_fields_read : Bool → Format → Read Header
 new_fields_read big format bytes =

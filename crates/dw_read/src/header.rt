@@ -1,11 +1,11 @@
 //! Unit headers, as they are read (DWARF 5, 7.5.1).
 
-ghost use Rattle.std.specs.Prelude.{◌≡◌, ◌&&◌, nat_le, IfOk, IfErr, Ok, Err};
+ghost use Rattle.std.specs.Prelude.{◌≡◌, ◌≤◌, ◌&&◌, nat_le, IfOk, IfErr, Ok, Err};
 ghost use Rattle.dw_base.specs.Numbers.{is_width, word_of};
 ghost use Rattle.dw_base.specs.Headers.{is_unit_type, has_identity, has_type_offset};
 ghost use Rattle.dw_read.specs.Reading.{left};
 ghost use Rattle.dw_read.specs.Took.{Took};
-ghost use Rattle.dw_read.specs.Headers.{fields_read, new_fields_read, old_fields_read};
+ghost use Rattle.dw_read.specs.Headers.{fields_read, new_fields_read, new_begin_read, old_fields_read};
 ghost use Rattle.dw_read.specs.Headers.{optional_read};
 ghost use Rattle.dw_read.specs.Fields.{header_of};
 
@@ -74,15 +74,7 @@ fn read_new_fields<R: Reader>(input: &mut R, format: Format) -> ReadResult<Field
     ensures err { IfErr result (λ e. new_fields_read (R.reading input.old).is_big format
         (left (R.reading input.old)) ≡ Err e) }
 {
-    let unit_type = input.read_u8()?;
-    let address_size = input.read_u8()?;
-    let table_offset = input.read_word(format)?;
-    if !is_unit_type(unit_type) {
-        return Err(ReadError::UnknownUnitType(DwUt(unit_type)));
-    }
-    if !is_address_size(address_size) {
-        return Err(ReadError::UnsupportedAddressSize(address_size));
-    }
+    let (unit_type, address_size, table_offset) = read_new_begin(input, format)?;
     let identity = read_identity(input, has_identity(unit_type))?;
     let type_offset = read_type_offset(input, format, has_type_offset(unit_type))?;
     Ok(Fields {
@@ -96,6 +88,27 @@ fn read_new_fields<R: Reader>(input: &mut R, format: Format) -> ReadResult<Field
         identity,
         type_offset,
     })
+}
+
+/// Reads the numbers that each header of version 5 begins with after its version: the unit's type,
+/// the size of addresses, and the offset of the table of declarations.
+fn read_new_begin<R: Reader>(input: &mut R, format: Format) -> ReadResult<(u8, u8, usize)>
+    ensures ok { IfOk result (λ x. Took _ (new_begin_read (R.reading input.old).is_big format)
+        (R.reading input.old) (R.reading input.new) x) }
+    ensures narrow { IfOk result (λ x. x.1 ≤ 8) }
+    ensures err { IfErr result (λ e. new_begin_read (R.reading input.old).is_big format
+        (left (R.reading input.old)) ≡ Err e) }
+{
+    let unit_type = input.read_u8()?;
+    let address_size = input.read_u8()?;
+    let table_offset = input.read_word(format)?;
+    if !is_unit_type(unit_type) {
+        return Err(ReadError::UnknownUnitType(DwUt(unit_type)));
+    }
+    if !is_address_size(address_size) {
+        return Err(ReadError::UnsupportedAddressSize(address_size));
+    }
+    Ok((unit_type, address_size, table_offset))
 }
 
 /// Reads the id of a skeleton or a split compile unit, or a type unit's signature.

@@ -41,3 +41,30 @@ returns-clause-ok g c =
     took (Option Declaration) (declaration_read c.args.before.now) _ _ _ (went_then _ _ _ (went ℕ uleb_read _ _ _ t) (went Shape shape_read _ _ _ o))
     (one_declaration c.args.before.now _ _ _ _ _ t.value (omega arith) o.value f
     ∙ ap (λ (k : ℕ). Ok (Some (record { code = k; shape = c.in_ok-abbreviation.abbreviation.shape }), left (g.R.Reader.reading c.read_shape.new.input))) (sym c.in_ok-abbreviation.ensures.code))
+
+pub returns-in_err-code-clause-ok : goal.returns-in_err-code-clause-ok
+returns-in_err-code-clause-ok g c = rw (err_from_is_err_and c.from_residual.result c.from_residual.ensures.1).1 tt
+
+pub returns-in_err-code-clause-new : goal.returns-in_err-code-clause-new
+returns-in_err-code-clause-new g c = rw (err_from_is_err_and c.from_residual.result c.from_residual.ensures.1).1 tt
+
+pub returns-in_err-abbreviation-clause-ok : goal.returns-in_err-abbreviation-clause-ok
+returns-in_err-abbreviation-clause-ok g c = rw (err_from_is_err_and c.from_residual-in_err-abbreviation.result c.from_residual-in_err-abbreviation.ensures.1).1 tt
+
+pub returns-in_err-abbreviation-clause-new : goal.returns-in_err-abbreviation-clause-new
+returns-in_err-abbreviation-clause-new g c = rw (err_from_is_err_and c.from_residual-in_err-abbreviation.result c.from_residual-in_err-abbreviation.ensures.1).1 tt
+
+pub returns-then-code-eq0-clause-new : goal.returns-then-code-eq0-clause-new
+returns-then-code-eq0-clause-new g c = tt
+
+pub returns-then-code-eq0-clause-err : goal.returns-then-code-eq0-clause-err
+returns-then-code-eq0-clause-err g c = tt
+
+pub returns-then-is_some-clause-ok : goal.returns-then-is_some-clause-ok
+returns-then-is_some-clause-ok g c = tt
+
+pub returns-then-is_some-clause-new : goal.returns-then-is_some-clause-new
+returns-then-is_some-clause-new g c = tt
+
+pub returns-clause-err : goal.returns-clause-err
+returns-clause-err g c = tt

@@ -32,3 +32,9 @@ declarations-preserved g c =
       went = went_then _ _ _ c.declarations.invariant.went (went (Option Declaration) (declaration_read c.declarations.table) _ _ _ t);
       is = collects_more Declaration declaration_read _ _ _ _ _ _ one_is_declaration c.declarations.invariant.is t.value c.in_ok-table.ensures.ok;
     }
+
+pub returns-in_err-abbreviation-clause-ok : goal.returns-in_err-abbreviation-clause-ok
+returns-in_err-abbreviation-clause-ok g c = rw (err_from_is_err_and c.from_residual.result c.from_residual.ensures.1).1 tt
+
+pub returns-in_default-clause-err : goal.returns-in_default-clause-err
+returns-in_default-clause-err g c = tt

@@ -35,3 +35,9 @@ loop-specification-preserved g c =
 
 pub returns-clause-ok : goal.returns-clause-ok
 returns-clause-ok g c = (c.loop-specification.invariant.0, so_end _ _ _ _ _ _ _ c.loop-specification.invariant.1 (rw length-map c.loop-specification-test.false))
+
+pub returns-in_err-read_attribute-clause-ok : goal.returns-in_err-read_attribute-clause-ok
+returns-in_err-read_attribute-clause-ok g c = rw (err_from_is_err_and c.from_residual.result c.from_residual.ensures.1).1 tt
+
+pub returns-clause-err : goal.returns-clause-err
+returns-clause-err g c = tt

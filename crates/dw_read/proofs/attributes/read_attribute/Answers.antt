@@ -17,3 +17,15 @@ pub returns-clause-ok : goal.returns-clause-ok
 returns-clause-ok g c =
     let s = specification_of c.args.specification in
     took ReadAttribute (attribute_read (g.R.Reader.reading c.args.input.now).is_big c.args.encoding s) _ _ _ (went (ℕ × Operand) (form_read (g.R.Reader.reading c.args.input.now).is_big c.args.encoding s.form) _ _ _ c.in_ok-form.ensures.ok) (attribute_is (g.R.Reader.reading c.args.input.now).is_big c.args.encoding s _ _ _ _ c.in_ok-form.ensures.ok.value)
+
+pub returns-in_err-form-clause-ok : goal.returns-in_err-form-clause-ok
+returns-in_err-form-clause-ok g c = rw (err_from_is_err_and c.from_residual.result c.from_residual.ensures.1).1 tt
+
+pub returns-in_err-form-clause-encoded : goal.returns-in_err-form-clause-encoded
+returns-in_err-form-clause-encoded g c = rw (err_from_is_err_and c.from_residual.result c.from_residual.ensures.1).1 tt
+
+pub returns-in_err-form-clause-order : goal.returns-in_err-form-clause-order
+returns-in_err-form-clause-order g c = rw (err_from_is_err_and c.from_residual.result c.from_residual.ensures.1).1 tt
+
+pub returns-clause-err : goal.returns-clause-err
+returns-clause-err g c = tt

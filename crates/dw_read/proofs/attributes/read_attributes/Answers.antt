@@ -43,3 +43,24 @@ loop-specification-preserved g c =
 
 pub returns-clause-ok : goal.returns-clause-ok
 returns-clause-ok g c = so_end _ _ _ _ _ _ _ c.loop-specification.invariant.so (rw length-map c.loop-specification-test.false)
+
+pub returns-in_err-attribute-clause-ok : goal.returns-in_err-attribute-clause-ok
+returns-in_err-attribute-clause-ok g c = rw (err_from_is_err_and c.from_residual.result c.from_residual.ensures.1).1 tt
+
+pub returns-in_err-attribute-clause-encoded : goal.returns-in_err-attribute-clause-encoded
+returns-in_err-attribute-clause-encoded g c = rw (err_from_is_err_and c.from_residual.result c.from_residual.ensures.1).1 tt
+
+pub returns-in_err-attribute-clause-order : goal.returns-in_err-attribute-clause-order
+returns-in_err-attribute-clause-order g c = rw (err_from_is_err_and c.from_residual.result c.from_residual.ensures.1).1 tt
+
+pub returns-in_err-push-clause-ok : goal.returns-in_err-push-clause-ok
+returns-in_err-push-clause-ok g c = rw (err_from_is_err_and c.from_residual-in_err-push.result c.from_residual-in_err-push.ensures.1).1 tt
+
+pub returns-in_err-push-clause-encoded : goal.returns-in_err-push-clause-encoded
+returns-in_err-push-clause-encoded g c = rw (err_from_is_err_and c.from_residual-in_err-push.result c.from_residual-in_err-push.ensures.1).1 tt
+
+pub returns-in_err-push-clause-order : goal.returns-in_err-push-clause-order
+returns-in_err-push-clause-order g c = rw (err_from_is_err_and c.from_residual-in_err-push.result c.from_residual-in_err-push.ensures.1).1 tt
+
+pub returns-clause-err : goal.returns-clause-err
+returns-clause-err g c = tt

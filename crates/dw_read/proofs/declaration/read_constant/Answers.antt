@@ -24,3 +24,12 @@ returns-clause-ok g c =
     let fits : SFits w64 c.in_ok-constant.constant = search rules in
     let t = took_of ℤ sleb_at sleb_read _ _ _ sleb_law c.in_ok-constant.ensures.ok in
     rw (to_z-of_z w64 c.in_ok-constant.constant fits) (took (Option ℤ) (constant_read c.args.form.0) _ _ _ (went ℤ sleb_read _ _ _ t) (constant_some c.args.form.0 _ _ _ (omega arith) t.value))
+
+pub returns-then-form-clause-err : goal.returns-then-form-clause-err
+returns-then-form-clause-err g c = tt
+
+pub returns-in_err-constant-clause-ok : goal.returns-in_err-constant-clause-ok
+returns-in_err-constant-clause-ok g c = rw (err_from_is_err_and c.from_residual.result c.from_residual.ensures.1).1 tt
+
+pub returns-clause-err : goal.returns-clause-err
+returns-clause-err g c = tt

@@ -28,3 +28,15 @@ pub returns-in_default-clause-err : goal.returns-in_default-clause-err
 returns-in_default-clause-err g c =
     let big = (g.R.Reader.reading c.args.input.now).is_big in
     children_bad big c.in_ok-byte.byte _ _ (number_took big 1 _ _ _ refl c.in_ok-byte.ensures.ok) (omega arith)
+
+pub returns-in_err-byte-clause-ok : goal.returns-in_err-byte-clause-ok
+returns-in_err-byte-clause-ok g c = rw (err_from_is_err_and c.from_residual.result c.from_residual.ensures.1).1 tt
+
+pub returns-in-0-clause-err : goal.returns-in-0-clause-err
+returns-in-0-clause-err g c = tt
+
+pub returns-in-1-clause-err : goal.returns-in-1-clause-err
+returns-in-1-clause-err g c = tt
+
+pub returns-in_default-clause-ok : goal.returns-in_default-clause-ok
+returns-in_default-clause-ok g c = tt

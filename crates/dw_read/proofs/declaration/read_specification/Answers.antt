@@ -35,3 +35,21 @@ returns-clause-ok g c =
     took (Option Specification) specification_read _ _ _
     (went_then _ _ _ (went_then _ _ _ (went ℕ uleb16_read _ _ _ c.in_ok-name.ensures.ok) (went ℕ uleb16_read _ _ _ c.in_ok-form.ensures.ok)) (went (Option ℤ) (constant_read c.in_ok-form.form) _ _ _ c.in_ok-constant.ensures.ok))
     (one_specification _ _ _ _ _ _ _ c.in_ok-name.ensures.ok.value c.in_ok-form.ensures.ok.value (omega arith) c.in_ok-constant.ensures.ok.value)
+
+pub returns-in_err-name-clause-ok : goal.returns-in_err-name-clause-ok
+returns-in_err-name-clause-ok g c = rw (err_from_is_err_and c.from_residual.result c.from_residual.ensures.1).1 tt
+
+pub returns-in_err-form-clause-ok : goal.returns-in_err-form-clause-ok
+returns-in_err-form-clause-ok g c = rw (err_from_is_err_and c.from_residual-in_err-form.result c.from_residual-in_err-form.ensures.1).1 tt
+
+pub returns-in_err-constant-clause-ok : goal.returns-in_err-constant-clause-ok
+returns-in_err-constant-clause-ok g c = rw (err_from_is_err_and c.from_residual-in_err-constant.result c.from_residual-in_err-constant.ensures.1).1 tt
+
+pub returns-then-form-ne0-clause-ok : goal.returns-then-form-ne0-clause-ok
+returns-then-form-ne0-clause-ok g c = tt
+
+pub returns-then-name-eq0-clause-err : goal.returns-then-name-eq0-clause-err
+returns-then-name-eq0-clause-err g c = tt
+
+pub returns-clause-err : goal.returns-clause-err
+returns-clause-err g c = tt

@@ -35,3 +35,9 @@ attributes-preserved g c =
       is = collects_more Specification _ _ _ _ _ _ _ one_is_specification c.attributes.invariant.is t.value
           (ap (map specification_of) c.in_ok-push.ensures.items ∙ map-append specification_of c.attributes.specifications.items (c.in-Some.specification ∷ []));
     }
+
+pub returns-in_err-specification-clause-ok : goal.returns-in_err-specification-clause-ok
+returns-in_err-specification-clause-ok g c = rw (err_from_is_err_and c.from_residual.result c.from_residual.ensures.1).1 tt
+
+pub returns-in_default-clause-err : goal.returns-in_default-clause-err
+returns-in_default-clause-err g c = tt

@@ -19,3 +19,12 @@ pub returns-clause-ok : goal.returns-clause-ok
 returns-clause-ok g c =
     let t = took_of ℕ uleb_at uleb_read _ _ _ uleb_law c.in_ok-value.ensures.ok in
     took ℕ uleb16_read _ _ _ (went ℕ uleb_read _ _ _ t) (uleb16_is _ _ _ t.value (omega arith))
+
+pub returns-in_err-value-clause-ok : goal.returns-in_err-value-clause-ok
+returns-in_err-value-clause-ok g c = rw (err_from_is_err_and c.from_residual.result c.from_residual.ensures.1).1 tt
+
+pub returns-then-value-gt65535-clause-ok : goal.returns-then-value-gt65535-clause-ok
+returns-then-value-gt65535-clause-ok g c = tt
+
+pub returns-clause-err : goal.returns-clause-err
+returns-clause-err g c = tt

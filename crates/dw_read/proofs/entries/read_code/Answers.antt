@@ -34,3 +34,15 @@ returns-clause-ok g c =
       λ z. omega arith,
       subst (λ (n : ℕ). shape_of_code c.args.abbreviations.now n ≡ Some a.shape) (sym e) f.1,
     )
+
+pub returns-in_err-code-clause-ok : goal.returns-in_err-code-clause-ok
+returns-in_err-code-clause-ok g c = rw (err_from_is_err_and c.from_residual.result c.from_residual.ensures.1).1 tt
+
+pub returns-then-code-eq0-clause-err : goal.returns-then-code-eq0-clause-err
+returns-then-code-eq0-clause-err g c = tt
+
+pub returns-in_default-clause-ok : goal.returns-in_default-clause-ok
+returns-in_default-clause-ok g c = tt
+
+pub returns-clause-err : goal.returns-clause-err
+returns-clause-err g c = tt

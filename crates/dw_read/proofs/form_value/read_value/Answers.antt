@@ -14,3 +14,12 @@ returns-clause-ok g c = value_took _ _ _ _ _ _ _ c.raw_value.ensures.is c.in_ok-
 
 pub returns-clause-order : goal.returns-clause-order
 returns-clause-order g c = subst (λ (o : Option Bool). IsInOrder (g.R.Reader.reading c.args.input.now).is_big o) (sym c.raw_value.ensures.order) c.in_ok-form.ensures.order
+
+pub returns-in_err-form-clause-ok : goal.returns-in_err-form-clause-ok
+returns-in_err-form-clause-ok g c = rw (err_from_is_err_and c.from_residual.result c.from_residual.ensures.1).1 tt
+
+pub returns-in_err-form-clause-order : goal.returns-in_err-form-clause-order
+returns-in_err-form-clause-order g c = rw (err_from_is_err_and c.from_residual.result c.from_residual.ensures.1).1 tt
+
+pub returns-clause-err : goal.returns-clause-err
+returns-clause-err g c = tt

@@ -61,3 +61,9 @@ returns-clause-err g c =
     let v = version_2_to_4 big c.args.format _ _ _ n1 (omega arith) (sym c.is_old_version.ensures ∙ c.if-not-is_old_version.false) in
     IfErr-weaker c.read_old_fields.result _ _ (λ e h.
     v ∙ subst (λ (b : Bool). old_fields_read b c.args.format c.in_ok-version.version (left (g.R.Reader.reading c.read_u16.new.self)) ≡ Err e) o h) c.read_old_fields.ensures.err
+
+pub returns-in_err-version-clause-ok : goal.returns-in_err-version-clause-ok
+returns-in_err-version-clause-ok g c = rw (err_from_is_err_and c.from_residual.result c.from_residual.ensures.1).1 tt
+
+pub returns-then-not-is_old_version-clause-ok : goal.returns-then-not-is_old_version-clause-ok
+returns-then-not-is_old_version-clause-ok g c = tt

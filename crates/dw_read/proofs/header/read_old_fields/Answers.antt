@@ -37,3 +37,15 @@ returns-clause-ok g c =
     let n2 = number_took big 1 _ _ _ (went_order _ _ w1) c.in_ok-address_size.ensures.ok in
     let w2 = went_of 1 _ _ c.in_ok-address_size.ensures.passes in
     took Header (old_fields_read big c.args.format c.args.version) _ _ _ (went_then _ _ _ w1 w2) (old_whole big c.args.format c.args.version _ _ _ _ _ n1 n2 (sym c.is_address_size.ensures ∙ c.if-not-is_address_size.false))
+
+pub returns-in_err-table_offset-clause-ok : goal.returns-in_err-table_offset-clause-ok
+returns-in_err-table_offset-clause-ok g c = rw (err_from_is_err_and c.from_residual.result c.from_residual.ensures.1).1 tt
+
+pub returns-in_err-address_size-clause-ok : goal.returns-in_err-address_size-clause-ok
+returns-in_err-address_size-clause-ok g c = rw (err_from_is_err_and c.from_residual-in_err-address_size.result c.from_residual-in_err-address_size.ensures.1).1 tt
+
+pub returns-then-not-is_address_size-clause-ok : goal.returns-then-not-is_address_size-clause-ok
+returns-then-not-is_address_size-clause-ok g c = tt
+
+pub returns-clause-err : goal.returns-clause-err
+returns-clause-err g c = tt

@@ -19,3 +19,12 @@ returns-then-is_there-clause-ok g c =
 
 pub returns-clause-ok : goal.returns-clause-ok
 returns-clause-ok g c = took (Option ℕ) (optional_read c.args.is_there (g.R.Reader.reading c.args.input.now).is_big (word_of c.args.format)) _ _ _ (went_none _ (g.met.R.Reader.is_reading c.args.input.now)) (optional_none c.args.is_there (g.R.Reader.reading c.args.input.now).is_big (word_of c.args.format) _ c.if-is_there.false)
+
+pub returns-in_err-place-clause-ok : goal.returns-in_err-place-clause-ok
+returns-in_err-place-clause-ok g c = rw (err_from_is_err_and c.from_residual.result c.from_residual.ensures.1).1 tt
+
+pub returns-then-is_there-clause-err : goal.returns-then-is_there-clause-err
+returns-then-is_there-clause-err g c = tt
+
+pub returns-clause-err : goal.returns-clause-err
+returns-clause-err g c = tt

@@ -56,3 +56,24 @@ returns-clause-ok c =
     let n : Bool = nat_le 64 (get_or c.args.bytes.now c.in-Some.last 0) in
     sleb_is n c.groups.magnitude c.args.bytes.now _ (subst (λ (k : ℕ). signed_groups_at (drop k c.args.bytes.now) ≡ Some (signed n c.groups.magnitude, drop (c.in-Some.last + 1) c.args.bytes.now)) z c.groups.invariant.is) (omega arith)
     ∙ ap (λ (v : ℤ). Ok (v, drop (c.in-Some.last + 1) c.args.bytes.now)) (sym (ap (λ (z : ℤ). to_z w64 (of_z w64 z)) c.signed_of.ensures ∙ signed_stays n c.groups.magnitude (omega arith)))
+
+pub returns-in_default-clause-ok : goal.returns-in_default-clause-ok
+returns-in_default-clause-ok c = tt
+
+pub returns-in_default-clause-within : goal.returns-in_default-clause-within
+returns-in_default-clause-within c = tt
+
+pub returns-in_default-checked_mul-clause-ok : goal.returns-in_default-checked_mul-clause-ok
+returns-in_default-checked_mul-clause-ok c = tt
+
+pub returns-in_default-checked_mul-clause-within : goal.returns-in_default-checked_mul-clause-within
+returns-in_default-checked_mul-clause-within c = tt
+
+pub returns-then-magnitude-ge9223372036854775808-clause-ok : goal.returns-then-magnitude-ge9223372036854775808-clause-ok
+returns-then-magnitude-ge9223372036854775808-clause-ok c = tt
+
+pub returns-then-magnitude-ge9223372036854775808-clause-within : goal.returns-then-magnitude-ge9223372036854775808-clause-within
+returns-then-magnitude-ge9223372036854775808-clause-within c = tt
+
+pub returns-clause-err : goal.returns-clause-err
+returns-clause-err c = tt

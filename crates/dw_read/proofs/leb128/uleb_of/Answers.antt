@@ -39,3 +39,18 @@ pub returns-clause-ok : goal.returns-clause-ok
 returns-clause-ok c =
     let z : c.groups.index ≡ 0 = omega arith in
     uleb_is c.groups.value c.args.bytes.now _ (subst (λ (k : ℕ). groups_at (drop k c.args.bytes.now) ≡ Some (c.groups.value, drop (c.in-Some.last + 1) c.args.bytes.now)) z c.groups.invariant.is) c.groups.invariant.small
+
+pub returns-in_default-clause-ok : goal.returns-in_default-clause-ok
+returns-in_default-clause-ok c = tt
+
+pub returns-in_default-clause-within : goal.returns-in_default-clause-within
+returns-in_default-clause-within c = tt
+
+pub returns-in_default-checked_mul-clause-ok : goal.returns-in_default-checked_mul-clause-ok
+returns-in_default-checked_mul-clause-ok c = tt
+
+pub returns-in_default-checked_mul-clause-within : goal.returns-in_default-checked_mul-clause-within
+returns-in_default-checked_mul-clause-within c = tt
+
+pub returns-clause-err : goal.returns-clause-err
+returns-clause-err c = tt

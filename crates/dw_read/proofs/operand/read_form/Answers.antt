@@ -37,3 +37,9 @@ returns-in_ok-operand-in_default-kind g c =
       order = o.order;
       err = tt;
     }
+
+pub returns-in_default-clause-ok : goal.returns-in_default-clause-ok
+returns-in_default-clause-ok g c = tt
+
+pub returns-in_default-clause-order : goal.returns-in_default-clause-order
+returns-in_default-clause-order g c = tt

@@ -33,3 +33,30 @@ returns-clause-ok g c =
     let o = c.in_ok-operand.ensures.ok in
     took (ℕ × Operand) (indirect_read (g.R.Reader.reading c.args.input.now).is_big c.args.encoding) _ _ _ (went_then _ _ _ w (went Operand (direct_read (g.R.Reader.reading c.read_uleb16.new.input).is_big (kind_in_grammar c.in-Some.kind)) _ _ _ o))
     (indirect_is (g.R.Reader.reading c.args.input.now).is_big c.args.encoding _ _ _ _ _ _ c.in_ok-code.ensures.ok.value (omega arith) s (in_order _ _ _ _ _ (went_order _ _ w) o.value))
+
+pub returns-in_err-code-clause-ok : goal.returns-in_err-code-clause-ok
+returns-in_err-code-clause-ok g c = rw (err_from_is_err_and c.from_residual.result c.from_residual.ensures.1).1 tt
+
+pub returns-in_err-code-clause-order : goal.returns-in_err-code-clause-order
+returns-in_err-code-clause-order g c = rw (err_from_is_err_and c.from_residual.result c.from_residual.ensures.1).1 tt
+
+pub returns-in_err-operand-clause-ok : goal.returns-in_err-operand-clause-ok
+returns-in_err-operand-clause-ok g c = rw (err_from_is_err_and c.from_residual-in_err-operand.result c.from_residual-in_err-operand.ensures.1).1 tt
+
+pub returns-in_err-operand-clause-order : goal.returns-in_err-operand-clause-order
+returns-in_err-operand-clause-order g c = rw (err_from_is_err_and c.from_residual-in_err-operand.result c.from_residual-in_err-operand.ensures.1).1 tt
+
+pub returns-then-code-clause-ok : goal.returns-then-code-clause-ok
+returns-then-code-clause-ok g c = tt
+
+pub returns-then-code-clause-order : goal.returns-then-code-clause-order
+returns-then-code-clause-order g c = tt
+
+pub returns-in_default-clause-ok : goal.returns-in_default-clause-ok
+returns-in_default-clause-ok g c = tt
+
+pub returns-in_default-clause-order : goal.returns-in_default-clause-order
+returns-in_default-clause-order g c = tt
+
+pub returns-clause-err : goal.returns-clause-err
+returns-clause-err g c = tt

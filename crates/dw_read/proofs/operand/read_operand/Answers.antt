@@ -99,3 +99,102 @@ returns-in_ok-text-in-Zeroed-clause-ok g c =
 
 pub returns-in-Indirect-clause-err : goal.returns-in-Indirect-clause-err
 returns-in-Indirect-clause-err g c = direct_indirect (g.R.Reader.reading c.args.input.now).is_big c.args.kind _ c.in-Indirect.is
+
+pub returns-in_err-number-in-Fixed-clause-ok : goal.returns-in_err-number-in-Fixed-clause-ok
+returns-in_err-number-in-Fixed-clause-ok g c = rw (err_from_is_err_and c.from_residual.result c.from_residual.ensures.1).1 tt
+
+pub returns-in_err-number-in-Fixed-clause-order : goal.returns-in_err-number-in-Fixed-clause-order
+returns-in_err-number-in-Fixed-clause-order g c = rw (err_from_is_err_and c.from_residual.result c.from_residual.ensures.1).1 tt
+
+pub returns-in_err-number-in-Wide-clause-ok : goal.returns-in_err-number-in-Wide-clause-ok
+returns-in_err-number-in-Wide-clause-ok g c = rw (err_from_is_err_and c.from_residual-in_err-number-in-Wide.result c.from_residual-in_err-number-in-Wide.ensures.1).1 tt
+
+pub returns-in_err-number-in-Wide-clause-order : goal.returns-in_err-number-in-Wide-clause-order
+returns-in_err-number-in-Wide-clause-order g c = rw (err_from_is_err_and c.from_residual-in_err-number-in-Wide.result c.from_residual-in_err-number-in-Wide.ensures.1).1 tt
+
+pub returns-in_err-number-in-Uleb-clause-ok : goal.returns-in_err-number-in-Uleb-clause-ok
+returns-in_err-number-in-Uleb-clause-ok g c = rw (err_from_is_err_and c.from_residual-in_err-number-in-Uleb.result c.from_residual-in_err-number-in-Uleb.ensures.1).1 tt
+
+pub returns-in_err-number-in-Uleb-clause-order : goal.returns-in_err-number-in-Uleb-clause-order
+returns-in_err-number-in-Uleb-clause-order g c = rw (err_from_is_err_and c.from_residual-in_err-number-in-Uleb.result c.from_residual-in_err-number-in-Uleb.ensures.1).1 tt
+
+pub returns-in_err-number-in-Sleb-clause-ok : goal.returns-in_err-number-in-Sleb-clause-ok
+returns-in_err-number-in-Sleb-clause-ok g c = rw (err_from_is_err_and c.from_residual-in_err-number-in-Sleb.result c.from_residual-in_err-number-in-Sleb.ensures.1).1 tt
+
+pub returns-in_err-number-in-Sleb-clause-order : goal.returns-in_err-number-in-Sleb-clause-order
+returns-in_err-number-in-Sleb-clause-order g c = rw (err_from_is_err_and c.from_residual-in_err-number-in-Sleb.result c.from_residual-in_err-number-in-Sleb.ensures.1).1 tt
+
+pub returns-in_err-length-in-Block-clause-ok : goal.returns-in_err-length-in-Block-clause-ok
+returns-in_err-length-in-Block-clause-ok g c = rw (err_from_is_err_and c.from_residual-in_err-length-in-Block.result c.from_residual-in_err-length-in-Block.ensures.1).1 tt
+
+pub returns-in_err-length-in-Block-clause-order : goal.returns-in_err-length-in-Block-clause-order
+returns-in_err-length-in-Block-clause-order g c = rw (err_from_is_err_and c.from_residual-in_err-length-in-Block.result c.from_residual-in_err-length-in-Block.ensures.1).1 tt
+
+pub returns-in_err-bytes-in-Block-clause-ok : goal.returns-in_err-bytes-in-Block-clause-ok
+returns-in_err-bytes-in-Block-clause-ok g c = rw (err_from_is_err_and c.from_residual-in_err-bytes-in-Block.result c.from_residual-in_err-bytes-in-Block.ensures.1).1 tt
+
+pub returns-in_err-bytes-in-Block-clause-order : goal.returns-in_err-bytes-in-Block-clause-order
+returns-in_err-bytes-in-Block-clause-order g c = rw (err_from_is_err_and c.from_residual-in_err-bytes-in-Block.result c.from_residual-in_err-bytes-in-Block.ensures.1).1 tt
+
+pub returns-in_err-length-in-UlebBlock-clause-ok : goal.returns-in_err-length-in-UlebBlock-clause-ok
+returns-in_err-length-in-UlebBlock-clause-ok g c = rw (err_from_is_err_and c.from_residual-in_err-length-in-UlebBlock.result c.from_residual-in_err-length-in-UlebBlock.ensures.1).1 tt
+
+pub returns-in_err-length-in-UlebBlock-clause-order : goal.returns-in_err-length-in-UlebBlock-clause-order
+returns-in_err-length-in-UlebBlock-clause-order g c = rw (err_from_is_err_and c.from_residual-in_err-length-in-UlebBlock.result c.from_residual-in_err-length-in-UlebBlock.ensures.1).1 tt
+
+pub returns-in_err-bytes-in-UlebBlock-clause-ok : goal.returns-in_err-bytes-in-UlebBlock-clause-ok
+returns-in_err-bytes-in-UlebBlock-clause-ok g c = rw (err_from_is_err_and c.from_residual-in_err-bytes-in-UlebBlock.result c.from_residual-in_err-bytes-in-UlebBlock.ensures.1).1 tt
+
+pub returns-in_err-bytes-in-UlebBlock-clause-order : goal.returns-in_err-bytes-in-UlebBlock-clause-order
+returns-in_err-bytes-in-UlebBlock-clause-order g c = rw (err_from_is_err_and c.from_residual-in_err-bytes-in-UlebBlock.result c.from_residual-in_err-bytes-in-UlebBlock.ensures.1).1 tt
+
+pub returns-in_err-text-in-Zeroed-clause-ok : goal.returns-in_err-text-in-Zeroed-clause-ok
+returns-in_err-text-in-Zeroed-clause-ok g c = rw (err_from_is_err_and c.from_residual-in_err-text-in-Zeroed.result c.from_residual-in_err-text-in-Zeroed.ensures.1).1 tt
+
+pub returns-in_err-text-in-Zeroed-clause-order : goal.returns-in_err-text-in-Zeroed-clause-order
+returns-in_err-text-in-Zeroed-clause-order g c = rw (err_from_is_err_and c.from_residual-in_err-text-in-Zeroed.result c.from_residual-in_err-text-in-Zeroed.ensures.1).1 tt
+
+pub returns-in-Empty-clause-order : goal.returns-in-Empty-clause-order
+returns-in-Empty-clause-order g c = tt
+
+pub returns-in-Empty-clause-err : goal.returns-in-Empty-clause-err
+returns-in-Empty-clause-err g c = tt
+
+pub returns-in-Indirect-clause-ok : goal.returns-in-Indirect-clause-ok
+returns-in-Indirect-clause-ok g c = tt
+
+pub returns-in-Indirect-clause-order : goal.returns-in-Indirect-clause-order
+returns-in-Indirect-clause-order g c = tt
+
+pub returns-in_ok-number-in-Fixed-clause-order : goal.returns-in_ok-number-in-Fixed-clause-order
+returns-in_ok-number-in-Fixed-clause-order g c = tt
+
+pub returns-in_ok-number-in-Fixed-clause-err : goal.returns-in_ok-number-in-Fixed-clause-err
+returns-in_ok-number-in-Fixed-clause-err g c = tt
+
+pub returns-in_ok-number-in-Wide-clause-order : goal.returns-in_ok-number-in-Wide-clause-order
+returns-in_ok-number-in-Wide-clause-order g c = tt
+
+pub returns-in_ok-number-in-Wide-clause-err : goal.returns-in_ok-number-in-Wide-clause-err
+returns-in_ok-number-in-Wide-clause-err g c = tt
+
+pub returns-in_ok-number-in-Uleb-clause-order : goal.returns-in_ok-number-in-Uleb-clause-order
+returns-in_ok-number-in-Uleb-clause-order g c = tt
+
+pub returns-in_ok-number-in-Uleb-clause-err : goal.returns-in_ok-number-in-Uleb-clause-err
+returns-in_ok-number-in-Uleb-clause-err g c = tt
+
+pub returns-in_ok-number-in-Sleb-clause-order : goal.returns-in_ok-number-in-Sleb-clause-order
+returns-in_ok-number-in-Sleb-clause-order g c = tt
+
+pub returns-in_ok-number-in-Sleb-clause-err : goal.returns-in_ok-number-in-Sleb-clause-err
+returns-in_ok-number-in-Sleb-clause-err g c = tt
+
+pub returns-in_ok-bytes-in-Block-clause-err : goal.returns-in_ok-bytes-in-Block-clause-err
+returns-in_ok-bytes-in-Block-clause-err g c = tt
+
+pub returns-in_ok-bytes-in-UlebBlock-clause-err : goal.returns-in_ok-bytes-in-UlebBlock-clause-err
+returns-in_ok-bytes-in-UlebBlock-clause-err g c = tt
+
+pub returns-in_ok-text-in-Zeroed-clause-err : goal.returns-in_ok-text-in-Zeroed-clause-err
+returns-in_ok-text-in-Zeroed-clause-err g c = tt

@@ -35,3 +35,15 @@ returns-clause-ok g c =
       entries = refl;
       rest = refl;
     }
+
+pub returns-in_err-length-clause-ok : goal.returns-in_err-length-clause-ok
+returns-in_err-length-clause-ok g c = rw (err_from_is_err_and c.from_residual.result c.from_residual.ensures.1).1 tt
+
+pub returns-in_err-body-clause-ok : goal.returns-in_err-body-clause-ok
+returns-in_err-body-clause-ok g c = rw (err_from_is_err_and c.from_residual-in_err-body.result c.from_residual-in_err-body.ensures.1).1 tt
+
+pub returns-in_err-fields-clause-ok : goal.returns-in_err-fields-clause-ok
+returns-in_err-fields-clause-ok g c = rw (err_from_is_err_and c.from_residual-in_err-fields.result c.from_residual-in_err-fields.ensures.1).1 tt
+
+pub returns-clause-err : goal.returns-clause-err
+returns-clause-err g c = tt

@@ -17,3 +17,12 @@ returns-in_err-table-clause-err g c =
 pub returns-clause-ok : goal.returns-clause-ok
 returns-clause-ok g c =
     reads_of (List Declaration) table_at table_read _ _ _ table_law (subst (λ (r : Reading). Took (List Declaration) table_read r (g.R.Reader.reading c.read_table.new.input) c.in_ok-table.table) c.duplicate-after.ensures c.in_ok-table.ensures.ok)
+
+pub returns-in_err-table-clause-ok : goal.returns-in_err-table-clause-ok
+returns-in_err-table-clause-ok g c = rw (err_from_is_err_and c.from_residual.result c.from_residual.ensures.1).1 tt
+
+pub returns-clause-err : goal.returns-clause-err
+returns-clause-err g c = tt
+
+pub returns-clause-kept : goal.returns-clause-kept
+returns-clause-kept g c = tt

@@ -1,4 +1,4 @@
-use Rattle.std.proofs.Common.{◌∙◌, sym}
+use Rattle.std.proofs.Common.{◌∙◌, sym, refl}
 use Rattle.std.proofs.lemmas.Result.{IfOk-weaker, IfErr-weaker}
 use Rattle.dw_read.proofs.Reasoned.{address_refused, refuses_address, reads_address}
 use Rattle.dw_read.proofs.reader.Reader.read_address.Goals as goal
@@ -13,3 +13,12 @@ returns-clause-ok g c =
 pub returns-clause-err : goal.returns-clause-err
 returns-clause-err g c =
     IfErr-weaker c.read_uint.result _ _ (λ e h. refuses_address (g.Self.Reader.reading c.args.self.now).is_big c.args.size _ e (sym c.is_address_size.ensures ∙ c.if-not-is_address_size.false) h) c.read_uint.ensures.err
+
+pub returns-then-not-is_address_size-clause-ok : goal.returns-then-not-is_address_size-clause-ok
+returns-then-not-is_address_size-clause-ok g c = tt
+
+pub returns-then-not-is_address_size-clause-kept : goal.returns-then-not-is_address_size-clause-kept
+returns-then-not-is_address_size-clause-kept g c = refl
+
+pub returns-clause-kept : goal.returns-clause-kept
+returns-clause-kept g c = c.read_uint.ensures.kept

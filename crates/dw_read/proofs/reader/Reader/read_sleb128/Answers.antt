@@ -1,4 +1,4 @@
-use Rattle.std.proofs.Common.{◌≡◌, subst, ℕ, ℤ, ◌≤◌, List, length, drop, Ok, Err, rules}
+use Rattle.std.proofs.Common.{◌≡◌, subst, ℕ, ℤ, ◌≤◌, List, length, drop, Ok, Err, rules, refl}
 use Rattle.std.proofs.lemmas.Result.{err_from_is_err_and}
 use mir.Val.{SFits}
 use mir.Syntax.{w64}
@@ -25,3 +25,21 @@ returns-clause-ok g c =
     rw (to_z-of_z w64 c.in_ok-value.value fits)
     (reads_passed ℤ sleb_at sleb_read c.in_ok-value.size _ _ _ sleb_law c.in_ok-skip.ensures.ok
     (subst (λ (l : List ℕ). sleb_read l ≡ Ok (c.in_ok-value.value, drop c.in_ok-value.size l)) c.to_slice.ensures c.in_ok-value.ensures.ok))
+
+pub returns-in_err-value-clause-ok : goal.returns-in_err-value-clause-ok
+returns-in_err-value-clause-ok g c = rw (err_from_is_err_and c.from_residual.result c.from_residual.ensures.1).1 tt
+
+pub returns-in_err-skip-clause-ok : goal.returns-in_err-skip-clause-ok
+returns-in_err-skip-clause-ok g c = rw (err_from_is_err_and c.from_residual-in_err-skip.result c.from_residual-in_err-skip.ensures.1).1 tt
+
+pub returns-in_err-value-clause-kept : goal.returns-in_err-value-clause-kept
+returns-in_err-value-clause-kept g c = rw (err_from_is_err_and c.from_residual.result c.from_residual.ensures.1).1 refl
+
+pub returns-in_err-skip-clause-kept : goal.returns-in_err-skip-clause-kept
+returns-in_err-skip-clause-kept g c = rw (err_from_is_err_and c.from_residual-in_err-skip.result c.from_residual-in_err-skip.ensures.1).1 c.in_err-skip.ensures.kept
+
+pub returns-clause-err : goal.returns-clause-err
+returns-clause-err g c = tt
+
+pub returns-clause-kept : goal.returns-clause-kept
+returns-clause-kept g c = tt

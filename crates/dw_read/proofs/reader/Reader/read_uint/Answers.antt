@@ -14,3 +14,24 @@ pub returns-in_err-part-clause-err : goal.returns-in_err-part-clause-err
 returns-in_err-part-clause-err g c =
     let p = err_from_is_err_and c.from_residual.result c.from_residual.ensures.1 in
     rw (p.1, p.2) (refuses_number (g.Self.Reader.reading c.args.self.now).is_big c.args.n _ _ c.in_err-part.ensures.err)
+
+pub returns-in_err-part-clause-fits : goal.returns-in_err-part-clause-fits
+returns-in_err-part-clause-fits g c = rw (err_from_is_err_and c.from_residual.result c.from_residual.ensures.1).1 tt
+
+pub returns-in_err-part-clause-passes : goal.returns-in_err-part-clause-passes
+returns-in_err-part-clause-passes g c = rw (err_from_is_err_and c.from_residual.result c.from_residual.ensures.1).1 tt
+
+pub returns-in_err-part-clause-ok : goal.returns-in_err-part-clause-ok
+returns-in_err-part-clause-ok g c = rw (err_from_is_err_and c.from_residual.result c.from_residual.ensures.1).1 tt
+
+pub returns-in_err-part-clause-kept : goal.returns-in_err-part-clause-kept
+returns-in_err-part-clause-kept g c = rw (err_from_is_err_and c.from_residual.result c.from_residual.ensures.1).1 c.in_err-part.ensures.kept
+
+pub returns-clause-passes : goal.returns-clause-passes
+returns-clause-passes g c = c.in_ok-part.ensures.ok
+
+pub returns-clause-err : goal.returns-clause-err
+returns-clause-err g c = tt
+
+pub returns-clause-kept : goal.returns-clause-kept
+returns-clause-kept g c = tt
