@@ -104,3 +104,11 @@ frame_told (Ok y) a b z kind cies places x c at got is h k ranged own =
       own = λ d g. let same : c ≡ d = let f : Some c ≡ Some d = sym got ∙ g in cc in subst IsRangedCie same own;
     }
 frame_told (Err e) a b z kind cies places x c at got is h k ranged own = tt
+
+-- an FDE of such a list has its CIE among so many
+pub has_cie : (n : ℕ) (xs : List (CieId × FrameDescriptionEntry)) (i : ℕ) (x : CieId × FrameDescriptionEntry) → IsTrue (have_cies n xs) → i < length xs → x ≡ get_or xs i x → x.0.0 < n
+has_cie n [] i x h below e = absurd (omega (arith, below))
+has_cie n (y ∷ ys) zero x h below e =
+    let p = and_parts (nat_lt y.0.0 n) (have_cies n ys) h in
+    subst (λ (z : CieId × FrameDescriptionEntry). z.0.0 < n) (sym e) (ltb-true y.0.0 n p.0)
+has_cie n (y ∷ ys) (suc i) x h below e = has_cie n ys i x (and_parts (nat_lt y.0.0 n) (have_cies n ys) h).1 (omega (arith, below)) e

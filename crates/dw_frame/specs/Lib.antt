@@ -25,3 +25,4 @@ pub mod ConvertEntries
 pub mod ConvertViews
 pub mod ConvertTables
 pub mod ConvertSections
+pub mod ConvertPairs

@@ -47,11 +47,12 @@ fn keep(cie: &mut CommonInformationEntry, kept: Option<CallFrameInstruction>) ->
     ensures others { cie.new ≡ record cie.old { instructions = cie.new.instructions } }
     ensures err { IfErr result (λ e. e ≡ NoMemory) }
 {
-    match kept {
-        Some(instruction) => cie
-            .add_instruction(instruction)
-            .map_err(|_| ConvertError::NoMemory),
-        None => Ok(()),
+    let Some(instruction) = kept else {
+        return Ok(());
+    };
+    match cie.add_instruction(instruction) {
+        Ok(()) => Ok(()),
+        Err(_) => Err(ConvertError::NoMemory),
     }
 }
 

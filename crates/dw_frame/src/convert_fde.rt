@@ -57,11 +57,12 @@ fn keep(
     ensures others { fde.new ≡ record fde.old { steps = fde.new.steps } }
     ensures err { IfErr result (λ e. e ≡ NoMemory) }
 {
-    match kept {
-        Some(instruction) => fde
-            .add_instruction(offset, instruction)
-            .map_err(|_| ConvertError::NoMemory),
-        None => Ok(()),
+    let Some(instruction) = kept else {
+        return Ok(());
+    };
+    match fde.add_instruction(offset, instruction) {
+        Ok(()) => Ok(()),
+        Err(_) => Err(ConvertError::NoMemory),
     }
 }
 

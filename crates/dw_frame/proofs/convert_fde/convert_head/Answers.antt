@@ -1,3 +1,4 @@
+use Rattle.std.proofs.Common.{◌≡◌, sym, inl, inr, Err}
 use Rattle.dw_frame.proofs.ConvertLaws.{is_err}
 use Rattle.dw_frame.proofs.convert_fde.convert_head.Goals as goal
 
@@ -24,3 +25,18 @@ returns-clause-err g c = tt
 
 pub returns-clause-steps : goal.returns-clause-steps
 returns-clause-steps g c = c.new-fde.ensures.steps
+
+pub returns-in_err-address-clause-err : goal.returns-in_err-address-clause-err
+returns-in_err-address-clause-err g c =
+    let e : c.from_residual.result ≡ Err c.in_err-address.field-0.0 = is_err _ _ c.from_residual.ensures in
+    rw e (inl (rw c.initial_address.ensures at c.in_err-address.ensures))
+
+pub returns-in_err-length-clause-err : goal.returns-in_err-length-clause-err
+returns-in_err-length-clause-err g c =
+    let e : c.from_residual-in_err-length.result ≡ Err c.in_err-length.field-0.0 = is_err _ _ c.from_residual-in_err-length.ensures in
+    rw e (inr (inl (sym (rw c.len.ensures at c.in_err-length.ensures))))
+
+pub returns-in_err-lsda-clause-err : goal.returns-in_err-lsda-clause-err
+returns-in_err-lsda-clause-err g c =
+    let e : c.from_residual-in_err-lsda.result ≡ Err c.in_err-lsda.field-0.0 = is_err _ _ c.from_residual-in_err-lsda.ensures in
+    rw e (inr (inr (rw c.lsda.ensures at c.in_err-lsda.ensures)))

@@ -8,7 +8,7 @@ use Rattle.dw_frame.specs.Reading.{AreTold}
 use Rattle.dw_frame.specs.Tables.{frame, frames_from, with_place, place_at}
 use Rattle.dw_frame.proofs.PartSteps.{Puts-then, Puts-first, Puts-nothing}
 use Rattle.dw_frame.proofs.ProgramSteps.{drop_cons, drop_all}
-use Rattle.dw_frame.proofs.TableSteps.{none_before}
+use Rattle.dw_frame.proofs.TableSteps.{none_before, has_cie}
 use Rattle.dw_frame.proofs.table.write.write_frames.Goals as goal
 
 pub loop-fde-init : goal.loop-fde-init
@@ -83,3 +83,6 @@ write_frame-requires-clause-counted g c = c.loop-fde.invariant.counted
 
 pub write_frame-requires-clause-behind : goal.write_frame-requires-clause-behind
 write_frame-requires-clause-behind g c = c.loop-fde.invariant.behind
+
+pub write_frame-requires-clause-own : goal.write_frame-requires-clause-own
+write_frame-requires-clause-own g c = has_cie _ c.args.fdes.now c.loop-fde.fde-index c.fde-item.result c.requires c.loop-fde-test.true c.fde-item.is

@@ -4,7 +4,7 @@ use Rattle.dw_frame.specs.contracts.cie.CommonInformationEntryPartialEq.TheImpl 
 use Rattle.dw_frame.specs.ConvertSections.{source}
 use Rattle.dw_frame.specs.ConvertTables.{Pair, cies_of, fdes_of}
 use Rattle.dw_frame.proofs.ConvertTableSteps.{Stands}
-use Rattle.dw_frame.proofs.table.FrameTable.from.Given as goal
+use Rattle.dw_frame.proofs.convert.add_frames.Given as goal
 
 abbrev pub invariant-entries : goal.invariant-entries
 invariant-entries g l = record {
