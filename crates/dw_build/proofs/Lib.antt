@@ -2,6 +2,4 @@ pub mod Lines
 pub mod ScriptUnits
 pub mod SetUnits
 mod Worked
-mod WorkedExpressions
-mod WorkedLists
 mod WorkedSets

@@ -22,11 +22,12 @@ use Rattle.dw_entries.specs.Content.{has_zero}
 use Rattle.dw_line.specs.LinePrograms.{LineProgramValue, no_line_program, encoding_of, line_encoding_of, is_in_sequence, directories_of, file_count_of, last_offset_of}
 use Rattle.dw_line.specs.ProgramTexts.{ProgramValue, with_directory, with_file, with_begin, with_row, with_end}
 use Rattle.dw_tree.specs.UnitValue.{UnitValue, new_unit, is_reserved}
-use Rattle.dw_build.specs.Script.{with_units, with_unit_changed, after_change, after_string, after_line_string, after_command, after_asked, after_line, after_lines, script, IsOpen, AreOpen}
-use Rattle.dw_build.specs.LineChanges.{CountsBytes, with_next_row, after_program_change, after_line_change}
-use Rattle.dw_build.specs.LocationLists.{after_location_list}
-use Rattle.dw_build.specs.Names.{name_of, listed_name}
-use Rattle.dw_build.specs.RangeLists.{after_range_list}
+use Rattle.dw_build.specs.Script.{with_units, with_unit_changed, after_string, after_line_string, after_command, after_asked, after_line, after_lines, script, IsOpen, AreOpen}
+use Rattle.dw_script_units.specs.Changes.{after_change}
+use Rattle.dw_script_units.specs.LineChanges.{CountsBytes, with_next_row, after_program_change, after_line_change}
+use Rattle.dw_script_units.specs.LocationLists.{after_location_list}
+use Rattle.dw_script_units.specs.Names.{name_of, listed_name}
+use Rattle.dw_script_units.specs.RangeLists.{after_range_list}
 use Rattle.dw_build.specs.ScriptValue.{ScriptValue, empty_script}
 use Rattle.dw_build.specs.declared.script.Refusal.{Refusal}
 

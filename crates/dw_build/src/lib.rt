@@ -1,12 +1,8 @@
 //! Builds the DWARF that a script says, line by line. A script's lines are those of `dw_script`;
-//! each is a call on the units that stand. Those of the command `link` build several sets.
+//! each is a call on the units that stand, as `dw_script_units` makes it. Those of the command `link`
+//! build several sets.
 #![tactic(auto)]
 
-mod entries;
-mod expressions;
-mod line_programs;
-mod location_lists;
-mod range_lists;
 mod script;
 mod sets;
 

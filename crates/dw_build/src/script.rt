@@ -1,19 +1,17 @@
 //! Scripts: each line is a call.
 
-ghost use Rattle.std.specs.Prelude.{◌≡◌, ◌≤◌, length, Ok, Err, OnOk, IfOk, IfErr};
-ghost use Rattle.dw_base.specs.Spellable.{IsText};
-ghost use Rattle.dw_build.specs.Names.{text_of as text_in};
-ghost use Rattle.dw_build.specs.Script.{RefusedFor};
+ghost use Rattle.std.specs.Prelude.{◌≡◌, ◌≤◌, length, Ok, OnOk, IfOk, IfErr};
+ghost use Rattle.dw_script_units.specs.Refused.{RefusedFor};
 ghost use Rattle.dw_build.specs.ScriptValue.{script_in};
 
-use crate::entries::{apply_change, index_below};
-use crate::line_programs::apply_line_change;
-use crate::location_lists::add_location_list;
-use crate::range_lists::add_range_list;
 use dw_base::{Encoding, RunTimeEndian, UnitId};
 use dw_dwarf::Dwarf;
 use dw_script::{
     Change, Command, HexBytes, LineChange, LocationFields, RangeFields, Reason, lines, parse_line,
+};
+use dw_script_units::{
+    CommandError, add_location_list, add_range_list, apply_change, apply_line_change, index_below,
+    text_of,
 };
 use dw_unit::{LineProgram, Unit};
 use std::alloc::Global;
@@ -59,13 +57,6 @@ pub struct Refusal {
 #[derive(Clone, Copy, Debug, PartialEq, Eq)]
 pub enum ScriptError {
     Refused(Refusal),
-    NoMemory,
-}
-
-/// Why a command wasn't carried out.
-#[derive(Clone, Copy, Debug, PartialEq, Eq)]
-pub enum CommandError {
-    Refused(Reason),
     NoMemory,
 }
 
@@ -260,19 +251,6 @@ impl Script {
         let unit = self.dwarf.units.get_mut(UnitId::new(index));
         add_location_list(alloc, unit, locations)
     }
-}
-
-// The bytes of a string, which has no zero byte.
-pub(crate) fn text_of(alloc: Global, bytes: &HexBytes<'_>) -> Result<Vec<u8>, CommandError>
-    ensures ok { IfOk result (λ text. Ok text.items ≡ text_in bytes.now) }
-    ensures text { IfOk result (λ text. IsText text.items) }
-    ensures err { IfErr result (RefusedFor (text_in bytes.now)) }
-{
-    let text = bytes.decode(alloc).map_err(|_| CommandError::NoMemory)?;
-    if text.contains(&0) {
-        return Err(CommandError::Refused(Reason::ZeroByte));
-    }
-    Ok(text)
 }
 
 pub(crate) fn refused(line: usize, reason: Reason) -> ScriptError

@@ -1,14 +1,16 @@
 //! Scripts of the command `link`: several sets of units, which come to be linked, and symbols.
 
 ghost use Rattle.std.specs.Prelude.{◌≡◌, ◌≤◌, length, Ok, OnOk, IfOk, IfErr};
-ghost use Rattle.dw_build.specs.Script.{AreOpen, RefusedAt, RefusedFor, RefusedWhole};
+ghost use Rattle.dw_build.specs.Script.{AreOpen, RefusedAt, RefusedWhole};
 ghost use Rattle.dw_build.specs.Sets.{after_link_command, after_link_line, after_next, after_symbol, sets};
 ghost use Rattle.dw_build.specs.SetsValue.{all_sets, begun_in, empty_begun, sets_in};
+ghost use Rattle.dw_script_units.specs.Refused.{RefusedFor};
 
-use crate::script::{CommandError, SCRIPT_LIMIT, Script, ScriptError, refused};
+use crate::script::{SCRIPT_LIMIT, Script, ScriptError, refused};
 use dw_base::RunTimeEndian;
 use dw_dwarf::Dwarf;
 use dw_script::{LinkCommand, Reason, lines, parse_link_line};
+use dw_script_units::CommandError;
 use std::alloc::Global;
 use std::mem;
 

@@ -7,8 +7,8 @@ use Rattle.dw_expr.specs.Trees as trees
 use Rattle.dw_script_fields.specs.declared.expression_step.ExpressionStep.TheVariants as step
 use Rattle.dw_script_fields.specs.declared.operation.ScriptOperation.TheVariants as operation
 use Rattle.dw_script_fields.specs.declared.value.Value.TheVariants as value
-use Rattle.dw_build.specs.Expressions.{expression_of}
-use Rattle.dw_build.specs.Script.{attribute_value}
+use Rattle.dw_script_units.specs.Expressions.{expression_of}
+use Rattle.dw_script_units.specs.Changes.{attribute_value}
 
 -- no operations: `[ ]`
 none : expression_of (step.Close ∷ []) ≡ []

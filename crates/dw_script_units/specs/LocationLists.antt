@@ -8,7 +8,7 @@ use Rattle.dw_ends.specs.Fields.{Outcome}
 use Rattle.dw_script_fields.specs.declared.location.ScriptLocation.{ScriptLocation}
 use Rattle.dw_script_fields.specs.declared.location.ScriptLocation.TheVariants as location
 use Rattle.dw_tree.specs.UnitValue.{UnitValue}
-use Rattle.dw_build.specs.Expressions.{expression_of}
+use Rattle.dw_script_units.specs.Expressions.{expression_of}
 
 -- an item, as lists have it
 abbrev pub stored_location : ScriptLocation → Location

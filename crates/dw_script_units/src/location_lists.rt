@@ -1,18 +1,23 @@
 //! What the lines of a script add to the location lists of a unit.
 
 ghost use Rattle.std.specs.Prelude.{◌≡◌, IfErr, IfOk, Ok, OnOk};
-ghost use Rattle.dw_build.specs.LocationLists.{after_location_list, locations_of, stored_location};
-ghost use Rattle.dw_build.specs.Script.{RefusedFor};
+ghost use Rattle.dw_script_units.specs.LocationLists.{after_location_list, locations_of, stored_location};
+ghost use Rattle.dw_script_units.specs.Refused.{RefusedFor};
 
+use crate::command_error::CommandError;
 use crate::expressions::owned_expression;
-use crate::script::CommandError;
 use dw_lists::{Location, LocationList};
 use dw_script::{LocationFields, ScriptLocation};
 use dw_unit::Unit;
 use std::alloc::{AllocError, Global};
 
-// Adds the location list of a line to a unit, unless an equal one stands there.
-pub(crate) fn add_location_list(
+/// Adds the location list of a line to a unit, unless an equal one stands there (DWARF 5, 2.6.2). It
+/// is refused for want of memory alone.
+///
+/// ```
+/// add_location_list(alloc, &mut unit, &locations)?;
+/// ```
+pub fn add_location_list(
     alloc: Global,
     unit: &mut Unit,
     locations: &LocationFields<'_>,

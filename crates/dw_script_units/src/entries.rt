@@ -3,10 +3,11 @@
 ghost use Rattle.std.specs.Prelude.{◌≡◌, ◌<◌, ◌≤◌, false, IsFalse, IfOk, IfErr, OnOk};
 ghost use Rattle.dw_entries.specs.Entries.{with_sibling, without_attribute, without_child};
 ghost use Rattle.dw_tree.specs.UnitValue.{is_reserved, IsReserved};
-ghost use Rattle.dw_build.specs.Script.{attribute_value, after_change, after_add, after_reserve, after_add_reserved, with_entry_changed, after_set, RefusedFor};
+ghost use Rattle.dw_script_units.specs.Changes.{attribute_value, after_change, after_add, after_reserve, after_add_reserved, with_entry_changed, after_set};
+ghost use Rattle.dw_script_units.specs.Refused.{RefusedFor};
 
+use crate::command_error::{CommandError, index_below};
 use crate::expressions::owned_expression;
-use crate::script::CommandError;
 use dw_base::constants::DW_AT_sibling;
 use dw_base::{
     DwAt, DwTag, FileId, LineStringId, LocationListId, RangeListId, StringId, UnitEntryId,
@@ -16,23 +17,14 @@ use dw_unit::{AttributeValue, Unit};
 use dw_writer::Bytes;
 use std::alloc::{AllocError, Global};
 
-// The index that a line gives, where there is something at it.
-pub(crate) fn index_below(number: u64, count: usize, missing: Reason) -> Result<usize, CommandError>
-    ensures ok { IfOk result (λ i. (i ≡ number) × (i < count)) }
-    ensures err { IfErr result (λ e. (e ≡ CommandError.Refused missing) × (count ≤ number)) }
-{
-    match usize::try_from(number) {
-        Ok(index) if index < count => Ok(index),
-        _ => Err(CommandError::Refused(missing)),
-    }
-}
-
-// Does to a unit what a line asks for.
-pub(crate) fn apply_change(
-    alloc: Global,
-    unit: &mut Unit,
-    change: Change<'_>,
-) -> Result<(), CommandError>
+/// Does to a unit's entries what a line asks for. It is refused with the first reason that holds, in
+/// the order in which docs/FORMAT.md lists a line's refusals, and as `NoMemory`; the unit isn't used
+/// again then.
+///
+/// ```
+/// apply_change(alloc, &mut unit, Change::Reserve)?;
+/// ```
+pub fn apply_change(alloc: Global, unit: &mut Unit, change: Change<'_>) -> Result<(), CommandError>
     requires { unit.old.is_freed ≡ false }
     ensures ok { OnOk result (after_change change.entry unit.old ≡ Ok unit.new) }
     ensures err { IfErr result (RefusedFor (after_change change.entry unit.old)) }

@@ -4,8 +4,8 @@ use Rattle.std.specs.Global.{Vec}
 use Rattle.dw_expr.specs.Trees.{Node}
 use Rattle.dw_expr.specs.Views.{nodes_in}
 use Rattle.dw_expr.specs.declared.op.Operation.{Operation}
-use Rattle.dw_build.specs.Expressions.{OpenNodes}
-use Rattle.dw_build.specs.declared.expressions.OpenOperations.{OpenOperations}
+use Rattle.dw_script_units.specs.Expressions.{OpenNodes}
+use Rattle.dw_script_units.specs.declared.expressions.OpenOperations.{OpenOperations}
 
 -- the operations of lists, the last of them first
 abbrev pub nodes_around : List (Vec Operation) → List (List Node)

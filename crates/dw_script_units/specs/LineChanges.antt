@@ -12,7 +12,7 @@ use Rattle.dw_script.specs.declared.line_change.LineChange.TheVariants as change
 use Rattle.dw_script.specs.declared.line_change.LineText.{LineText}
 use Rattle.dw_ends.specs.declared.reason.Reason.TheVariants.{NoLineProgram, NoSuchDirectory, InSequence, NotInSequence, NoSuchFile, AddressBack}
 use Rattle.dw_tree.specs.UnitValue.{UnitValue}
-use Rattle.dw_build.specs.Names.{name_of, listed_name}
+use Rattle.dw_script_units.specs.Names.{name_of, listed_name}
 
 -- a program whose smallest instruction has one byte, so that each offset may be one of a row; lines build no others
 abbrev pub CountsBytes : LineProgramValue → Type 0

@@ -1,8 +1,8 @@
 -- The list so far, and the items that are left, are the whole.
 use Rattle.std.proofs.Common.{◌≡◌, ◌++◌}
 use Rattle.dw_script_fields.specs.Ranges.{ranges_left}
-use Rattle.dw_build.specs.RangeLists.{ranges_of}
-use Rattle.dw_build.proofs.range_lists.owned_list.Given as goal
+use Rattle.dw_script_units.specs.RangeLists.{ranges_of}
+use Rattle.dw_script_units.proofs.range_lists.owned_list.Given as goal
 
 abbrev pub invariant-loop-range : goal.invariant-loop-range
 invariant-loop-range l = record {

@@ -3,19 +3,25 @@
 ghost use Rattle.std.specs.Prelude.{◌≡◌, ◌<◌, ◌≤◌, false, Ok, None, IsSome, IsTrue, IfOk, IfErr, OnOk};
 ghost use Rattle.dw_line.specs.LinePrograms.{is_in_sequence, last_offset_of};
 ghost use Rattle.dw_line.specs.Names.{IsFull, IsName};
-ghost use Rattle.dw_build.specs.LineChanges.{CountsBytes, after_begin, after_directory, after_end, after_file, after_line_change, after_row, program_of};
-ghost use Rattle.dw_build.specs.Names.{closes_list, listed_name, name_of};
-ghost use Rattle.dw_build.specs.Script.{RefusedFor};
+ghost use Rattle.dw_script_units.specs.LineChanges.{CountsBytes, after_begin, after_directory, after_end, after_file, after_line_change, after_row, program_of};
+ghost use Rattle.dw_script_units.specs.Names.{closes_list, listed_name, name_of};
+ghost use Rattle.dw_script_units.specs.Refused.{RefusedFor};
 
-use crate::script::{CommandError, text_of};
+use crate::command_error::CommandError;
+use crate::text::text_of;
 use dw_base::{Address, DirectoryId, Encoding, FileId, LineEncoding, LineStringId, StringId};
 use dw_script::{LineChange, LineText, Reason};
 use dw_unit::{LineProgram, LineString, Unit};
 use dw_writer::Bytes;
 use std::alloc::Global;
 
-// Does to a unit's line program what a line asks for.
-pub(crate) fn apply_line_change(
+/// Does to a unit's line program what a line asks for (DWARF 5, 6.2). It is refused with the first
+/// reason that holds, and as `NoMemory`; the unit isn't used again then.
+///
+/// ```
+/// apply_line_change(alloc, &mut unit, LineChange::BeginSequence(None))?;
+/// ```
+pub fn apply_line_change(
     alloc: Global,
     unit: &mut Unit,
     change: LineChange<'_>,

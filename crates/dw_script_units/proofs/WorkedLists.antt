@@ -10,7 +10,7 @@ use Rattle.dw_script_fields.specs.declared.expression_step.ExpressionStep.TheVar
 use Rattle.dw_script_fields.specs.declared.location.ScriptLocation.TheVariants as location
 use Rattle.dw_script_fields.specs.declared.operation.ScriptOperation.TheVariants as operation
 use Rattle.dw_tree.specs.UnitValue.{UnitValue, new_unit}
-use Rattle.dw_build.specs.LocationLists.{after_location_list, locations_of}
+use Rattle.dw_script_units.specs.LocationLists.{after_location_list, locations_of}
 
 abbrev bare : UnitValue
 bare = new_unit (record { address_size = 8; format = Dwarf32; version = 5 }) no_line_program

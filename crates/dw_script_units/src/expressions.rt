@@ -3,7 +3,7 @@
 ghost use Rattle.std.specs.Prelude.{◌≡◌, IfOk, OnOk};
 ghost use Rattle.std.specs.Option.{option_map};
 ghost use Rattle.dw_expr.specs.Views.{node_of};
-ghost use Rattle.dw_build.specs.Expressions.{after_step, expression_of, no_nodes, node_of_operation, with_node};
+ghost use Rattle.dw_script_units.specs.Expressions.{after_step, expression_of, no_nodes, node_of_operation, with_node};
 
 use dw_base::UnitEntryId;
 use dw_expr::{Expression, Operation};
@@ -22,7 +22,7 @@ struct OpenOperations {
 }
 
 impl OpenOperations {
-    ghost use Rattle.dw_build.specs.OpenOperations.{open_in};
+    ghost use Rattle.dw_script_units.specs.OpenOperations.{open_in};
 
     // One expression, without operations.
     fn new(alloc: Global) -> OpenOperations

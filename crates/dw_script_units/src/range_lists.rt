@@ -1,17 +1,22 @@
 //! What the lines of a script add to the range lists of a unit.
 
 ghost use Rattle.std.specs.Prelude.{◌≡◌, IfErr, IfOk, Ok, OnOk};
-ghost use Rattle.dw_build.specs.RangeLists.{after_range_list, ranges_of, stored_range};
-ghost use Rattle.dw_build.specs.Script.{RefusedFor};
+ghost use Rattle.dw_script_units.specs.RangeLists.{after_range_list, ranges_of, stored_range};
+ghost use Rattle.dw_script_units.specs.Refused.{RefusedFor};
 
-use crate::script::CommandError;
+use crate::command_error::CommandError;
 use dw_lists::{Range, RangeList};
 use dw_script::{RangeFields, ScriptRange};
 use dw_unit::Unit;
 use std::alloc::{AllocError, Global};
 
-// Adds the range list of a line to a unit, unless an equal one stands there.
-pub(crate) fn add_range_list(
+/// Adds the range list of a line to a unit, unless an equal one stands there (DWARF 5, 2.17.3). It is
+/// refused for want of memory alone.
+///
+/// ```
+/// add_range_list(alloc, &mut unit, &ranges)?;
+/// ```
+pub fn add_range_list(
     alloc: Global,
     unit: &mut Unit,
     ranges: &RangeFields<'_>,

@@ -1,8 +1,8 @@
 -- The list so far, and the items that are left, are the whole.
 use Rattle.std.proofs.Common.{◌≡◌, ◌++◌}
 use Rattle.dw_script_fields.specs.Locations.{locations_left}
-use Rattle.dw_build.specs.LocationLists.{locations_of}
-use Rattle.dw_build.proofs.location_lists.owned_list.Given as goal
+use Rattle.dw_script_units.specs.LocationLists.{locations_of}
+use Rattle.dw_script_units.proofs.location_lists.owned_list.Given as goal
 
 abbrev pub invariant-loop-location : goal.invariant-loop-location
 invariant-loop-location l = record {

@@ -1,0 +1,2 @@
+mod WorkedExpressions
+mod WorkedLists

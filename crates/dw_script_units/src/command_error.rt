@@ -1,0 +1,27 @@
+//! Why a line of a script isn't carried out.
+
+ghost use Rattle.std.specs.Prelude.{◌≡◌, ◌<◌, ◌≤◌, IfOk, IfErr};
+
+use dw_script::Reason;
+
+/// Why a command wasn't carried out: it is refused, or memory ran out.
+///
+/// ```
+/// let index = index_below(unit, units.count(), Reason::NoSuchUnit)?;
+/// ```
+#[derive(Clone, Copy, Debug, PartialEq, Eq)]
+pub enum CommandError {
+    Refused(Reason),
+    NoMemory,
+}
+
+/// The index that a line gives, where there is something at it.
+pub fn index_below(number: u64, count: usize, missing: Reason) -> Result<usize, CommandError>
+    ensures ok { IfOk result (λ i. (i ≡ number) × (i < count)) }
+    ensures err { IfErr result (λ e. (e ≡ CommandError.Refused missing) × (count ≤ number)) }
+{
+    match usize::try_from(number) {
+        Ok(index) if index < count => Ok(index),
+        _ => Err(CommandError::Refused(missing)),
+    }
+}
