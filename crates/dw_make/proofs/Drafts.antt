@@ -10,7 +10,7 @@ use Rattle.dw_entries.specs.Entries.{EntryValue, blank_entry, new_root, filled_u
 use Rattle.dw_entries.proofs.Filled.{filled_up-push, filled_up-same, seen_filled}
 use Rattle.dw_line.specs.LinePrograms.{no_line_program}
 use Rattle.dw_tree.specs.UnitValue.{UnitValue, new_unit, with_entry, IsReserved}
-use Rattle.dw_make.specs.Drafted.{with_bare_variable, with_described, with_variable}
+use Rattle.dw_make.specs.Drafted.{with_bare_variable, with_base_type, with_described, with_variable}
 use Rattle.dw_make.specs.Generated.{generated_encoding, generated_unit, first_root, base_type_id, variable, variables, variable_ids}
 
 -- what the entries come to, once the base type has a blank one
@@ -116,8 +116,7 @@ base_reserved from n u h =
     rw (blank, out) refl
 
 -- the base type behind the variables makes the unit whole
-pub base_added : (from n : ℕ) (u : UnitValue) → IsDraft from n u →
-    with_entry (record u { entries = with_added u.reserved base_type_id 0 DW_TAG_base_type.0 u.entries }) base_type_id (with_attribute DW_AT_byte_size.0 (Data1 4)) ≡ generated_unit from n
+pub base_added : (from n : ℕ) (u : UnitValue) → IsDraft from n u → with_base_type base_type_id u ≡ generated_unit from n
 base_added from n u h =
-    ap (λ v. with_entry (record v { entries = with_added v.reserved base_type_id 0 DW_TAG_base_type.0 v.entries }) base_type_id (with_attribute DW_AT_byte_size.0 (Data1 4))) h.is
+    ap (with_base_type base_type_id) h.is
     ∙ ap (λ t. with_entry (record (new_unit generated_encoding no_line_program) { entries = with_changed base_type_id (placed_under 0 DW_TAG_base_type.0) (with_changed 0 (with_child base_type_id) t); reserved = 2 + n }) base_type_id (with_attribute DW_AT_byte_size.0 (Data1 4))) h.filled

@@ -1,4 +1,6 @@
 mod Worked
+pub mod Lists
+pub mod Refusals
 pub mod Drafts
 mod MadeTrees
 mod MadeSizes

@@ -1,7 +1,7 @@
 -- What the calls that add a variable make of a unit.
 use Rattle.std.specs.Prelude.{ℕ, ◌+◌, ◌%◌, ◌==◌, if◌then◌else◌}
-use Rattle.dw_base.specs.declared.constants.TheConstants.{DW_TAG_variable, DW_AT_byte_size, DW_AT_type, DW_AT_specification}
-use Rattle.dw_entries.specs.declared.value.AttributeValue.TheVariants.{Udata, UnitRef}
+use Rattle.dw_base.specs.declared.constants.TheConstants.{DW_TAG_variable, DW_TAG_base_type, DW_AT_byte_size, DW_AT_type, DW_AT_specification}
+use Rattle.dw_entries.specs.declared.value.AttributeValue.TheVariants.{Data1, Udata, UnitRef}
 use Rattle.dw_entries.specs.Entries.{with_added, with_attribute}
 use Rattle.dw_tree.specs.UnitValue.{UnitValue, with_entry}
 use Rattle.dw_make.specs.Generated.{first_root}
@@ -21,3 +21,8 @@ abbrev pub with_variable : ℕ → ℕ → UnitValue → UnitValue
 with_variable base i u =
     let described = with_described u.reserved base i (with_bare_variable u) in
     if (i % 100) == 0 then with_entry described u.reserved (with_attribute DW_AT_specification.0 first_root) else described
+
+-- a unit with the base type behind the root's other children
+abbrev pub with_base_type : ℕ → UnitValue → UnitValue
+with_base_type id u =
+    with_entry (record u { entries = with_added u.reserved id 0 DW_TAG_base_type.0 u.entries }) id (with_attribute DW_AT_byte_size.0 (Data1 4))
