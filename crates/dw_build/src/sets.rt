@@ -1,6 +1,6 @@
 //! Scripts of the command `link`: several sets of units, which come to be linked, and symbols.
 
-ghost use Rattle.std.specs.Prelude.{◌≡◌, ◌≤◌, length, Ok, OnOk, IfOk, IfErr};
+ghost use Rattle.std.specs.Prelude.{◌≡◌, ◌≤◌, [], ◌∷◌, ◌++◌, length, Ok, OnOk, IfOk, IfErr};
 ghost use Rattle.dw_build.specs.Script.{AreOpen, RefusedAt, RefusedWhole};
 ghost use Rattle.dw_build.specs.Sets.{after_link_command, after_link_line, after_next, after_symbol, sets};
 ghost use Rattle.dw_build.specs.SetsValue.{all_sets, begun_in, empty_begun, sets_in};
@@ -11,7 +11,7 @@ use dw_base::RunTimeEndian;
 use dw_dwarf::Dwarf;
 use dw_script::{LinkCommand, Reason, lines, parse_link_line};
 use dw_script_units::CommandError;
-use std::alloc::Global;
+use std::alloc::{AllocError, Global};
 use std::mem;
 
 /// What a script of the command `link` has built.
@@ -97,10 +97,7 @@ impl BegunSets {
             has_begun: true,
         };
         let whole = mem::replace(&mut self.last, next);
-        self.whole
-            .push(whole.dwarf)
-            .map_err(|_| CommandError::NoMemory)?;
-        Ok(())
+        push_set(&mut self.whole, whole.dwarf).map_err(|_| CommandError::NoMemory)
     }
 
     fn add_symbol(&mut self, number: u64, value: u64) -> Result<(), CommandError>
@@ -134,13 +131,21 @@ impl BegunSets {
             has_begun: _,
         } = last;
         let mut dwarfs = whole;
-        dwarfs.push(dwarf).map_err(|_| ScriptError::NoMemory)?;
+        push_set(&mut dwarfs, dwarf).map_err(|_| ScriptError::NoMemory)?;
         Ok(Sets {
             endian,
             dwarfs,
             symbols,
         })
     }
+}
+
+// Adds a set behind the others; one that is refused is dropped here.
+fn push_set(sets: &mut Vec<Dwarf>, set: Dwarf) -> Result<(), AllocError>
+    ensures { OnOk result (sets.new.items ≡ sets.old.items ++ set ∷ []) }
+{
+    sets.push(set)?;
+    Ok(())
 }
 
 /// Builds what the lines of a script of the command `link` say, one after another, up to the first
