@@ -106,23 +106,26 @@ module _ {R E : Type 0} (reading : R → Reading) (answers : ℕ → Option Addr
       subst (λ (ys : Values). HaveDistinctNames (map attribute_of ys)) (sym h.is) (once_distinct [] h.images (images_own (kept all) old h.images new (kept_own all) h.are))
 
   -- an entry that is added with its values
-  pub becomes : (attributes : List Seen) (p : Plan) (before v placed w : UnitValue) (old : Tables) (strings line_strings : List (List ℕ)) (values : Values) (sibling : Bool)
-      → v ≡ record before { ranges = v.ranges; locations = v.locations }
-      → placed ≡ record v { entries = with_placed v.reserved p.number p.parent p.entry.tag v.entries }
+  pub becomes : (attributes : List Seen) (p : Plan) (before placed v w : UnitValue) (all old : Tables) (strings line_strings : List (List ℕ)) (values : Values) (sibling : Bool)
+      → placed ≡ record before { entries = with_placed before.reserved p.number p.parent p.entry.tag before.entries }
+      → v ≡ record placed { ranges = v.ranges; locations = v.locations }
       → sibling ≡ (not (p.number == 0) && names_sibling p.entry)
-      → AreConverted reading answers entries infos u files attributes old values (tables_in strings line_strings v)
-      → w ≡ with_entry placed p.number (with_contents sibling (map attribute_of values))
+      → all ≡ old
+      → AreConverted reading answers entries infos u files attributes all values (tables_in strings line_strings v)
+      → w ≡ with_entry v p.number (with_contents sibling (map attribute_of values))
       → BecomesEntry reading answers entries infos u files attributes p before old w (tables_in strings line_strings w)
-  becomes attributes p before v placed w old strings line_strings values sibling others at flag images is =
-      let same : tables_in strings line_strings v ≡ tables_in strings line_strings w = sym (ap (tables_in strings line_strings) is ∙ ap (tables_in strings line_strings) at) in
+  becomes attributes p before placed v w all old strings line_strings values sibling at others flag from images is =
+      let same : tables_in strings line_strings v ≡ tables_in strings line_strings w = sym (ap (tables_in strings line_strings) is) in
       let xs = map attribute_of values in
-      let grown : UnitValue → UnitValue = λ y. record y { entries = with_placed y.reserved p.number p.parent p.entry.tag y.entries } in
+      let listed : UnitValue → UnitValue = λ y. record y { ranges = v.ranges; locations = v.locations } in
       record {
         values = values;
-        images = subst (λ (t : Tables). AreConverted reading answers entries infos u files attributes old values t) same images;
+        images =
+            subst (λ (t : Tables). AreConverted reading answers entries infos u files attributes t values (tables_in strings line_strings w)) from
+            (subst (λ (t : Tables). AreConverted reading answers entries infos u files attributes all values t) same images);
         is = is
-            ∙ ap (λ (y : UnitValue). with_entry y p.number (with_contents sibling xs)) at
-            ∙ ap (λ (y : UnitValue). with_entry (grown y) p.number (with_contents sibling xs)) others
-            ∙ ap (λ (b : Bool). with_entry (grown (record before { ranges = v.ranges; locations = v.locations })) p.number (with_contents b xs)) flag
+            ∙ ap (λ (y : UnitValue). with_entry y p.number (with_contents sibling xs)) others
+            ∙ ap (λ (y : UnitValue). with_entry (listed y) p.number (with_contents sibling xs)) at
+            ∙ ap (λ (b : Bool). with_entry (listed (record before { entries = with_placed before.reserved p.number p.parent p.entry.tag before.entries })) p.number (with_contents b xs)) flag
             ∙ ap (λ (t : Tables). record before { entries = with_converted before.reserved p values before.entries; ranges = t.ranges; locations = t.locations }) same;
       }

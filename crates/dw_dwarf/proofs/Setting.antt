@@ -1,13 +1,13 @@
 -- The attributes of an entry, set one after the other.
 use Rattle.std.proofs.Common.{◌≡◌, ◌∙◌, sym, ap, ℕ, subst, zero, suc, ◌<◌, List, [], ◌∷◌, ◌++◌, length, map, take, get_or, Result, Ok, Err, Some, None, Bool, true, false, refl, arith}
-use Rattle.std.specs.Prelude.{◌==◌, if◌then◌else◌, OnOk, IsErr}
-use Rattle.std.specs.Result.{is_ok, IsErrAnd}
+use Rattle.std.specs.Prelude.{◌==◌, if◌then◌else◌, OnOk, IfOk, IfErr, IsErr}
+use Rattle.std.specs.Result.{result_and, IsErrAnd}
 use Rattle.std.proofs.lemmas.Bool.{eq-eqb, ne_eqb, false≢true}
 use Rattle.std.proofs.lemmas.List.{map-append}
 use Rattle.dw_base.specs.declared.constants.DwAt.{DwAt}
 use Rattle.dw_entries.proofs.Changed.{length-with_changed, seen_changed}
 use Rattle.dw_entries.proofs.Named.{set_named-absent}
-use Rattle.dw_entries.specs.Attributes.{named, get_named, set_named, is_named, HaveDistinctNames}
+use Rattle.dw_entries.specs.Attributes.{get_named, set_named, HaveDistinctNames}
 use Rattle.dw_entries.specs.Entries.{EntryValue, with_changed, with_attribute, with_attributes, with_sibling, entry_at}
 use Rattle.dw_entries.specs.declared.attribute.Attribute.{Attribute}
 use Rattle.dw_entries.specs.declared.value.AttributeValue.{AttributeValue}
@@ -16,21 +16,20 @@ use Rattle.dw_unit.specs.declared.entry_mut.EntryMut.{EntryMut}
 use Rattle.dw_dwarf.specs.ConvertedEntries.{Values, attribute_of}
 use Rattle.dw_dwarf.specs.Placed.{with_contents}
 
--- an answer whose error became another's says what it said before
-pub ok_mapped : {A E F : Type 0} (P : Type 0) (r : Result A E) (s : Result A F) → is_ok s ≡ is_ok r → OnOk r P → OnOk s P
-ok_mapped P (Ok y) (Ok x) v h = h
-ok_mapped P (Err y) (Ok x) v h = absurd (false≢true (sym v))
-ok_mapped P r (Err x) v h = tt
-
 -- a `?` hands on a reason
 pub is_err : {A E : Type 0} (r : Result A E) (e : E) → IsErr r × IsErrAnd r (λ x. x ≡ e) → r ≡ Err e
 is_err (Ok x) e h = absurd h.1
 is_err (Err x) e h = ap Err h.1
 
--- what follows from what an answer says
-pub map_ok : {A E P Q : Type 0} (r : Result A E) → OnOk r P → (P → Q) → OnOk r Q
-map_ok (Ok x) h f = f h
-map_ok (Err x) h f = h
+-- what is told of what was changed is told of the answer, which hands it out
+module _ {T U E : Type 0} (x : U) where
+  pub and_ok : {P : Type 0} (Q : U → Type 0) (r : Result T E) → OnOk r P → (P → Q x) → IfOk (result_and r (Ok x)) Q
+  and_ok Q (Ok y) p f = f p
+  and_ok Q (Err e) p f = tt
+
+  pub and_err : {P Q : E → Type 0} (r : Result T E) → IfErr r P → ((e : E) → P e → Q e) → IfErr (result_and r (Ok x)) Q
+  and_err (Ok y) p f = tt
+  and_err (Err e) p f = f e p
 
 -- two changes of one entry
 pub changed_twice : (i : ℕ) (f g : EntryValue → EntryValue) (es : List EntryValue) → with_changed i g (with_changed i f es) ≡ with_changed i (λ e. g (f e)) es

@@ -232,8 +232,8 @@ impl Dwarf {
             &mut dwarf.strings,
             &mut dwarf.line_strings,
             convert_address,
-        )?;
-        Ok(dwarf)
+        )
+        .and(Ok(dwarf))
     }
 
     /// Begins to convert a file that was read unit by unit. All units of `.debug_info` are read
@@ -260,14 +260,13 @@ impl Dwarf {
         let alloc = *self.line_programs.allocator();
         let found = FoundUnits::read(alloc, dwarf)?;
         let first = self.units.count();
-        found.add_new(alloc, &mut self.units)?;
-        Ok(ConvertUnitSection {
+        found.add_new(alloc, &mut self.units).and(Ok(ConvertUnitSection {
             alloc,
             found,
             dwarf: self,
             first,
             next: 0,
-        })
+        }))
     }
 
     /// Begins to convert a line program that was read, by its parameters, directories and files, so

@@ -12,6 +12,7 @@ ghost use Rattle.dw_dwarf.specs.Converters.{entries_in, infos_in, parent_of, add
 
 use crate::convert::found::GivenUnit;
 use crate::convert::fresh::is_fresh_unit;
+use crate::convert::program::set_program;
 use crate::convert::unit_entry::ConvertUnitEntry;
 use crate::convert::unit_rows::UnitRows;
 use dw_base::{
@@ -108,7 +109,7 @@ impl<'a, R: Reader> ConvertUnit<'a, R> {
             return Ok(None);
         };
         entry.read_unit = self.read_unit;
-        entry.parent = if id.index() == 0 { None } else { Some(parent) };
+        entry.parent = (id.index() != 0).then_some(parent);
         entry.filter_attributes();
         Ok(Some(Some(id)))
     }
@@ -157,8 +158,7 @@ impl<'a, R: Reader> ConvertUnit<'a, R> {
         ensures others { self.new
             ≡ record self.old { unit = self.new.unit; files = self.new.files } }
     {
-        let unit = &mut *self.unit;
-        unit.line_program = line_program;
+        set_program(self.unit, line_program);
         self.files = line_program_files;
     }
 

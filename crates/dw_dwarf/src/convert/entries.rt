@@ -23,7 +23,7 @@ use std::alloc::Global;
 /// program by the numbers that were read.
 ///
 /// Refused as attributes are, and for want of memory. After an error the unit and the tables may
-/// have what was converted before it.
+/// have what was converted before it, and the unit the refused entry without attributes.
 ///
 /// ```
 /// let read = UnitRef { dwarf: &dwarf, unit: &read_unit };

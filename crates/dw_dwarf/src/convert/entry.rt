@@ -26,8 +26,8 @@ use dw_strings::{LineStringTable, StringTable};
 use dw_unit::Unit;
 use std::alloc::Global;
 
-/// Converts an entry, and adds it under its parent, whose id may be reserved alone. The root is
-/// there, and keeps its tag.
+/// Adds an entry under its parent, whose id may be reserved alone, and converts its attributes. The
+/// root is there, and keeps its tag.
 pub(crate) fn convert_entry<R: Reader, C: ConvertDebugInfoRef, F: Fn(u64) -> Option<Address>>(
     alloc: Global,
     read: UnitRef<'_, R>,
@@ -60,6 +60,9 @@ pub(crate) fn convert_entry<R: Reader, C: ConvertDebugInfoRef, F: Fn(u64) -> Opt
         (map (seen R.reading) entry.now.attrs.items)
         (tables_in strings.old line_strings.old unit.old) e) }
 {
+    let Ok(()) = place(unit, id, parent, entry.tag) else {
+        return Err(ConvertError::NoMemory);
+    };
     let attributes = convert_values(
         alloc,
         read,
@@ -72,7 +75,10 @@ pub(crate) fn convert_entry<R: Reader, C: ConvertDebugInfoRef, F: Fn(u64) -> Opt
         refs,
     )?;
     let sibling = id != unit.root() && names_sibling(entry);
-    add_entry(unit, id, parent, entry.tag, sibling, attributes).map_err(|_| ConvertError::NoMemory)
+    let Ok(()) = fill(unit, id, sibling, attributes) else {
+        return Err(ConvertError::NoMemory);
+    };
+    Ok(())
 }
 
 /// Converts the attributes of an entry, with the lists of the unit that it is written to.
@@ -112,33 +118,6 @@ fn convert_values<R: Reader, C: ConvertDebugInfoRef, F: Fn(u64) -> Option<Addres
         &mut unit.ranges,
         &mut unit.locations,
     )
-}
-
-/// Adds an entry under its parent, with its flag and its attributes. The root is there, and is
-/// given these alone.
-fn add_entry(
-    unit: &mut Unit,
-    id: UnitEntryId,
-    parent: UnitEntryId,
-    tag: DwTag,
-    sibling: bool,
-    attributes: Vec<(DwAt, AttributeValue)>,
-) -> Result<()>
-    requires some { 0 < length unit.old.entries }
-    requires id_in { id.0 < unit.old.reserved }
-    requires parent_in { parent.0 < unit.old.reserved }
-    requires tagged { tag.0 ≢ 0 }
-    requires not_yet { entry_at (filled_up unit.old.reserved unit.old.entries) id.0
-        ≡ unconverted id.0 }
-    requires not_freed { unit.old.is_freed ≡ false }
-    requires distinct { HaveDistinctNames (map attribute_of attributes.items) }
-    ensures ok { OnOk result (unit.new ≡ with_entry (record unit.old
-        { entries = with_placed unit.old.reserved id.0 parent.0 tag.0 unit.old.entries }) id.0
-        (with_contents sibling (map attribute_of attributes.items))) }
-    ensures err { IfErr result (λ e. e ≡ written.NoMemory) }
-{
-    place(unit, id, parent, tag)?;
-    fill(unit, id, sibling, attributes)
 }
 
 /// Adds an entry under its parent, but for the root, which is there.

@@ -12,7 +12,7 @@ use dw_read_lines::IncompleteLineProgram;
 use dw_read_units::UnitRef;
 use dw_sources::ConvertResult;
 use dw_strings::{LineStringTable, StringTable};
-use dw_unit::LineProgram;
+use dw_unit::{LineProgram, Unit};
 use std::alloc::Global;
 
 /// Converts the line program of a unit, if it has one, as it was read (DWARF 5, 6.2), and answers
@@ -46,4 +46,11 @@ pub(crate) fn convert_program<R: Reader, F: Fn(u64) -> Option<Address>>(
         strings,
         convert_address,
     )
+}
+
+/// Gives a unit another line program.
+pub(crate) fn set_program(unit: &mut Unit, program: LineProgram)
+    ensures { unit.new ≡ record unit.old { line_program = program } }
+{
+    unit.line_program = program;
 }

@@ -7,7 +7,7 @@ ghost use Rattle.dw_dwarf.specs.ConvertedUnit.{ConvertsWithFiles, RefusesUnit};
 ghost use Rattle.dw_dwarf.specs.ConvertSteps.{CanConvert};
 
 use crate::convert::entries::convert_entries;
-use crate::convert::program::convert_program;
+use crate::convert::program::{convert_program, set_program};
 use dw_base::{Address, FileId};
 use dw_convert::ConvertDebugInfoRef;
 use dw_read::Reader;
@@ -40,7 +40,7 @@ pub(crate) fn convert_unit<R: Reader, C: ConvertDebugInfoRef, F: Fn(u64) -> Opti
         unit.old (tables strings.old line_strings.old) e) }
 {
     let (program, ids) = convert_program(alloc, read, line_strings, strings, convert_address)?;
-    unit.line_program = program;
+    set_program(unit, program);
     *files = ids;
     convert_entries(
         alloc,

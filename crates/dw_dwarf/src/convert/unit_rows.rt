@@ -70,13 +70,6 @@ impl<'a, R: Reader> UnitRows<'a, R> {
         }
         Ok(None)
     }
-
-    /// Leaves no entry to be read.
-    pub(crate) fn end(&mut self)
-        ensures { self.new ≡ record self.old { is_ended = true } }
-    {
-        self.is_ended = true;
-    }
 }
 
 /// The last of the entries whose lists of children are open, or the root, which is above all.

@@ -68,8 +68,9 @@ impl<'a, R: Reader> ConvertUnitSection<'a, R> {
         let unit = units.get_mut(id);
         let mut converter = ConvertUnit::of(*alloc, given, id, unit, line_strings, strings);
         let mut root = converter.null_entry();
-        converter.read_entry(&mut root)?;
-        Ok(Some((converter, root)))
+        converter
+            .read_entry(&mut root)
+            .and(Ok(Some((converter, root))))
     }
 
     /// Passes the next unit, and answers its index and the id of the one that it becomes.

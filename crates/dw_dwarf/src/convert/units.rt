@@ -115,22 +115,11 @@ pub(crate) fn new_unit(alloc: Global, encoding: Encoding, count: usize) -> Conve
     ensures ok { IfOk result (λ u. u ≡ unit_with encoding count) }
     ensures err { IfErr result (λ e. e ≡ NoMemory) }
 {
-    match Unit::new(alloc, encoding, LineProgram::none()) {
-        Ok(mut unit) => {
-            reserve(&mut unit, count);
-            Ok(unit)
-        }
-        Err(_) => Err(ConvertError::NoMemory),
-    }
-}
-
-/// Hands out ids of a new unit until there are so many.
-fn reserve(unit: &mut Unit, count: usize)
-    requires new { unit.old ≡ unit_with unit.old.encoding 1 }
-    requires root { 1 ≤ count }
-    ensures { unit.new ≡ unit_with unit.old.encoding count }
-{
+    let Ok(mut unit) = Unit::new(alloc, encoding, LineProgram::none()) else {
+        return Err(ConvertError::NoMemory);
+    };
     for _ in 1..count {
         unit.reserve();
     }
+    Ok(unit)
 }

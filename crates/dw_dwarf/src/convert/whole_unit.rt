@@ -20,7 +20,8 @@ impl<'a, R: Reader> ConvertUnit<'a, R> {
     /// address of the read file becomes. No entry is left to be read afterwards.
     ///
     /// It is refused as `Dwarf::from` is. After an error the unit, the strings and the files may
-    /// have what was converted before it; the entries that are left can still be read.
+    /// have what was converted before it, and the unit the refused entry without attributes; the
+    /// entries that are left can still be read.
     ///
     /// ```
     /// if let Some((mut unit, root)) = section.read_unit()? {
@@ -51,7 +52,7 @@ impl<'a, R: Reader> ConvertUnit<'a, R> {
     {
         drop(root_entry);
         let refs = self.given.refs;
-        convert_unit(
+        let converted = convert_unit(
             self.alloc,
             self.given.read,
             self.unit,
@@ -60,8 +61,8 @@ impl<'a, R: Reader> ConvertUnit<'a, R> {
             self.line_strings,
             convert_address,
             &refs,
-        )?;
-        self.rows.end();
-        Ok(())
+        );
+        self.rows.is_ended = converted.is_ok();
+        converted
     }
 }

@@ -1,6 +1,6 @@
 use Rattle.std.proofs.Common.{inl, inr}
 use Rattle.std.proofs.lemmas.Result.{err_from_is_err_and}
-use Rattle.dw_writer.proofs.Outcomes.{IfErr-map}
+use Rattle.dw_writer.proofs.Outcomes.{IfErr-map, OnOk-always}
 use Rattle.dw_tree.specs.Causes.{Is}
 use Rattle.dw_tree.proofs.Faults.{bytes_because}
 use Rattle.dw_dwarf.specs.Valid.{programs_fail}
@@ -48,3 +48,9 @@ returns-in_err-write-clause-strings g c = rw (err_from_is_err_and c.from_residua
 
 pub returns-in_err-write-clause-sound : goal.returns-in_err-write-clause-sound
 returns-in_err-write-clause-sound g c = rw (err_from_is_err_and c.from_residual-in_err-write.result c.from_residual-in_err-write.ensures.1).1 tt
+
+pub returns-clause-lines : goal.returns-clause-lines
+returns-clause-lines g c = OnOk-always c.write-2.result c.in_ok-write_line_programs.ensures.ok
+
+pub returns-clause-sound : goal.returns-clause-sound
+returns-clause-sound g c = OnOk-always c.write-2.result c.in_ok-write_line_programs.ensures.sound

@@ -1,9 +1,8 @@
-use Rattle.std.proofs.Common.{◌≡◌, ◌∙◌, ap, refl, inl, inr, ⊎_elim, Ok, Err}
-use Rattle.std.specs.Prelude.{Result, OnOk, IfOk, IfErr}
-use Rattle.std.specs.Result.{result_and}
+use Rattle.std.proofs.Common.{◌≡◌, ◌∙◌, ap, refl, inl, inr, ⊎_elim}
 use Rattle.dw_dwarf.specs.NewUnits.{unit_with, unit_for}
 use Rattle.dw_dwarf.proofs.Ready.{can_convert}
 use Rattle.dw_dwarf.proofs.Rooted.{rooted}
+use Rattle.dw_dwarf.proofs.Setting.{and_ok, and_err}
 use Rattle.dw_dwarf.proofs.convert.units.convert_numbered.Goals as goal
 
 pub new_unit-requires : goal.new_unit-requires
@@ -13,16 +12,6 @@ pub convert_unit-requires-clause-ready : goal.convert_unit-requires-clause-ready
 convert_unit-requires-clause-ready g c =
     let new : c.in_ok-unit.unit ≡ unit_for c.args.numbered.now = c.in_ok-unit.ensures.ok ∙ ap (λ e. unit_with e c.args.numbered.now.entries) c.encoding.ensures in
     can_convert g.R.Reader.reading c.args.dwarf.now c.args.numbered.now c.requires.numbered.unit _ c.in_ok-unit.unit c.requires.numbered.numbered refl (ap (λ u. u.reserved) new) (ap (λ u. u.entries) new) (ap (λ u. u.is_freed) new)
-
--- what is told of a unit that was converted is told of the answer, which hands it out
-module _ {T U E : Type 0} (x : U) where
-  and_ok : {P : Type 0} (Q : U → Type 0) (r : Result T E) → OnOk r P → (P → Q x) → IfOk (result_and r (Ok x)) Q
-  and_ok Q (Ok y) p f = f p
-  and_ok Q (Err e) p f = tt
-
-  and_err : {P Q : E → Type 0} (r : Result T E) → IfErr r P → ((e : E) → P e → Q e) → IfErr (result_and r (Ok x)) Q
-  and_err (Ok y) p f = tt
-  and_err (Err e) p f = f e p
 
 pub returns-clause-err : goal.returns-clause-err
 returns-clause-err g c =

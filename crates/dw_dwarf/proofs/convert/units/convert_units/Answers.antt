@@ -6,6 +6,7 @@ use Rattle.dw_dwarf.specs.ConvertedUnits.{UnitsBecome, UnitBecomes, UnitRefuses}
 use Rattle.dw_entry_ids.specs.Units.{IsNumbered}
 use Rattle.dw_dwarf.proofs.UnitSteps.{refs_as, around, length_before, numbered_at, one_more, take_all}
 use Rattle.dw_dwarf.proofs.Setting.{is_err}
+use Rattle.dw_sources.specs.ConvertErrors.{from_read}
 use Rattle.dw_dwarf.proofs.convert.units.convert_units.Goals as goal
 
 pub units-init : goal.units-init
@@ -97,3 +98,8 @@ returns-in_err-unit-clause-ok g c = rw (is_err _ _ c.from_residual-in_err-unit.e
 
 pub returns-clause-err : goal.returns-clause-err
 returns-clause-err g c = tt
+
+pub returns-in_err-found-clause-err : goal.returns-in_err-found-clause-err
+returns-in_err-found-clause-err g c =
+    rw (is_err _ _ c.from_residual.ensures)
+    (⊎_elim (λ n. inl (ap from_read n)) (λ h. inr (inl (record { reason = c.in_err-found.field-0.0; read = h; is = refl }))) c.in_err-found.ensures.err)

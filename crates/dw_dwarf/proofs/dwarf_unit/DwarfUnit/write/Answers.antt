@@ -1,7 +1,7 @@
-use Rattle.std.proofs.Common.{[], ap, refl, inr}
+use Rattle.std.proofs.Common.{[], ap, refl, inr, inl, ⊎_elim}
 use Rattle.std.proofs.lemmas.List.Elements.{All-cons, All-nil}
 use Rattle.std.proofs.lemmas.Result.{err_from_is_err_and}
-use Rattle.dw_writer.proofs.Outcomes.{OnOk-map, IfErr-map}
+use Rattle.dw_writer.proofs.Outcomes.{OnOk-map, IfErr-map, OnOk-always, OnErr-always}
 use Rattle.dw_unit.specs.Alone.{AloneFails}
 use Rattle.dw_tree.specs.Elsewhere.{elsewhere, unit_tables}
 use Rattle.dw_tree.specs.Whole.{settled}
@@ -143,3 +143,27 @@ returns-in_err-write_alone-clause-writable g c = rw (err_from_is_err_and c.from_
 
 pub returns-in_err-write_alone-clause-alone : goal.returns-in_err-write_alone-clause-alone
 returns-in_err-write_alone-clause-alone g c = rw (err_from_is_err_and c.from_residual.result c.from_residual.ensures.1).1 tt
+
+pub returns-in_err-write_alone-clause-err : goal.returns-in_err-write_alone-clause-err
+returns-in_err-write_alone-clause-err g c =
+    let p = err_from_is_err_and c.from_residual.result c.from_residual.ensures.1 in rw (p.1, p.2) c.in_err-write_alone.ensures.err
+
+pub returns-in_err-write_alone-clause-kept : goal.returns-in_err-write_alone-clause-kept
+returns-in_err-write_alone-clause-kept g c =
+    rw (err_from_is_err_and c.from_residual.result c.from_residual.ensures.1).1 (⊎_elim inl (λ h. inr (inl h)) c.in_err-write_alone.ensures.kept)
+
+pub returns-in_err-write_alone-clause-others : goal.returns-in_err-write_alone-clause-others
+returns-in_err-write_alone-clause-others g c =
+    others_after g.W.Writer.meaning c.args.sections.now c.write_alone.new.sections c.write_alone.new.sections c.in_err-write_alone.ensures.others refl
+
+pub returns-clause-kept : goal.returns-clause-kept
+returns-clause-kept g c = OnErr-always c.write_rest.result (inr (inr c.in_ok-write_alone.ensures.marked))
+
+pub returns-clause-marked : goal.returns-clause-marked
+returns-clause-marked g c = OnOk-always c.write_rest.result c.in_ok-write_alone.ensures.marked
+
+pub returns-clause-writable : goal.returns-clause-writable
+returns-clause-writable g c = OnOk-always c.write_rest.result c.in_ok-write_alone.ensures.writable
+
+pub returns-clause-alone : goal.returns-clause-alone
+returns-clause-alone g c = OnOk-always c.write_rest.result c.in_ok-write_alone.ensures.alone

@@ -1,9 +1,22 @@
-use Rattle.std.proofs.Common.{◌∙◌}
-use Rattle.dw_dwarf.proofs.Setting.{is_err}
+use Rattle.std.proofs.Common.{◌≡◌, ◌∙◌, sym, ap, Bool, true, false, Ok, Err, refl}
+use Rattle.std.specs.Prelude.{Result, OnOk, OnErr}
+use Rattle.std.specs.Result.{is_ok}
+use Rattle.dw_writer.proofs.Outcomes.{OnOk-map}
+use Rattle.dw_dwarf.specs.declared.convert.unit_rows.UnitRows.{UnitRows}
 use Rattle.dw_dwarf.proofs.convert.convert_unit.ConvertUnit.convert.Goals as goal
 
-pub convert_unit-requires-clause-ready : goal.convert_unit-requires-clause-ready
-convert_unit-requires-clause-ready g c =
+-- none is left to be read of a unit that was converted, and as many as before of one that was refused
+ended : {A X : Type 0} (r : Result A X) → OnOk r (is_ok r ≡ true)
+ended (Ok x) = refl
+ended (Err e) = tt
+
+module _ {A X R E : Type 0} where
+  unread : (r : Result A X) (rows : UnitRows R E) → rows.is_ended ≡ false → OnErr r ((let new : UnitRows R E = record rows { is_ended = is_ok r } in new) ≡ rows)
+  unread (Ok x) rows going = tt
+  unread (Err e) rows going = ap (λ (b : Bool). let new : UnitRows R E = record rows { is_ended = b } in new) (sym going)
+
+pub convert_unit-converted-requires-clause-ready : goal.convert_unit-converted-requires-clause-ready
+convert_unit-converted-requires-clause-ready g c =
     let can = c.args.self.now.given.readable in
     let new = c.requires.fresh.unit in
     record {
@@ -17,16 +30,14 @@ convert_unit-requires-clause-ready g c =
     }
 
 pub returns-clause-ok : goal.returns-clause-ok
-returns-clause-ok g c = record { unit = c.in_ok-convert_unit.ensures.ok.unit; files = c.in_ok-convert_unit.ensures.ok.files }
-
-pub returns-in_err-convert_unit-clause-ok : goal.returns-in_err-convert_unit-clause-ok
-returns-in_err-convert_unit-clause-ok g c = rw (is_err _ _ c.from_residual.ensures) tt
-
-pub returns-in_err-convert_unit-clause-ended : goal.returns-in_err-convert_unit-clause-ended
-returns-in_err-convert_unit-clause-ended g c = rw (is_err _ _ c.from_residual.ensures) tt
-
-pub returns-clause-err : goal.returns-clause-err
-returns-clause-err g c = tt
+returns-clause-ok g c =
+    OnOk-map c.convert_unit-converted.result c.convert_unit-converted.ensures.ok (λ whole. record { unit = whole.unit; files = whole.files })
 
 pub returns-clause-unread : goal.returns-clause-unread
-returns-clause-unread g c = tt
+returns-clause-unread g c = rw c.is_ok-self.ensures.value (unread c.convert_unit-converted.result c.args.self.now.rows c.requires.fresh.going)
+
+pub returns-clause-ended : goal.returns-clause-ended
+returns-clause-ended g c = rw c.is_ok-self.ensures.value (ended c.convert_unit-converted.result)
+
+pub returns-clause-err : goal.returns-clause-err
+returns-clause-err g c = c.convert_unit-converted.ensures.err

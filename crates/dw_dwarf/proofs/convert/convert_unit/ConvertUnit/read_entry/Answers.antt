@@ -1,10 +1,11 @@
-use Rattle.std.proofs.Common.{◌∙◌, sym, subst, Option, Ok}
+use Rattle.std.proofs.Common.{◌∙◌, ap, subst, ℕ, not, Option, Ok}
+use Rattle.std.specs.Bool.{then_some}
+use Rattle.std.specs.Prelude.{◌==◌}
 use Rattle.dw_base.specs.declared.ids.UnitEntryId.{UnitEntryId}
-use Rattle.dw_dwarf.proofs.SectionSteps.{above_root, above_other}
+use Rattle.dw_dwarf.proofs.SectionSteps.{above_is}
 use Rattle.dw_dwarf.proofs.Setting.{is_err}
 use Rattle.dw_dwarf.specs.Converters.{held}
 use Rattle.dw_dwarf.specs.UnitWalk.{WalksOn}
-use Rattle.dw_dwarf.proofs.convert.convert_unit.ConvertUnit.read_entry.Goals.{then-index-eq0, else-index-eq0}
 use Rattle.dw_dwarf.proofs.convert.convert_unit.ConvertUnit.read_entry.Goals as goal
 
 pub returns-in_err-id-clause-reads : goal.returns-in_err-id-clause-reads
@@ -20,6 +21,6 @@ returns-clause-reads g c = λ front rest s. record {
   parent = c.in-Some.parent.0;
   row = (subst (λ (o : Option (UnitEntryId × UnitEntryId)). WalksOn g.R.Reader.reading (held c.args.self.now) front rest c.next.new.self c.next.new.entry (Ok o)) c.in-Some.is (c.in_ok-id.ensures.walks (held c.args.self.now) front rest s)).0;
   less = c.filter_attributes.ensures.less;
-  under = c.filter_attributes.ensures.parent ∙ elim c.if-index-eq0.branch [ then-index-eq0 w ↦ w.entry-is ∙ above_root c.in-Some.id.0 c.in-Some.parent.0 (sym c.index.ensures ∙ w.if-index-eq0.true) | else-index-eq0 w ↦ w.entry-is ∙ above_other c.in-Some.id.0 c.in-Some.parent (λ z. w.if-index-eq0.false (c.index.ensures ∙ z)) ];
+  under = c.filter_attributes.ensures.parent ∙ c.then_some-entry.ensures ∙ ap (λ (k : ℕ). then_some (not (k == 0)) c.in-Some.parent) c.index.ensures ∙ above_is c.in-Some.id.0 c.in-Some.parent;
   read_unit = c.filter_attributes.ensures.read_unit;
 }

@@ -1,18 +1,11 @@
 use Rattle.std.proofs.Common.{◌≡◌, ◌∙◌, ◌+◌, sym, ap, subst, Some, []}
 use Rattle.std.specs.Prelude.{slice_get}
-use Rattle.dw_dwarf.proofs.SectionSteps.{root_read}
-use Rattle.dw_dwarf.proofs.Setting.{is_err}
+use Rattle.dw_dwarf.proofs.SectionSteps.{root_or_refused}
 use Rattle.dw_dwarf.specs.Converters.{held}
 use Rattle.dw_dwarf.specs.FoundUnits.{IsGiven}
 use Rattle.dw_dwarf.specs.Readable.{rows_held}
 use Rattle.dw_dwarf.specs.UnitCursor.{StandsBetween}
 use Rattle.dw_dwarf.proofs.convert.unit_section.ConvertUnitSection.read_unit.Goals as goal
-
-pub returns-in_err-read_entry : goal.returns-in_err-read_entry
-returns-in_err-read_entry g c =
-    let reading = g.R.Reader.reading in
-    let stands = subst (λ h. StandsBetween reading h.read.unit.now c.of-converter.result.rows [] (rows_held reading h.read.unit.now)) (sym c.of-converter.ensures.given) c.of-converter.ensures.rows in
-    rw (is_err _ _ c.from_residual.ensures) (c.in_err-read_entry.ensures.reads [] (rows_held reading (held c.of-converter.result)) stands)
 
 pub returns : goal.returns
 returns g c =
@@ -27,8 +20,9 @@ returns g c =
     let stands =
     subst (λ a. StandsBetween reading a.read.unit.now held_of [] (rows_held reading (held new))) (sym of.given)
     (subst (λ b. StandsBetween reading c.give-given.result.read.unit.now held_of [] (rows_held reading b.read.unit.now)) (sym given) of.rows) in
-    let root = root_read reading new c.read_entry.new.entry new.given.entries c.in_ok-read_entry.field-0 new.given.readable (c.in_ok-read_entry.ensures.reads [] (rows_held reading (held new)) stands) in
-    record {
+    rw c.and.ensures
+    (root_or_refused reading new c.read_entry.new.entry s new.given.entries c.read_entry.result new.given.readable (c.read_entry.ensures.reads [] (rows_held reading (held new)) stands)
+    (λ root. record {
       left = p.1;
       file = s.found.numbered;
       given =
@@ -53,4 +47,4 @@ returns g c =
       less = root.less;
       under = root.under;
       root_unit = root.read_unit;
-    }
+    }))

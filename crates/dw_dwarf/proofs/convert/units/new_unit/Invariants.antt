@@ -1,9 +1,9 @@
 use Rattle.std.proofs.Common.{◌≡◌}
 use Rattle.dw_dwarf.specs.NewUnits.{unit_with}
-use Rattle.dw_dwarf.proofs.convert.units.reserve.Given as goal
+use Rattle.dw_dwarf.proofs.convert.units.new_unit.Given as goal
 
 abbrev pub invariant-loop : goal.invariant-loop
 invariant-loop l = record {
-  unit : l.unit ≡ unit_with l.initial.unit.encoding l.unit.reserved;
+  unit : l.unit ≡ unit_with l.fn.encoding l.unit.reserved;
   reserved : l.unit.reserved ≡ l.counter;
 }
