@@ -20,7 +20,7 @@ use Rattle.dw_convert.specs.AttributeLists.{is_dropped, kept, last_or, once_but,
 use Rattle.dw_convert.specs.Tables.{Tables}
 use Rattle.dw_dwarf.specs.ConvertedEntries.{Values, attribute_of}
 use Rattle.dw_dwarf.specs.Placed.{unconverted, with_placed, with_contents, with_converted}
-use Rattle.dw_dwarf.specs.Plans.{Plan, names_sibling}
+use Rattle.dw_entry_ids.specs.Plans.{Plan, names_sibling}
 use Rattle.dw_dwarf.specs.ConvertSteps.{tables_in, BecomesEntry}
 
 -- an id whose entry isn't converted yet is reserved, but for the root's

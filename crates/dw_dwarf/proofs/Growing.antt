@@ -11,7 +11,7 @@ use Rattle.dw_entries.proofs.Filled.{filled_up-same}
 use Rattle.dw_entries.specs.Entries.{EntryValue, blank_entry, compile_unit_tag, filled_from, filled_up, placed_under, with_added, with_changed, with_child, with_new_child}
 use Rattle.dw_dwarf.specs.ConvertedEntries.{Values, attribute_of, children_of, built_entry, built_entries}
 use Rattle.dw_dwarf.specs.Placed.{unconverted, with_contents, with_converted}
-use Rattle.dw_dwarf.specs.Plans.{Plan, names_sibling}
+use Rattle.dw_entry_ids.specs.Plans.{Plan, names_sibling}
 
 -- so many entries from an id on that aren't converted yet
 abbrev pub unconverted_from : ℕ → ℕ → List EntryValue

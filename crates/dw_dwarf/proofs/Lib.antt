@@ -11,10 +11,8 @@ pub mod Left
 mod Setting
 mod Becoming
 mod Growing
-mod Planning
-mod Passing
+mod AttributesSeen
 mod Walking
-mod Cursor
 mod Worked
 pub mod Ready
 mod Rooted

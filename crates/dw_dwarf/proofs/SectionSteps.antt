@@ -12,7 +12,7 @@ use Rattle.dw_read.specs.declared.reader.Reader as Reader
 use Rattle.dw_sources.specs.declared.convert_error.ConvertError.{ConvertError}
 use Rattle.dw_dwarf.specs.Converters.{HandsOutEntry, ReadsEntry, held, above}
 use Rattle.dw_dwarf.specs.Readable.{IsReadable, rows_held}
-use Rattle.dw_dwarf.specs.UnitCursor.{HandsOutRow}
+use Rattle.dw_entry_ids.specs.UnitCursor.{HandsOutRow}
 use Rattle.dw_dwarf.specs.UnitEntries.{IsLess}
 use Rattle.dw_dwarf.specs.declared.convert.convert_unit.ConvertUnit.{ConvertUnit}
 use Rattle.dw_dwarf.specs.UnitSections.{HandsOut, HandsOutUnit}

@@ -22,14 +22,14 @@ use Rattle.dw_convert.specs.Attributes.{Seen, seen}
 use Rattle.dw_convert.specs.AttributeLists.{AreConverted, RefusesAttribute}
 use Rattle.dw_convert.specs.Tables.{Tables}
 use Rattle.dw_dwarf.proofs.Growing.{AreNumbered, AreBelow, unconverted_from, numbered_more, below_more, grown as entries_grown, grown_count, length-built}
-use Rattle.dw_dwarf.proofs.Passing.{attributes_seen}
-use Rattle.dw_dwarf.proofs.Planning.{parent_below, plans_more, plans_one, plans_none, plans_around, count_more}
+use Rattle.dw_dwarf.proofs.AttributesSeen.{attributes_seen}
+use Rattle.dw_entry_ids.proofs.Planning.{parent_below, plans_more, plans_one, plans_none, plans_around, count_more}
 use Rattle.dw_dwarf.specs.ConvertedEntries.{Values, built_entries, seen_in, EntryConverts, EntriesConvert}
 use Rattle.dw_dwarf.specs.Placed.{unconverted, with_converted}
-use Rattle.dw_dwarf.specs.Plans.{Plan, parent_behind, plan_of, plans_of, plans_behind}
+use Rattle.dw_entry_ids.specs.Plans.{Plan, parent_behind, plan_of, plans_of, plans_behind}
 use Rattle.dw_dwarf.specs.ConvertSteps.{CanConvert, BecomesEntry, ConvertsEntries, RefusesEntry}
-use Rattle.dw_dwarf.specs.UnitCursor.{StandsBetween, HandsOutRow, HandsOutNone}
-use Rattle.dw_dwarf.specs.declared.convert.unit_rows.UnitRows.{UnitRows}
+use Rattle.dw_entry_ids.specs.UnitCursor.{StandsBetween, HandsOutRow, HandsOutNone}
+use Rattle.dw_entry_ids.specs.declared.unit_rows.UnitRows.{UnitRows}
 
 -- ---- lists
 same_rows : (xs ys : List Row) → ◌≡◌ {A = Result (List Row) ReadError} (Ok xs) (Ok ys) → xs ≡ ys

@@ -2,7 +2,7 @@
 use Rattle.std.proofs.Common.{◌≡◌, [], ◌∷◌, List, ℕ, Bool, true, false, refl}
 use Rattle.dw_base.specs.Entries.{ReadEntry, Open, Null, Row}
 use Rattle.dw_dwarf.specs.ConvertedEntries.{children_of}
-use Rattle.dw_dwarf.specs.Plans.{Plan, plans_of}
+use Rattle.dw_entry_ids.specs.Plans.{Plan, plans_of}
 
 -- an entry of a tag, with a list of children or without
 abbrev entry : ℕ → Bool → ReadEntry

@@ -16,7 +16,7 @@ use Rattle.dw_tree.specs.UnitValue.{UnitValue}
 use Rattle.dw_convert.specs.Attributes.{Seen}
 use Rattle.dw_convert.specs.AttributeLists.{AreConverted}
 use Rattle.dw_convert.specs.Tables.{Tables}
-use Rattle.dw_dwarf.specs.Plans.{Plan, plans_of}
+use Rattle.dw_entry_ids.specs.Plans.{Plan, plans_of}
 use Rattle.dw_dwarf.specs.Placed.{with_converted}
 use Rattle.dw_dwarf.specs.ConvertedEntries.{Values, built_entries, EntriesConvert, EntryRefuses}
 

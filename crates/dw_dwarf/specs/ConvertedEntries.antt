@@ -17,7 +17,7 @@ use Rattle.dw_sources.specs.declared.convert_error.ConvertError.{ConvertError}
 use Rattle.dw_convert.specs.Attributes.{Seen}
 use Rattle.dw_convert.specs.AttributeLists.{AreConverted, RefusesAttribute}
 use Rattle.dw_convert.specs.Tables.{Tables}
-use Rattle.dw_dwarf.specs.Plans.{Plan, names_sibling}
+use Rattle.dw_entry_ids.specs.Plans.{Plan, names_sibling}
 
 -- the values that the attributes of an entry become, under their names
 abbrev pub Values : Type 0

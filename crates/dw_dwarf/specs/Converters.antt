@@ -16,7 +16,7 @@ use Rattle.dw_convert.specs.Tables.{Tables}
 use Rattle.dw_dwarf.specs.ConvertSteps.{tables_in}
 use Rattle.dw_dwarf.specs.EntryRefs.{entry_of, info_of}
 use Rattle.dw_dwarf.specs.NewUnits.{IsNewUnit}
-use Rattle.dw_dwarf.specs.UnitCursor.{StandsBetween, HandsOutRow, HandsOutNone}
+use Rattle.dw_entry_ids.specs.UnitCursor.{StandsBetween, HandsOutRow, HandsOutNone}
 use Rattle.dw_dwarf.specs.UnitEntries.{IsLess}
 use Rattle.dw_dwarf.specs.declared.convert.convert_unit.ConvertUnit.{ConvertUnit}
 use Rattle.dw_dwarf.specs.declared.convert.unit_entry.ConvertUnitEntry.{ConvertUnitEntry}

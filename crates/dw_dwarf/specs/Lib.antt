@@ -4,7 +4,6 @@ pub mod Lists
 pub mod Written
 pub mod LineNames
 pub mod Left
-pub mod Plans
 pub mod Placed
 pub mod ConvertedEntries
 pub mod ConvertSteps
@@ -14,8 +13,6 @@ pub mod EntryRefs
 pub mod NewUnits
 pub mod ConvertedUnits
 pub mod ConvertedDwarf
-pub mod UnitCursor
-pub mod UnitWalk
 pub mod Readable
 pub mod FoundUnits
 pub mod UnitEntries

@@ -7,7 +7,7 @@ use Rattle.dw_read.specs.Reading.{Reading}
 use Rattle.dw_read.specs.Rows.{entry_of}
 use Rattle.dw_read.specs.declared.entry.DebuggingInformationEntry.{DebuggingInformationEntry}
 use Rattle.dw_dwarf.specs.ConvertedEntries.{Values, attribute_of}
-use Rattle.dw_dwarf.specs.Plans.{Plan, names_sibling}
+use Rattle.dw_entry_ids.specs.Plans.{Plan, names_sibling}
 
 -- what stands under an id before its entry is converted
 abbrev pub unconverted : ℕ → EntryValue

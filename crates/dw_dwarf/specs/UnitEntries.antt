@@ -12,7 +12,7 @@ use Rattle.dw_read_units.specs.declared.unit_ref.UnitRef.{UnitRef}
 use Rattle.dw_sources.specs.ConvertErrors.{from_read}
 use Rattle.dw_sources.specs.declared.convert_error.ConvertError.{ConvertError}
 use Rattle.dw_convert.specs.AttributeLists.{is_dropped}
-use Rattle.dw_dwarf.specs.Plans.{names_sibling}
+use Rattle.dw_entry_ids.specs.Plans.{names_sibling}
 use Rattle.dw_dwarf.specs.declared.convert.unit_entry.ConvertUnitEntry.{ConvertUnitEntry}
 
 -- what is written has these attributes of its own; views of locations are left to those who convert

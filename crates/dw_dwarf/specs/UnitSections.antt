@@ -15,7 +15,7 @@ use Rattle.dw_dwarf.specs.DwarfValue.{DwarfValue, dwarf_in}
 use Rattle.dw_dwarf.specs.FoundUnits.{IsGiven}
 use Rattle.dw_dwarf.specs.NewUnits.{unit_for}
 use Rattle.dw_dwarf.specs.Readable.{rows_held}
-use Rattle.dw_dwarf.specs.UnitCursor.{HandsOutRow}
+use Rattle.dw_entry_ids.specs.UnitCursor.{HandsOutRow}
 use Rattle.dw_dwarf.specs.UnitEntries.{IsLess}
 use Rattle.dw_dwarf.specs.declared.convert.convert_unit.ConvertUnit.{ConvertUnit}
 use Rattle.dw_dwarf.specs.declared.convert.unit_entry.ConvertUnitEntry.{ConvertUnitEntry}

@@ -12,7 +12,6 @@ mod refs;
 mod unit;
 mod unit_entry;
 mod unit_lines;
-mod unit_rows;
 mod unit_section;
 mod unit_values;
 mod units;

@@ -24,7 +24,7 @@ use Rattle.dw_dwarf.specs.ConvertedEntries.{Values, built_entries, EntriesConver
 use Rattle.dw_dwarf.specs.ConvertedPrograms.{header_at, ProgramBecomes, ProgramConverts}
 use Rattle.dw_dwarf.specs.ConvertedUnit.{ConvertsUnit, with_program}
 use Rattle.dw_dwarf.specs.ConvertSteps.{tables_in, ConvertsEntries}
-use Rattle.dw_dwarf.specs.Plans.{Plan, plans_of}
+use Rattle.dw_entry_ids.specs.Plans.{Plan, plans_of}
 use Rattle.dw_dwarf_laws.proofs.Attributes.{Both, attributes_once}
 use Rattle.dw_dwarf_laws.proofs.ConvertedExpressions.{AnswersOnce}
 use Rattle.dw_dwarf_laws.proofs.Headers.{IsClosed}

@@ -1,2 +1,5 @@
 pub mod Ids
 pub mod Units
+pub mod Plans
+pub mod UnitCursor
+pub mod UnitWalk

@@ -14,11 +14,11 @@ use crate::convert::found::GivenUnit;
 use crate::convert::fresh::is_fresh_unit;
 use crate::convert::program::set_program;
 use crate::convert::unit_entry::ConvertUnitEntry;
-use crate::convert::unit_rows::UnitRows;
 use dw_base::{
     DebugInfoOffset, DebugInfoRef, DwTag, FileId, Result, UnitEntryId, UnitId, UnitOffset,
 };
 use dw_convert::ConvertDebugInfoRef;
+use dw_entry_ids::UnitRows;
 use dw_read::Reader;
 use dw_read_units::UnitRef;
 use dw_sources::{ConvertError, ConvertResult};
@@ -70,9 +70,7 @@ impl<'a, R: Reader> ConvertUnit<'a, R> {
         ensures { IsTrue result ↔ IsFresh self.now }
     {
         let encoding = self.given.read.encoding();
-        self.rows.count == 1
-            && !self.rows.is_ended
-            && is_fresh_unit(self.unit, encoding, self.given.entries)
+        self.rows.is_behind_root() && is_fresh_unit(self.unit, encoding, self.given.entries)
     }
 
     /// The id of the unit that is written.

@@ -5,9 +5,9 @@ ghost use Rattle.dw_sources.specs.declared.convert_error.ConvertError.TheVariant
 ghost use Rattle.dw_dwarf.specs.ConvertSteps.{tables_in, CanConvert, ConvertsEntries, RefusesEntry};
 
 use crate::convert::entry::convert_entry;
-use crate::convert::unit_rows::UnitRows;
 use dw_base::{Address, FileId};
 use dw_convert::ConvertDebugInfoRef;
+use dw_entry_ids::UnitRows;
 use dw_read::{DebuggingInformationEntry, Reader};
 use dw_read_units::UnitRef;
 use dw_sources::ConvertResult;

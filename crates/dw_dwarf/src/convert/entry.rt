@@ -11,7 +11,7 @@ ghost use Rattle.dw_convert.specs.Attributes.{seen};
 ghost use Rattle.dw_convert.specs.AttributeLists.{AreConverted, RefusesAttribute};
 ghost use Rattle.dw_dwarf.specs.ConvertedEntries.{attribute_of};
 ghost use Rattle.dw_dwarf.specs.Placed.{unconverted, with_placed, with_contents, plan_for};
-ghost use Rattle.dw_dwarf.specs.Plans.{names_sibling};
+ghost use Rattle.dw_entry_ids.specs.Plans.{names_sibling};
 ghost use Rattle.dw_dwarf.specs.ConvertSteps.{tables_in, BecomesEntry};
 
 use crate::convert::attributes::set_attributes;

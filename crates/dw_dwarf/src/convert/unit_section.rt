@@ -2,15 +2,15 @@
 
 ghost use Rattle.std.specs.Prelude.{◌≡◌, [], None};
 ghost use Rattle.dw_dwarf.specs.Readable.{rows_held};
-ghost use Rattle.dw_dwarf.specs.UnitCursor.{StandsBetween};
+ghost use Rattle.dw_entry_ids.specs.UnitCursor.{StandsBetween};
 ghost use Rattle.dw_dwarf.specs.UnitSections.{PassesUnit, HandsOut};
 
 use crate::convert::convert_unit::ConvertUnit;
 use crate::convert::found::{FoundUnits, GivenUnit};
 use crate::convert::unit_entry::ConvertUnitEntry;
-use crate::convert::unit_rows::UnitRows;
 use crate::dwarf::Dwarf;
 use dw_base::UnitId;
+use dw_entry_ids::UnitRows;
 use dw_read::Reader;
 use dw_sources::ConvertResult;
 use dw_strings::{LineStringTable, StringTable};

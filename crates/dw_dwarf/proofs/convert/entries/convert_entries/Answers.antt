@@ -2,9 +2,10 @@ use Rattle.std.proofs.Common.{◌≡◌, ◌∙◌, ap, subst, ◌<◌, List, le
 use Rattle.dw_base.specs.declared.ids.UnitEntryId.{UnitEntryId}
 use Rattle.dw_entries.specs.Entries.{EntryValue}
 use Rattle.dw_tree.specs.UnitValue.{UnitValue}
+use Rattle.dw_sources.specs.ConvertErrors.{from_read}
 use Rattle.dw_dwarf.proofs.Setting.{is_err}
 use Rattle.dw_dwarf.proofs.Walking.{converted_none, converted_more, converted_end, converted_refused, not_yet, id_in, one_less, parent_in, some}
-use Rattle.dw_dwarf.specs.UnitWalk.{WalksOn}
+use Rattle.dw_entry_ids.specs.UnitWalk.{WalksOn}
 use Rattle.dw_dwarf.proofs.convert.entries.convert_entries.Goals as goal
 
 pub rows-init : goal.rows-init
@@ -17,7 +18,7 @@ rows-init g c =
 pub returns-in_err-id-clause-err : goal.returns-in_err-id-clause-err
 returns-in_err-id-clause-err g c =
     let w = c.rows.invariant in
-    rw (is_err _ _ c.from_residual.ensures) (inl (c.in_err-id.ensures.walks c.args.read.unit.now w.front w.rest w.stands))
+    rw (is_err _ _ c.from_residual.ensures) (inl (ap from_read (c.in_err-id.ensures.walks c.args.read.unit.now w.front w.rest w.stands)))
 
 pub convert_entry-requires-clause-some : goal.convert_entry-requires-clause-some
 convert_entry-requires-clause-some g c = some _ _ _ _ _ _ _ _ _ _ _ c.rows.invariant

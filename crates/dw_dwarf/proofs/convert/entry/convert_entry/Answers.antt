@@ -7,7 +7,7 @@ use Rattle.dw_dwarf.proofs.Becoming.{names_distinct, becomes, placed_none, reser
 use Rattle.dw_dwarf.proofs.Setting.{is_err}
 use Rattle.dw_dwarf.specs.ConvertSteps.{tables_in}
 use Rattle.dw_dwarf.specs.Placed.{plan_for}
-use Rattle.dw_dwarf.specs.Plans.{names_sibling}
+use Rattle.dw_entry_ids.specs.Plans.{names_sibling}
 use Rattle.dw_dwarf.proofs.convert.entry.convert_entry.Goals.{then-ne, else-ne}
 use Rattle.dw_dwarf.proofs.convert.entry.convert_entry.Goals as goal
 

@@ -2,7 +2,7 @@ use Rattle.std.proofs.Common.{◌≡◌, ◌∙◌, sym, ap, Bool, true, false, 
 use Rattle.std.specs.Prelude.{Result, OnOk, OnErr}
 use Rattle.std.specs.Result.{is_ok}
 use Rattle.dw_writer.proofs.Outcomes.{OnOk-map}
-use Rattle.dw_dwarf.specs.declared.convert.unit_rows.UnitRows.{UnitRows}
+use Rattle.dw_entry_ids.specs.declared.unit_rows.UnitRows.{UnitRows}
 use Rattle.dw_dwarf.proofs.convert.convert_unit.ConvertUnit.convert.Goals as goal
 
 -- none is left to be read of a unit that was converted, and as many as before of one that was refused

@@ -2,14 +2,15 @@ use Rattle.std.proofs.Common.{◌∙◌, ap, subst, ℕ, not, Option, Ok}
 use Rattle.std.specs.Bool.{then_some}
 use Rattle.std.specs.Prelude.{◌==◌}
 use Rattle.dw_base.specs.declared.ids.UnitEntryId.{UnitEntryId}
+use Rattle.dw_sources.specs.ConvertErrors.{from_read}
 use Rattle.dw_dwarf.proofs.SectionSteps.{above_is}
 use Rattle.dw_dwarf.proofs.Setting.{is_err}
 use Rattle.dw_dwarf.specs.Converters.{held}
-use Rattle.dw_dwarf.specs.UnitWalk.{WalksOn}
+use Rattle.dw_entry_ids.specs.UnitWalk.{WalksOn}
 use Rattle.dw_dwarf.proofs.convert.convert_unit.ConvertUnit.read_entry.Goals as goal
 
 pub returns-in_err-id-clause-reads : goal.returns-in_err-id-clause-reads
-returns-in_err-id-clause-reads g c = λ front rest s. rw (is_err _ _ c.from_residual.ensures) (c.in_err-id.ensures.walks (held c.args.self.now) front rest s)
+returns-in_err-id-clause-reads g c = λ front rest s. rw (is_err _ _ c.from_residual.ensures) (ap from_read (c.in_err-id.ensures.walks (held c.args.self.now) front rest s))
 
 pub returns-in_default-clause-reads : goal.returns-in_default-clause-reads
 returns-in_default-clause-reads g c = λ front rest s.

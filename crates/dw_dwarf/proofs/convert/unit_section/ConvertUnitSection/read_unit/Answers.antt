@@ -4,7 +4,7 @@ use Rattle.dw_dwarf.proofs.SectionSteps.{root_or_refused}
 use Rattle.dw_dwarf.specs.Converters.{held}
 use Rattle.dw_dwarf.specs.FoundUnits.{IsGiven}
 use Rattle.dw_dwarf.specs.Readable.{rows_held}
-use Rattle.dw_dwarf.specs.UnitCursor.{StandsBetween}
+use Rattle.dw_entry_ids.specs.UnitCursor.{StandsBetween}
 use Rattle.dw_dwarf.proofs.convert.unit_section.ConvertUnitSection.read_unit.Goals as goal
 
 pub returns : goal.returns

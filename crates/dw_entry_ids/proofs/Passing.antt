@@ -1,5 +1,5 @@
--- A row that is read, as the conversion sees it.
-use Rattle.std.proofs.Common.{◌≡◌, ◌≢◌, ◌∙◌, ap, ℕ, suc, List, [], ◌∷◌, map, All, Option, Some, None, Bool, true, false, refl, arith}
+-- A row that is read, as the walk over rows sees it.
+use Rattle.std.proofs.Common.{◌≡◌, ◌≢◌, ◌∙◌, ap, ℕ, suc, List, [], ◌∷◌, All, Option, Some, None, Bool, true, false, arith}
 use Rattle.std.specs.Prelude.{◌==◌, if◌then◌else◌}
 use Rattle.std.proofs.lemmas.Bool.{false≢true}
 use Rattle.dw_base.proofs.NumberLaws.{bind_parts}
@@ -10,19 +10,11 @@ use Rattle.dw_base.specs.Numbers.{◌>>=◌}
 use Rattle.dw_base.specs.declared.common.Encoding.{Encoding}
 use Rattle.dw_read.proofs.Chain.{took_of}
 use Rattle.dw_read.proofs.FormLaws.{mark_law}
-use Rattle.dw_read.specs.Attributes.{attribute_of}
-use Rattle.dw_read.specs.Operands.{operand_of}
-use Rattle.dw_read.specs.Orders.{attribute_order, operand_order, IsInOrder}
 use Rattle.dw_read.specs.Reading.{Reading, left}
 use Rattle.dw_read.specs.Rows.{PassesEntry, PassesNull, entry_of, row_at, row_read}
-use Rattle.dw_read.specs.declared.attribute.Attribute.{Attribute}
 use Rattle.dw_read.specs.declared.entries.EntriesRaw.{EntriesRaw}
 use Rattle.dw_read.specs.declared.entry.DebuggingInformationEntry.{DebuggingInformationEntry}
-use Rattle.dw_read.specs.declared.operand.Operand.{Operand}
-use Rattle.dw_read.specs.declared.operand.Operand.TheVariants as held
 use Rattle.dw_read_units.specs.Passes.{PassesRow}
-use Rattle.dw_convert.specs.Attributes.{Seen, seen}
-use Rattle.dw_dwarf.specs.ConvertedEntries.{order_in, seen_in}
 
 -- a shape that is found is that of a declaration
 found_tagged : (table : List Declaration) (code : ℕ) (s : Shape) → All (λ (d : Declaration). d.shape.tag ≢ 0) table → shape_of_code table code ≡ Some s → s.tag ≢ 0
@@ -90,18 +82,3 @@ module _ {R E : Type 0} (reading : R → Reading) (old new : EntriesRaw R E) whe
 
     pub tag_passes : All (λ (d : Declaration). d.shape.tag ≢ 0) old.abbreviations.now → after.tag.0 ≢ 0
     tag_passes t = entry_tagged (reading old.input).is_big old.fields.now.encoding old.abbreviations.now (left (reading old.input)) (left (reading new.input)) (entry_of reading e.code after) t e.row.value
-
--- the byte order of an operand's bytes is that of the section
-order_seen : {R E : Type 0} (reading : R → Reading) (big : Bool) (o : Operand R E) → IsInOrder big (operand_order reading o) → operand_order reading o ≡ order_in big (operand_of reading o)
-order_seen reading big held.Absent h = refl
-order_seen reading big (held.Number n) h = refl
-order_seen reading big (held.Signed z) h = refl
-order_seen reading big (held.Bytes r) h = ap Some h
-order_seen reading big (held.Text r) h = ap Some h
-
--- the attributes of an entry that is read
-pub attributes_seen : {R E : Type 0} (reading : R → Reading) (big : Bool) (e : Encoding) (xs : List (Attribute R E)) → All (λ (a : Attribute R E). a.encoding ≡ e) xs → All (λ (a : Attribute R E). IsInOrder big (attribute_order reading a)) xs → map (seen reading) xs ≡ map (seen_in big e) (map (attribute_of reading) xs)
-attributes_seen reading big e [] h o = refl
-attributes_seen reading big e (x ∷ xs) h o =
-    let a : seen reading x ≡ seen_in big e (attribute_of reading x) = ap (λ (y : Encoding). (y, attribute_of reading x, attribute_order reading x)) (h 0 x (omega arith)) ∙ ap (λ (y : Option Bool). (e, attribute_of reading x, y)) (order_seen reading big x.operand (o 0 x (omega arith))) in
-    ap (λ (y : Seen). y ∷ map (seen reading) xs) a ∙ ap (λ (ys : List Seen). seen_in big e (attribute_of reading x) ∷ ys) (attributes_seen reading big e xs (λ k d l. h (suc k) d (omega (arith, l))) (λ k d l. o (suc k) d (omega (arith, l))))

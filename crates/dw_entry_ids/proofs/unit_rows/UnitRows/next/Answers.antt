@@ -1,16 +1,15 @@
 use Rattle.std.proofs.Common.{◌≡◌, ◌≢◌, ◌∙◌, sym, ap, subst, ◌+◌, ◌^◌, ◌<◌, List, All, length, Bool, true, Ok, ⊎_elim, refl, arith}
+use Rattle.std.proofs.lemmas.Result.{err_from_is_err_and}
 use Rattle.dw_base.specs.Abbreviations.{Declaration}
 use Rattle.dw_base.specs.declared.ids.UnitEntryId.{UnitEntryId}
 use Rattle.dw_read.specs.Reading.{left}
 use Rattle.dw_read.specs.Rows.{ReadsRow, PassesEntry}
 use Rattle.dw_read_units.proofs.RowWalk.{row_shorter}
-use Rattle.dw_sources.specs.ConvertErrors.{from_read}
-use Rattle.dw_dwarf.proofs.Cursor.{numbers_of, numbers_more, passed_none, passed_more, hands_row, hands_none, never_refused, can_number}
-use Rattle.dw_dwarf.proofs.Passing.{null_passes, tag_passes}
-use Rattle.dw_dwarf.proofs.Setting.{is_err}
-use Rattle.dw_dwarf.specs.Plans.{last_or_root}
-use Rattle.dw_dwarf.specs.declared.convert.unit_rows.UnitRows.{UnitRows}
-use Rattle.dw_dwarf.proofs.convert.unit_rows.UnitRows.next.Goals as goal
+use Rattle.dw_entry_ids.proofs.Cursor.{numbers_of, numbers_more, passed_none, passed_more, hands_row, hands_none, never_refused, can_number}
+use Rattle.dw_entry_ids.proofs.Passing.{null_passes, tag_passes}
+use Rattle.dw_entry_ids.specs.Plans.{last_or_root}
+use Rattle.dw_entry_ids.specs.declared.unit_rows.UnitRows.{UnitRows}
+use Rattle.dw_entry_ids.proofs.unit_rows.UnitRows.next.Goals as goal
 
 pub rows-init : goal.rows-init
 rows-init g c = (λ u front rest s. passed_none g.R.Reader.reading u c.args.self.now front rest s, c.if-self.false)
@@ -19,9 +18,9 @@ pub returns-in_err-read_entry-clause-walks : goal.returns-in_err-read_entry-clau
 returns-in_err-read_entry-clause-walks g c =
     let reading = g.R.Reader.reading in
     let more : length (left (reading c.rows.self.rows.input)) ≡ 0 → ⊥ = λ z. let t : c.is_empty.result ≡ true = c.is_empty.ensures.1 z in cc in
+    let p = err_from_is_err_and c.from_residual.result c.from_residual.ensures.1 in
     λ u front rest s.
-    rw (is_err _ _ c.from_residual.ensures)
-    (⊎_elim (λ n. ap from_read n) (λ r. absurd (never_refused reading u c.rows.self c.read_entry.new.self front rest _ (c.rows.invariant.0 u front rest s) more r.reason)) c.in_err-read_entry.ensures.1)
+    rw (p.1, p.2) (⊎_elim (λ n. n) (λ r. absurd (never_refused reading u c.rows.self c.read_entry.new.self front rest _ (c.rows.invariant.0 u front rest s) more r.reason)) c.in_err-read_entry.ensures.1)
 
 pub rows-smaller : goal.rows-smaller
 rows-smaller g c =

@@ -2,9 +2,9 @@ use Rattle.std.proofs.Common.{◌≡◌, List, length, false}
 use Rattle.dw_base.specs.Entries.{Row}
 use Rattle.dw_read.specs.Reading.{left}
 use Rattle.dw_read_units.specs.declared.dwarf.Unit.{Unit as UnitFields}
-use Rattle.dw_dwarf.specs.UnitCursor.{StandsBetween}
-use Rattle.dw_dwarf.proofs.Cursor.{PassedNulls}
-use Rattle.dw_dwarf.proofs.convert.unit_rows.UnitRows.next.Given as goal
+use Rattle.dw_entry_ids.specs.UnitCursor.{StandsBetween}
+use Rattle.dw_entry_ids.proofs.Cursor.{PassedNulls}
+use Rattle.dw_entry_ids.proofs.unit_rows.UnitRows.next.Given as goal
 
 abbrev pub invariant-rows : goal.invariant-rows
 invariant-rows g l =

@@ -21,11 +21,11 @@ use Rattle.dw_read.specs.declared.fields.Fields.{Fields}
 use Rattle.dw_read_units.proofs.RowWalk.{WalkedRows, row_here, walked_none, walked_more, walked_end, walked_refused, row_shorter}
 use Rattle.dw_read_units.specs.Passes.{PassesRow, rows_reading}
 use Rattle.dw_read_units.specs.declared.dwarf.Unit.{Unit as UnitFields}
-use Rattle.dw_dwarf.proofs.Passing.{entry_passes}
-use Rattle.dw_dwarf.proofs.Planning.{under_last, opened_above, opened_entry, opened_null}
-use Rattle.dw_dwarf.specs.Plans.{counted, last_at, last_or_root, opened, or_root}
-use Rattle.dw_dwarf.specs.UnitCursor.{StandsBetween, HandsOutRow, HandsOutNone}
-use Rattle.dw_dwarf.specs.declared.convert.unit_rows.UnitRows.{UnitRows}
+use Rattle.dw_entry_ids.proofs.Passing.{entry_passes}
+use Rattle.dw_entry_ids.proofs.Planning.{under_last, opened_above, opened_entry, opened_null}
+use Rattle.dw_entry_ids.specs.Plans.{counted, last_at, last_or_root, opened, or_root}
+use Rattle.dw_entry_ids.specs.UnitCursor.{StandsBetween, HandsOutRow, HandsOutNone}
+use Rattle.dw_entry_ids.specs.declared.unit_rows.UnitRows.{UnitRows}
 
 -- the last of the open lists is closed
 take_front : (xs : List ℕ) (y n : ℕ) → n ≡ length xs → take n (xs ++ y ∷ []) ≡ xs

@@ -1,35 +1,43 @@
-//! The rows of a unit that is converted.
+//! A walk over the entries of a unit.
 
-ghost use Rattle.std.specs.Prelude.{◌≡◌, ◌≤◌, ◌++◌, ◌∷◌, List, [], map, true, Ok, None, if◌then◌else◌, IfErr, OnOk};
+ghost use Rattle.std.specs.Prelude.{◌≡◌, ◌↔◌, ◌≤◌, ◌++◌, ◌∷◌, List, [], map, true, false, Ok, None, if◌then◌else◌, IfErr, IsTrue, OnOk};
 ghost use Rattle.dw_base.specs.Entries.{Row};
 ghost use Rattle.dw_read_units.specs.Passes.{rows_reading};
 ghost use Rattle.dw_read_units.specs.declared.dwarf.Unit.{Unit as UnitFields};
-ghost use Rattle.dw_sources.specs.declared.convert_error.ConvertError.TheVariants.{NoMemory};
-ghost use Rattle.dw_dwarf.specs.Plans.{last_or_root};
-ghost use Rattle.dw_dwarf.specs.UnitCursor.{StandsBetween};
-ghost use Rattle.dw_dwarf.specs.UnitWalk.{WalksOn};
+ghost use Rattle.dw_read.specs.declared.error.ReadError.TheVariants.{NoMemory};
+ghost use Rattle.dw_entry_ids.specs.Plans.{last_or_root};
+ghost use Rattle.dw_entry_ids.specs.UnitCursor.{StandsBetween};
+ghost use Rattle.dw_entry_ids.specs.UnitWalk.{WalksOn};
 
 use dw_base::UnitEntryId;
-use dw_read::{DebuggingInformationEntry, EntriesRaw, Reader};
+use dw_read::{DebuggingInformationEntry, EntriesRaw, ReadResult, Reader};
 use dw_read_units::Unit;
-use dw_sources::ConvertResult;
 use std::alloc::Global;
 
-/// Where the rows of a unit are read, with what is known of the entries before that.
+/// Where the rows of a unit are read, with what is known of the entries before that: how many there
+/// were, and under which of them the next one stands (DWARF 5, 2.3).
+///
+/// ```
+/// let mut rows = UnitRows::new(alloc, &unit);
+/// let mut entry = DebuggingInformationEntry::new(alloc);
+/// while let Some((id, parent)) = rows.next(&mut entry)? {
+///     let tag = entry.tag;
+/// }
+/// ```
 #[derive(Drop)]
-pub(crate) struct UnitRows<'a, R: Reader> {
+pub struct UnitRows<'a, R: Reader> {
     pub(crate) rows: EntriesRaw<'a, R>,
     /// How many entries were read, so the number of the next.
     pub(crate) count: usize,
     /// Those whose lists of children are open, the outermost first.
     pub(crate) parents: Vec<UnitEntryId>,
     /// All of them were converted at once, so that none is left.
-    pub(crate) is_ended: bool,
+    pub is_ended: bool,
 }
 
 impl<'a, R: Reader> UnitRows<'a, R> {
     /// The rows of a unit, from the first on.
-    pub(crate) fn new(alloc: Global, unit: &'a Unit<R>) -> UnitRows<'a, R>
+    pub fn new(alloc: Global, unit: &'a Unit<R>) -> UnitRows<'a, R>
         ensures { (all : List Row) →
             rows_reading R.reading unit.now.header unit.now.abbreviations ≡ Ok all →
             unit.now.header.offset.0 ≤ (R.reading unit.now.header.body).place →
@@ -43,12 +51,21 @@ impl<'a, R: Reader> UnitRows<'a, R> {
         }
     }
 
-    /// Reads the next entry, and answers its id and that of its parent. Null entries are passed. It
-    /// is None where no entry is left.
-    pub(crate) fn next(
+    /// Whether the root was read, and nothing behind it.
+    pub fn is_behind_root(&self) -> bool
+        ensures { IsTrue result ↔ (self.now.count ≡ 1) × (self.now.is_ended ≡ false) }
+    {
+        self.count == 1 && !self.is_ended
+    }
+
+    /// Reads the next entry, and answers its id and that of its parent, both numbered in the order
+    /// of reading, the root as 0; the root's parent is the root. Null entries are passed. It is None
+    /// where no entry is left. Where all rows of the unit can be read it is refused as `NoMemory`
+    /// alone.
+    pub fn next(
         &mut self,
         entry: &mut DebuggingInformationEntry<R>,
-    ) -> ConvertResult<Option<(UnitEntryId, UnitEntryId)>>
+    ) -> ReadResult<Option<(UnitEntryId, UnitEntryId)>>
         ensures walks { (u : UnitFields R R.Endian) (front rest : List Row) →
             StandsBetween R.reading u self.old front rest →
             WalksOn R.reading u front rest self.new entry.new result }
@@ -80,11 +97,7 @@ fn last_or_root(parents: &[UnitEntryId]) -> UnitEntryId
 }
 
 /// Opens an entry's list of children behind the others, if it has one.
-fn open_list(
-    parents: &mut Vec<UnitEntryId>,
-    has_children: bool,
-    id: UnitEntryId,
-) -> ConvertResult<()>
+fn open_list(parents: &mut Vec<UnitEntryId>, has_children: bool, id: UnitEntryId) -> ReadResult<()>
     ensures ok { OnOk result (parents.new.items
         ≡ (if has_children then parents.old.items ++ id ∷ [] else parents.old.items)) }
     ensures err { IfErr result (λ e. e ≡ NoMemory) }

@@ -10,8 +10,8 @@ use Rattle.dw_read_units.specs.Passes.{rows_reading}
 use Rattle.dw_read_units.specs.Walks.{rows_read}
 use Rattle.dw_read_units.specs.declared.dwarf.Unit.{Unit as UnitFields}
 use Rattle.dw_entry_ids.specs.Ids.{entry_count}
-use Rattle.dw_dwarf.specs.Plans.{opened, parent_behind}
-use Rattle.dw_dwarf.specs.declared.convert.unit_rows.UnitRows.{UnitRows}
+use Rattle.dw_entry_ids.specs.Plans.{opened, parent_behind}
+use Rattle.dw_entry_ids.specs.declared.unit_rows.UnitRows.{UnitRows}
 
 module _ {R E : Type 0} (reading : R → Reading) (u : UnitFields R E) where
   -- A cursor stands behind some of a unit's rows, and those that are read from there are the others. It has counted the entries

@@ -6,7 +6,7 @@ use Rattle.std.proofs.lemmas.List.{append-nil}
 use Rattle.dw_base.specs.Entries.{ReadEntry, Mark, Open, Null, Row}
 use Rattle.dw_entry_ids.specs.Ids.{is_entry, entry_count, later_or}
 use Rattle.dw_entry_ids.proofs.Steps.{later_later}
-use Rattle.dw_dwarf.specs.Plans.{Plan, counted, last_at, last_or_root, opened, or_root, parent_behind, plan_of, plans_behind, plans_of}
+use Rattle.dw_entry_ids.specs.Plans.{Plan, counted, last_at, last_or_root, opened, or_root, parent_behind, plan_of, plans_behind, plans_of}
 
 later_none : {A : Type 0} (o : Option A) → later_or o None ≡ o
 later_none None = refl
