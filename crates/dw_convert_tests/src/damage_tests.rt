@@ -1,5 +1,6 @@
 //! Sections that are cut, and sections of which a byte is turned.
 
+use crate::damage::{LONGEST, MASKS, turned};
 use crate::refusal_tests::{FIVE, FOUR, Kind, refusal};
 use dw_read::ReadError;
 use dw_sources::ConvertError;
@@ -23,61 +24,6 @@ const LOCATIONS: &[u8] = b"\x01\x01\x02\x00\x01\x01\x30\x03\x00\x10\x01\x30\x04\
 const OLD_LOCATIONS: &[u8] = b"\x01\x00\x00\x00\x02\x00\x00\x00\x01\x00\x30\
     \xff\xff\xff\xff\x00\x10\x00\x00\x03\x00\x00\x00\x04\x00\x00\x00\x02\x00\x10\x05\
     \x00\x00\x00\x00\x00\x00\x00\x00";
-
-type Whole = (Kind, &'static [u8], &'static [u8], &'static [usize]);
-
-/// What is converted, in which unit, and the lengths to which it can be cut and still be whole: a
-/// list ends at its close alone, an expression behind any operation.
-const WHOLE: &[Whole] = &[
-    (
-        Kind::Expression,
-        FIVE,
-        EXPRESSION,
-        &[0, 5, 7, 9, 12, 17, 21, 23],
-    ),
-    (Kind::Ranges, FIVE, RANGES, &[32]),
-    (Kind::Ranges, FOUR, OLD_RANGES, &[32]),
-    (Kind::Locations, FIVE, LOCATIONS, &[45]),
-    (Kind::Locations, FOUR, OLD_LOCATIONS, &[39]),
-];
-
-/// They, of which no other proof sees more.
-fn wholes() -> &'static [Whole] {
-    WHOLE
-}
-
-/// The first length to which the bytes can be cut with another answer than the one that is told.
-fn first_missed(
-    alloc: Global,
-    kind: Kind,
-    info: &[u8],
-    bytes: &[u8],
-    whole: &[usize],
-) -> Option<usize> {
-    for length in 0..=bytes.len() {
-        let wanted = if whole.contains(&length) {
-            None
-        } else {
-            Some(ConvertError::Read(ReadError::UnexpectedEof))
-        };
-        if refusal(alloc, kind, info, &bytes[..length]) != wanted {
-            return Some(length);
-        }
-    }
-    None
-}
-
-#[test]
-fn refuses_each_cut(rt: HostRuntime) {
-    for (number, case) in wholes().iter().enumerate() {
-        let (kind, info, bytes, whole) = *case;
-        let missed = first_missed(rt.alloc(), kind, info, bytes, whole);
-        assert_eq!(rt; missed, None, "of {number}");
-    }
-}
-
-/// Each bit of a byte, and all of them.
-const MASKS: [u8; 9] = [0x01, 0x02, 0x04, 0x08, 0x10, 0x20, 0x40, 0x80, 0xff];
 
 // What comes of the bytes where one of them is turned: a group for each byte, with a letter for
 // each of the nine ways to turn it. A reader in another language told them.
@@ -112,20 +58,61 @@ const OLD_LOCATIONS_TURNED: &[u8] = b"\
     XEXXEEEEE EEEEEEEEE .XXXXXX.X .......EE EEEEEEEEE EEEEEEEEE EEEEEEEEE EEEEEEEEE EEEEEEEEE \
     EEEEEEEEE EEEEEEEEE EEEEEEEEE";
 
-type Turned = (Kind, &'static [u8], &'static [u8], &'static [u8]);
+/// What is converted, in which unit, the lengths to which it can be cut and still be whole, and
+/// what comes of it where a byte is turned. A list is whole at its close alone, an expression behind
+/// any operation.
+type Row = (
+    Kind,
+    &'static [u8],
+    &'static [u8],
+    &'static [usize],
+    &'static [u8],
+);
 
-/// What is converted, in which unit, and what comes of it where a byte is turned.
-const TURNED: &[Turned] = &[
-    (Kind::Expression, FIVE, EXPRESSION, EXPRESSION_TURNED),
-    (Kind::Ranges, FIVE, RANGES, RANGES_TURNED),
-    (Kind::Ranges, FOUR, OLD_RANGES, OLD_RANGES_TURNED),
-    (Kind::Locations, FIVE, LOCATIONS, LOCATIONS_TURNED),
-    (Kind::Locations, FOUR, OLD_LOCATIONS, OLD_LOCATIONS_TURNED),
+const ROWS: &[Row] = &[
+    (
+        Kind::Expression,
+        FIVE,
+        EXPRESSION,
+        &[0, 5, 7, 9, 12, 17, 21, 23],
+        EXPRESSION_TURNED,
+    ),
+    (Kind::Ranges, FIVE, RANGES, &[32], RANGES_TURNED),
+    (Kind::Ranges, FOUR, OLD_RANGES, &[32], OLD_RANGES_TURNED),
+    (Kind::Locations, FIVE, LOCATIONS, &[45], LOCATIONS_TURNED),
+    (
+        Kind::Locations,
+        FOUR,
+        OLD_LOCATIONS,
+        &[39],
+        OLD_LOCATIONS_TURNED,
+    ),
 ];
 
 /// They, of which no other proof sees more.
-fn all_turned() -> &'static [Turned] {
-    TURNED
+fn rows() -> &'static [Row] {
+    ROWS
+}
+
+/// The first length to which the bytes can be cut with another answer than the one that is told.
+fn first_missed(
+    alloc: Global,
+    kind: Kind,
+    info: &[u8],
+    bytes: &[u8],
+    whole: &[usize],
+) -> Option<usize> {
+    for length in 0..=bytes.len() {
+        let wanted = if whole.contains(&length) {
+            None
+        } else {
+            Some(ConvertError::Read(ReadError::UnexpectedEof))
+        };
+        if refusal(alloc, kind, info, &bytes[..length]) != wanted {
+            return Some(length);
+        }
+    }
+    None
 }
 
 /// The letter of an answer, a dot where the bytes are converted.
@@ -144,18 +131,6 @@ fn letter(refused: Option<ConvertError>) -> u8 {
     }
 }
 
-/// The bytes with one byte turned.
-fn turned(bytes: &[u8], place: usize, mask: u8) -> [u8; 48] {
-    let mut copy = [0; 48];
-    for (to, from) in copy.iter_mut().zip(bytes) {
-        *to = *from;
-    }
-    if let Some(byte) = copy.get_mut(place) {
-        *byte ^= mask;
-    }
-    copy
-}
-
 /// The first byte and way to turn it of which something else comes than is told.
 fn first_untold(
     alloc: Global,
@@ -170,7 +145,7 @@ fn first_untold(
             continue;
         };
         let copy = turned(bytes, place, *mask);
-        let length = bytes.len().min(48);
+        let length = bytes.len().min(LONGEST);
         if letter(refusal(alloc, kind, info, &copy[..length])) != *letter_told {
             return Some((place, way));
         }
@@ -178,12 +153,16 @@ fn first_untold(
     None
 }
 
+/// Whether a row's bytes are answered as it tells, cut and turned.
+fn is_answered(alloc: Global, (kind, info, bytes, whole, told): Row) -> bool {
+    told.len() + 1 == bytes.len().saturating_mul(10)
+        && first_missed(alloc, kind, info, bytes, whole).is_none()
+        && first_untold(alloc, kind, info, bytes, told).is_none()
+}
+
 #[test]
-fn answers_each_byte_that_is_turned(rt: HostRuntime) {
-    for (number, case) in all_turned().iter().enumerate() {
-        let (kind, info, bytes, told) = *case;
-        let is_whole = told.len() + 1 == bytes.len().saturating_mul(10);
-        let untold = first_untold(rt.alloc(), kind, info, bytes, told);
-        assert!(rt; is_whole && untold.is_none(), "at {number}");
+fn answers_each_cut_and_each_byte_that_is_turned(rt: HostRuntime) {
+    for (number, row) in rows().iter().enumerate() {
+        assert!(rt; is_answered(rt.alloc(), *row), "at {number}");
     }
 }

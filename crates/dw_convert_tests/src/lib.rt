@@ -6,6 +6,8 @@
 #[cfg(test)]
 mod calls;
 #[cfg(test)]
+mod damage;
+#[cfg(test)]
 mod damage_tests;
 #[cfg(test)]
 mod entries;
@@ -15,6 +17,8 @@ mod items;
 mod layouts;
 #[cfg(test)]
 mod operation_tests;
+#[cfg(test)]
+mod owned;
 #[cfg(test)]
 mod program_tests;
 #[cfg(test)]

@@ -175,16 +175,8 @@ fn reads_simple(read: &mut OperationIter<Slice<'_>>) -> bool {
     true
 }
 
-/// What is read behind them, to the end.
-fn last_read(read: &mut OperationIter<Slice<'_>>) -> ReadResult<[Option<Seen>; 4]> {
-    let branch = next(read)?;
-    let skip = next(read)?;
-    let nop = next(read)?;
-    Ok([branch, skip, nop, next(read)?])
-}
-
-/// What is to be read there of so many bytes. The branch leads back to the first of them from the
-/// place behind it, which 4 bytes follow: a skip of 3 over 1.
+/// What is to be read behind them of so many bytes. The branch leads back to the first of them from
+/// the place behind it, which 4 bytes follow: a skip of 3 over 1.
 fn last_wanted(length: usize) -> [Option<Seen>; 4] {
     let length = (length % 0x4000) as i64;
     [
@@ -195,13 +187,21 @@ fn last_wanted(length: usize) -> [Option<Seen>; 4] {
     ]
 }
 
+/// Whether these are read next, where none is the end.
+fn reads(read: &mut OperationIter<Slice<'_>>, operations: &[Option<Seen>]) -> bool {
+    for wanted in operations {
+        if next(read) != Ok(*wanted) {
+            return false;
+        }
+    }
+    true
+}
+
 /// Whether the bytes of the expression are read as its operations.
 fn is_read(bytes: &[u8], layout: Layout) -> bool {
     let read = ReadExpression(reader(bytes, layout.endian));
     let mut read = OperationIter::new(read, layout.encoding);
-    reads_calls(&mut read)
-        && reads_simple(&mut read)
-        && last_read(&mut read) == Ok(last_wanted(bytes.len()))
+    reads_calls(&mut read) && reads_simple(&mut read) && reads(&mut read, &last_wanted(bytes.len()))
 }
 
 /// Whether bytes become an expression.
@@ -215,23 +215,14 @@ fn becomes(alloc: Global, bytes: &[u8], layout: Layout, wanted: &Expression) -> 
 }
 
 /// Whether every operation is written and read, and whether they come back.
-fn returns(alloc: Global, layout: Layout) -> [bool; 3] {
+fn every_returns(alloc: Global, layout: Layout) -> bool {
     let mut built = Expression::new(alloc);
     let is_built = add_every(alloc, &mut built).is_ok();
     let mut w = EndianVec::new(alloc, layout.endian);
-    [
-        is_built && write(alloc, &built, layout, &mut w).is_ok(),
-        is_read(w.slice(), layout),
-        becomes(alloc, w.slice(), layout, &built),
-    ]
-}
-
-#[test]
-fn every_operation_comes_back(rt: HostRuntime) {
-    for number in 0..LAYOUTS {
-        let answer = returns(rt.alloc(), numbered(number));
-        assert!(rt; answer == [true; 3], "at {number}");
-    }
+    is_built
+        && write(alloc, &built, layout, &mut w).is_ok()
+        && is_read(w.slice(), layout)
+        && becomes(alloc, w.slice(), layout, &built)
 }
 
 /// Bytes that were given as they are spelled: `DW_OP_constu` 23.
@@ -254,7 +245,7 @@ fn is_raw(alloc: Global, layout: Layout) -> bool {
 fn is_constant(layout: Layout) -> bool {
     let read = ReadExpression(reader(&RAW, layout.endian));
     let mut read = OperationIter::new(read, layout.encoding);
-    next(&mut read) == Ok(Some((DW_OP_constu, 23, 0, 0))) && next(&mut read) == Ok(None)
+    reads(&mut read, &[Some((DW_OP_constu, 23, 0, 0)), None])
 }
 
 /// Whether they become that operation.
@@ -263,13 +254,17 @@ fn is_spelled(alloc: Global, layout: Layout) -> bool {
     wanted.op_constu(23).is_ok() && becomes(alloc, &RAW, layout, &wanted)
 }
 
+/// Whether operations by calls come back, and bytes that were given.
+fn all_return(alloc: Global, layout: Layout) -> bool {
+    every_returns(alloc, layout)
+        && is_raw(alloc, layout)
+        && is_constant(layout)
+        && is_spelled(alloc, layout)
+}
+
 #[test]
-fn raw_operations_are_read(rt: HostRuntime) {
+fn operations_come_back(rt: HostRuntime) {
     for number in 0..LAYOUTS {
-        let layout = numbered(number);
-        let is_so = is_raw(rt.alloc(), layout)
-            && is_constant(layout)
-            && is_spelled(rt.alloc(), layout);
-        assert!(rt; is_so, "at {number}");
+        assert!(rt; all_return(rt.alloc(), numbered(number)), "at {number}");
     }
 }

@@ -2,6 +2,7 @@
 //! makes nothing of an address, programs that are cut, and programs with a byte that is turned
 //! (DWARF 4 and 5, 6.2.4 and 6.2.5).
 
+use crate::damage::{MASKS, turned};
 use crate::programs::{Target, becomes, refusal};
 use dw_base::RunTimeEndian::{Big, Little};
 use dw_base::{Encoding, Format, RunTimeEndian};
@@ -156,18 +157,6 @@ const ROWS: &[Row] = &[
     },
 ];
 
-/// A copy of a program with one byte changed by these bits.
-fn turned(program: &[u8], place: usize, mask: u8) -> [u8; 80] {
-    let mut copy = [0; 80];
-    for (to, from) in copy.iter_mut().zip(program) {
-        *to = *from;
-    }
-    if let Some(byte) = copy.get_mut(place) {
-        *byte ^= mask;
-    }
-    copy
-}
-
 /// Why a copy of a row's program is refused, cut to a length.
 fn refusal_of(alloc: Global, row: &Row, copy: &[u8], length: usize) -> Option<ConvertError> {
     refusal(
@@ -215,16 +204,6 @@ fn rows() -> &'static [Row] {
     ROWS
 }
 
-#[test]
-fn answers_each_cut(rt: HostRuntime) {
-    for (number, row) in rows().iter().enumerate() {
-        assert_eq!(rt; first_missed(rt.alloc(), row), None, "of program {number}");
-    }
-}
-
-/// Each bit, and all of them.
-const MASKS: [u8; 9] = [0x01, 0x02, 0x04, 0x08, 0x10, 0x20, 0x40, 0x80, 0xff];
-
 /// The number among a row's causes of the one for which its program is refused with a byte turned.
 fn cause(alloc: Global, row: &Row, way: usize) -> Option<usize> {
     let copy = turned(row.program, way / 9, MASKS[way % 9]);
@@ -254,9 +233,14 @@ fn told(row: &Row) -> u16 {
     (1 << (row.causes.len() % 16)) - 1
 }
 
+/// Whether a row's program is answered as it tells, cut and with bytes that are turned.
+fn is_answered(alloc: Global, row: &Row) -> bool {
+    first_missed(alloc, row).is_none() && causes(alloc, row) == told(row)
+}
+
 #[test]
-fn refuses_turned_bytes_for_the_told_causes(rt: HostRuntime) {
+fn answers_each_cut_and_refuses_turned_bytes_for_the_told_causes(rt: HostRuntime) {
     for (number, row) in rows().iter().enumerate() {
-        assert_eq!(rt; causes(rt.alloc(), row), told(row), "of program {number}");
+        assert!(rt; is_answered(rt.alloc(), row), "of program {number}");
     }
 }

@@ -2,6 +2,7 @@
 
 use crate::entries::moved;
 use crate::layouts::Slice;
+use crate::owned::drop;
 use crate::reading::{EMPTY, Texts, dwarf_of};
 use dw_base::{DebugLineOffset, Encoding, FileId, RunTimeEndian};
 use dw_convert_lines::convert_line_program;
@@ -62,7 +63,9 @@ pub(crate) fn refusal(
 ) -> Option<ConvertError> {
     let dwarf = dwarf_of(&texts(bytes), endian);
     let mut strings = Strings(LineStringTable::new(alloc), StringTable::new(alloc));
-    converted(alloc, &dwarf, target, &mut strings).err()
+    let refusal = converted(alloc, &dwarf, target, &mut strings).err();
+    drop(strings);
+    refusal
 }
 
 /// Whether a program is written as these bytes.
@@ -80,6 +83,22 @@ fn is_written(
     }
 }
 
+/// Whether a program has one file and is written as these bytes.
+fn is_converted(
+    alloc: Global,
+    endian: RunTimeEndian,
+    converted: &ConvertResult<Converted>,
+    strings: &Strings,
+    wanted: &[u8],
+) -> bool {
+    match converted {
+        Ok((program, files)) => {
+            files.first() == Some(&FileId(0)) && is_written(alloc, endian, program, strings, wanted)
+        }
+        Err(_) => false,
+    }
+}
+
 /// Whether the program of these bytes has one file and is written as other bytes.
 pub(crate) fn becomes(
     alloc: Global,
@@ -90,11 +109,9 @@ pub(crate) fn becomes(
 ) -> bool {
     let dwarf = dwarf_of(&texts(bytes), endian);
     let mut strings = Strings(LineStringTable::new(alloc), StringTable::new(alloc));
-    match converted(alloc, &dwarf, target, &mut strings) {
-        Ok((program, files)) => {
-            files.first() == Some(&FileId(0))
-                && is_written(alloc, endian, &program, &strings, wanted)
-        }
-        Err(_) => false,
-    }
+    let converted = converted(alloc, &dwarf, target, &mut strings);
+    let is_so = is_converted(alloc, endian, &converted, &strings, wanted);
+    drop(converted);
+    drop(strings);
+    is_so
 }

@@ -5,6 +5,7 @@
 use crate::entries::{Evens, moved};
 use crate::items::{Item, location_list_of, range_list_of};
 use crate::layouts::{Slice, reader};
+use crate::owned::drop;
 use crate::reading::{EMPTY, Texts, dwarf_of, first};
 use dw_base::RunTimeEndian::Little;
 use dw_base::{Encoding, Format, LocationListsOffset, RangeListsOffset};
@@ -78,63 +79,11 @@ pub(crate) fn refusal(
                 dwarf: &dwarf,
                 unit: &unit,
             };
-            refusal_in(alloc, kind, both, bytes)
+            let refused = refusal_in(alloc, kind, both, bytes);
+            drop(unit);
+            refused
         }
         Err(error) => Some(ConvertError::Read(error)),
-    }
-}
-
-/// What is converted, in which unit, of which bytes, and why it is refused.
-type Refused = (Kind, &'static [u8], &'static [u8], ConvertError);
-
-fn refused() -> [Refused; 6] {
-    [
-        (
-            Kind::Expression,
-            FIVE,
-            b"\x03\x01\x80\x00\x00",
-            ConvertError::InvalidAddress,
-        ),
-        // The index of an address that isn't there.
-        (
-            Kind::Expression,
-            FIVE,
-            b"\xa1\x02",
-            ConvertError::Read(ReadError::UnexpectedEof),
-        ),
-        (
-            Kind::Ranges,
-            FIVE,
-            b"\x05\x01\x80\x00\x00\x00",
-            ConvertError::InvalidAddress,
-        ),
-        (
-            Kind::Locations,
-            FIVE,
-            b"\x07\x00\x10\x00\x00\x01\x80\x00\x00\x00\x00",
-            ConvertError::InvalidAddress,
-        ),
-        // A base, and a pair that counts from it, of which the end is a symbol.
-        (
-            Kind::Ranges,
-            FOUR,
-            b"\xff\xff\xff\xff\x00\x10\x00\x00\x01\x00\x00\x00\x00\x80\x00\x00",
-            ConvertError::InvalidRangeRelativeAddress,
-        ),
-        (
-            Kind::Locations,
-            FOUR,
-            b"\xff\xff\xff\xff\x00\x10\x00\x00\x01\x00\x00\x00\x00\x80\x00\x00\x00\x00\x00",
-            ConvertError::InvalidRangeRelativeAddress,
-        ),
-    ]
-}
-
-#[test]
-fn refuses_what_has_no_image(rt: HostRuntime) {
-    for (kind, info, bytes, reason) in refused() {
-        let refused = refusal(rt.alloc(), kind, info, bytes);
-        assert!(rt; refused == Some(reason), "of {bytes:?}");
     }
 }
 
@@ -159,13 +108,6 @@ fn refusal_of_deep(alloc: Global, depth: usize) -> Option<ConvertError> {
     refusal(alloc, Kind::Expression, FIVE, bytes.unwrap_or_default())
 }
 
-#[test]
-fn refuses_what_is_too_deep(rt: HostRuntime) {
-    for (depth, refused) in [(64, None), (65, Some(ConvertError::NoMemory))] {
-        assert!(rt; refusal_of_deep(rt.alloc(), depth) == refused, "at {depth}");
-    }
-}
-
 /// Why an expression is refused without a unit, where an index leads nowhere, and no entry is
 /// known.
 fn refusal_alone(alloc: Global, bytes: &[u8]) -> Option<ConvertError> {
@@ -179,20 +121,97 @@ fn refusal_alone(alloc: Global, bytes: &[u8]) -> Option<ConvertError> {
     expression(alloc, read, encoding, unit, &moved, &NoConvertDebugInfoRef).err()
 }
 
-fn refused_alone() -> [(&'static [u8], ConvertError); 4] {
-    [
-        (b"\xa1\x01", ConvertError::UnsupportedOperation),
-        (b"\xa2\x01", ConvertError::UnsupportedOperation),
-        (b"\xa8\x02", ConvertError::InvalidUnitRef),
-        (b"\x9a\x02\x00\x00\x00", ConvertError::InvalidDebugInfoRef),
-    ]
+/// What is converted.
+#[derive(Clone, Copy)]
+enum Given {
+    /// Bytes, in the unit of others.
+    In(Kind, &'static [u8], &'static [u8]),
+    /// An expression without a unit.
+    Alone(&'static [u8]),
+    /// So many expressions within each other.
+    Deep(usize),
+}
+
+/// Why it is refused, if it is.
+type Row = (Given, Option<ConvertError>);
+
+const ROWS: &[Row] = &[
+    (
+        Given::In(Kind::Expression, FIVE, b"\x03\x01\x80\x00\x00"),
+        Some(ConvertError::InvalidAddress),
+    ),
+    // The index of an address that isn't there.
+    (
+        Given::In(Kind::Expression, FIVE, b"\xa1\x02"),
+        Some(ConvertError::Read(ReadError::UnexpectedEof)),
+    ),
+    (
+        Given::In(Kind::Ranges, FIVE, b"\x05\x01\x80\x00\x00\x00"),
+        Some(ConvertError::InvalidAddress),
+    ),
+    (
+        Given::In(
+            Kind::Locations,
+            FIVE,
+            b"\x07\x00\x10\x00\x00\x01\x80\x00\x00\x00\x00",
+        ),
+        Some(ConvertError::InvalidAddress),
+    ),
+    // A base, and a pair that counts from it, of which the end is a symbol.
+    (
+        Given::In(
+            Kind::Ranges,
+            FOUR,
+            b"\xff\xff\xff\xff\x00\x10\x00\x00\x01\x00\x00\x00\x00\x80\x00\x00",
+        ),
+        Some(ConvertError::InvalidRangeRelativeAddress),
+    ),
+    (
+        Given::In(
+            Kind::Locations,
+            FOUR,
+            b"\xff\xff\xff\xff\x00\x10\x00\x00\x01\x00\x00\x00\x00\x80\x00\x00\x00\x00\x00",
+        ),
+        Some(ConvertError::InvalidRangeRelativeAddress),
+    ),
+    (
+        Given::Alone(b"\xa1\x01"),
+        Some(ConvertError::UnsupportedOperation),
+    ),
+    (
+        Given::Alone(b"\xa2\x01"),
+        Some(ConvertError::UnsupportedOperation),
+    ),
+    (
+        Given::Alone(b"\xa8\x02"),
+        Some(ConvertError::InvalidUnitRef),
+    ),
+    (
+        Given::Alone(b"\x9a\x02\x00\x00\x00"),
+        Some(ConvertError::InvalidDebugInfoRef),
+    ),
+    (Given::Deep(64), None),
+    (Given::Deep(65), Some(ConvertError::NoMemory)),
+];
+
+/// They, of which no other proof sees more.
+fn rows() -> &'static [Row] {
+    ROWS
+}
+
+/// Why what is given is refused.
+fn refusal_of(alloc: Global, given: Given) -> Option<ConvertError> {
+    match given {
+        Given::In(kind, info, bytes) => refusal(alloc, kind, info, bytes),
+        Given::Alone(bytes) => refusal_alone(alloc, bytes),
+        Given::Deep(depth) => refusal_of_deep(alloc, depth),
+    }
 }
 
 #[test]
-fn refuses_what_needs_a_unit(rt: HostRuntime) {
-    for (bytes, reason) in refused_alone() {
-        let refused = refusal_alone(rt.alloc(), bytes);
-        assert!(rt; refused == Some(reason), "of {bytes:?}");
+fn refuses_what_it_has_to(rt: HostRuntime) {
+    for (number, (given, wanted)) in rows().iter().enumerate() {
+        assert!(rt; refusal_of(rt.alloc(), *given) == *wanted, "at {number}");
     }
 }
 
@@ -248,10 +267,12 @@ fn are_lists(alloc: Global) -> Option<[bool; 2]> {
                 dwarf: &dwarf,
                 unit: &unit,
             };
-            Some([
+            let are_items = [
                 are_ranges(alloc, both, RANGE_ITEMS),
                 are_locations(alloc, both, LOCATION_ITEMS),
-            ])
+            ];
+            drop(unit);
+            Some(are_items)
         }
         Err(_) => None,
     }

@@ -91,6 +91,26 @@ fn add_locations(
     Ok(())
 }
 
+/// Adds a range list that nothing names, and two that values name.
+fn add_range_lists(alloc: Global, version: u16, ranges: &mut RangeListTable) -> Result<()> {
+    for items in [UNNAMED, SHORT, long(version, false)] {
+        add_ranges(alloc, ranges, items)?;
+    }
+    Ok(())
+}
+
+/// The same of location lists.
+fn add_location_lists(
+    alloc: Global,
+    version: u16,
+    locations: &mut LocationListTable,
+) -> Result<()> {
+    for (items, number) in [(UNNAMED, 57), (SHORT, 57), (long(version, true), 0)] {
+        add_locations(alloc, locations, items, number)?;
+    }
+    Ok(())
+}
+
 /// Adds to both tables of lists one that nothing names, and two that values name.
 pub(crate) fn add_lists(
     alloc: Global,
@@ -98,12 +118,8 @@ pub(crate) fn add_lists(
     ranges: &mut RangeListTable,
     locations: &mut LocationListTable,
 ) -> Result<()> {
-    add_ranges(alloc, ranges, UNNAMED)?;
-    add_ranges(alloc, ranges, SHORT)?;
-    add_ranges(alloc, ranges, long(version, false))?;
-    add_locations(alloc, locations, UNNAMED, 57)?;
-    add_locations(alloc, locations, SHORT, 57)?;
-    add_locations(alloc, locations, long(version, true), 0)
+    add_range_lists(alloc, version, ranges)?;
+    add_location_lists(alloc, version, locations)
 }
 
 /// How many strings, strings of lines, location lists and range lists there are.

@@ -3,6 +3,7 @@
 
 use crate::entries::moved;
 use crate::layouts::{LAYOUTS, Layout, Slice, numbered};
+use crate::owned::drop;
 use crate::reading::{dwarf_of, first};
 use crate::seen::{seen, seen_list};
 use crate::tables::{Tables, have, none};
@@ -11,7 +12,7 @@ use crate::writing::{Written, texts_of, write};
 use dw_base::DwAt;
 use dw_convert::{NoConvertDebugInfoRef, convert_attribute_value, convert_attributes};
 use dw_entries::AttributeValue;
-use dw_read::{Attribute, DebuggingInformationEntry, ReadResult};
+use dw_read::{Attribute, DebuggingInformationEntry};
 use dw_read_units::UnitRef;
 use dw_sources::ConvertResult;
 use dw_writer::{EndianVec, Sections};
@@ -64,7 +65,11 @@ fn all_converted(
 /// Whether a value is what the value of a number becomes.
 fn is_wanted(alloc: Global, number: usize, version: u16, value: &AttributeValue) -> bool {
     match wanted(alloc, number, version) {
-        Ok(wanted) => value.is_same(&wanted),
+        Ok(wanted) => {
+            let is_same = value.is_same(&wanted);
+            drop(wanted);
+            is_same
+        }
         Err(_) => false,
     }
 }
@@ -79,10 +84,16 @@ fn becomes(
     let version = unit.encoding().version;
     let mut tables = none(alloc);
     let is_value = match converted(alloc, unit, attribute, &mut tables) {
-        Ok(value) => is_wanted(alloc, number, version, &value),
+        Ok(value) => {
+            let is_value = is_wanted(alloc, number, version, &value);
+            drop(value);
+            is_value
+        }
         Err(_) => false,
     };
-    is_value && have(alloc, &tables, named(number), version)
+    let is_named = have(alloc, &tables, named(number), version);
+    drop(tables);
+    is_value && is_named
 }
 
 /// Whether there is one value, which is what the value of a number becomes.
@@ -111,7 +122,9 @@ fn all_become(
         Ok(values) => are_wanted(alloc, number, version, &values),
         Err(_) => false,
     };
-    are_values && have(alloc, &tables, named(number), version)
+    let are_named = have(alloc, &tables, named(number), version);
+    drop(tables);
+    are_values && are_named
 }
 
 /// Whether an attribute is read as the one of a number: its name, its value by its form, and a list
@@ -141,21 +154,18 @@ fn holds(
     }
 }
 
-/// Reads the root of a unit.
-fn read_root<'a>(
-    alloc: Global,
-    unit: UnitRef<'_, Slice<'a>>,
-    root: &mut Root<'a>,
-) -> ReadResult<()> {
-    unit.entries_raw(alloc, None)?.read_entry(root)?;
-    Ok(())
+/// Reads the root of a unit, and tells whether it can be read.
+fn reads_root<'a>(alloc: Global, unit: UnitRef<'_, Slice<'a>>, root: &mut Root<'a>) -> bool {
+    match unit.entries_raw(alloc, None) {
+        Ok(mut rows) => rows.read_entry(root).is_ok(),
+        Err(_) => false,
+    }
 }
 
 /// Whether the root of a unit has the value of a number.
 fn root_holds(alloc: Global, unit: UnitRef<'_, Slice<'_>>, number: usize, layout: Layout) -> bool {
     let mut root = DebuggingInformationEntry::new(alloc);
-    let is_read = read_root(alloc, unit, &mut root).is_ok();
-    is_read && holds(alloc, unit, &root, number, layout)
+    reads_root(alloc, unit, &mut root) && holds(alloc, unit, &root, number, layout)
 }
 
 /// Whether the first unit of sections has the value of a number at its root.
@@ -167,7 +177,9 @@ fn unit_holds(alloc: Global, sections: &Written, number: usize, layout: Layout) 
                 dwarf: &dwarf,
                 unit: &unit,
             };
-            root_holds(alloc, both, number, layout)
+            let is_held = root_holds(alloc, both, number, layout);
+            drop(unit);
+            is_held
         }
         Err(_) => false,
     }
@@ -178,7 +190,9 @@ fn comes_back(alloc: Global, number: usize, layout: Layout) -> bool {
     match Sections::new(alloc, EndianVec::new(alloc, layout.endian)) {
         Ok(mut sections) => {
             let is_written = write(alloc, number, layout, &mut sections);
-            is_written && unit_holds(alloc, &sections, number, layout)
+            let is_held = is_written && unit_holds(alloc, &sections, number, layout);
+            drop(sections);
+            is_held
         }
         Err(_) => false,
     }
@@ -197,7 +211,9 @@ fn first_missed(alloc: Global, number: usize) -> Option<usize> {
 #[test]
 fn values_come_back(rt: HostRuntime) {
     for number in 0..VALUES {
-        let missed = first_missed(rt.alloc(), number);
-        assert_eq!(rt; missed, None, "of value {number}");
+        assert!(rt;
+            first_missed(rt.alloc(), number).is_none(),
+            "of value {number}"
+        );
     }
 }

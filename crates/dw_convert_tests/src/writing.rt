@@ -1,12 +1,12 @@
 //! A unit whose root has one value, and how it is written.
 
 use crate::layouts::Layout;
+use crate::owned::drop;
 use crate::reading::Texts;
 use crate::tables::{add_lists, add_strings};
 use crate::values::{row, value};
 use dw_base::constants::DW_AT_sibling;
 use dw_base::{DwAt, Error, Result, RunTimeEndian};
-use dw_entries::AttributeValue;
 use dw_line::LineProgram;
 use dw_strings::{LineStringTable, StringTable};
 use dw_unit::{Unit, UnitTable};
@@ -31,12 +31,12 @@ pub(crate) fn texts_of(sections: &Written) -> Texts<'_> {
     }
 }
 
-/// Sets an attribute of the root.
-fn set(unit: &mut Unit, name: DwAt, value: AttributeValue) -> Result<()> {
+/// Sets an attribute of the root to the value of a number.
+fn set(alloc: Global, unit: &mut Unit, name: DwAt, number: usize) -> Result<()> {
     if unit.count() == 0 || name.0 == 0 || name == DW_AT_sibling {
         return Err(Error::InvalidReference);
     }
-    unit.get_mut(unit.root()).set(name, value)
+    unit.get_mut(unit.root()).set(name, value(alloc, number)?)
 }
 
 /// Gives a unit its lists, and its root the value of a number.
@@ -44,7 +44,7 @@ fn fill(alloc: Global, unit: &mut Unit, number: usize, layout: Layout) -> Result
     let version = layout.encoding.version;
     add_lists(alloc, version, &mut unit.ranges, &mut unit.locations)?;
     let (name, _) = row(number, layout.encoding);
-    set(unit, name, value(alloc, number)?)
+    set(alloc, unit, name, number)
 }
 
 /// Adds the unit whose root has the value of a number.
@@ -65,6 +65,8 @@ fn write_units(alloc: Global, units: &mut UnitTable, sections: &mut Written) -> 
     let mut line_strings = LineStringTable::new(alloc);
     let added = add_strings(&mut strings, &mut line_strings);
     let written = units.write(sections, &line_strings, &strings);
+    drop(strings);
+    drop(line_strings);
     added.is_ok() & written.is_ok()
 }
 
@@ -72,5 +74,7 @@ fn write_units(alloc: Global, units: &mut UnitTable, sections: &mut Written) -> 
 pub(crate) fn write(alloc: Global, number: usize, layout: Layout, sections: &mut Written) -> bool {
     let mut units = UnitTable::new(alloc);
     let added = add_unit(alloc, &mut units, number, layout);
-    added & write_units(alloc, &mut units, sections)
+    let written = write_units(alloc, &mut units, sections);
+    drop(units);
+    added & written
 }
