@@ -1,5 +1,6 @@
 //! What operands of entries lead to, by the bases of their unit (DWARF 5, 7.26 to 7.29).
 
+use crate::tests::lookups::File::{Cut, CutTwice, Far, Whole};
 use crate::tests::lookups::Sought::{
     Address, LineString, Locations, Ranges, Rows, String, StringOffset,
 };
@@ -27,30 +28,44 @@ enum Sought {
 /// The number that is found, of a text one whose first byte is the highest.
 fn found(alloc: Global, both: UnitRef<'_, Slice<'_>>, sought: Sought, at: u64) -> ReadResult<u128> {
     match sought {
-        Sought::StringOffset => Ok(both.string_offset(at)?.0 as u128),
-        Sought::Address => Ok(both.address(at)? as u128),
-        Sought::Ranges => Ok(both.ranges_offset(at)?.0 as u128),
-        Sought::Locations => Ok(both.locations_offset(at)?.0 as u128),
-        _ => found_at(alloc, both, sought, at as usize),
+        Sought::StringOffset => string_offset(both, at),
+        Sought::Address => address(both, at),
+        Sought::Ranges => ranges_offset(both, at),
+        Sought::Locations => locations_offset(both, at),
+        Sought::String => string(both, at as usize),
+        Sought::LineString => line_string(both, at as usize),
+        Sought::Rows => rows(alloc, both, at as usize),
     }
 }
 
-fn found_at(
-    alloc: Global,
-    both: UnitRef<'_, Slice<'_>>,
-    sought: Sought,
-    at: usize,
-) -> ReadResult<u128> {
-    match sought {
-        Sought::String => Ok(number_of(both.string(DebugStrOffset(at))?.to_slice())),
-        Sought::LineString => {
-            let text = both.line_string(DebugLineStrOffset(at))?;
-            Ok(number_of(text.to_slice()))
-        }
-        _ => {
-            let rows = both.entries_raw(alloc, Some(UnitOffset(at)))?;
-            Ok(if rows.is_empty() { 0 } else { 1 })
-        }
+fn string_offset(both: UnitRef<'_, Slice<'_>>, at: u64) -> ReadResult<u128> {
+    Ok(both.string_offset(at)?.0 as u128)
+}
+
+fn address(both: UnitRef<'_, Slice<'_>>, at: u64) -> ReadResult<u128> {
+    Ok(both.address(at)? as u128)
+}
+
+fn ranges_offset(both: UnitRef<'_, Slice<'_>>, at: u64) -> ReadResult<u128> {
+    Ok(both.ranges_offset(at)?.0 as u128)
+}
+
+fn locations_offset(both: UnitRef<'_, Slice<'_>>, at: u64) -> ReadResult<u128> {
+    Ok(both.locations_offset(at)?.0 as u128)
+}
+
+fn string(both: UnitRef<'_, Slice<'_>>, at: usize) -> ReadResult<u128> {
+    Ok(number_of(both.string(DebugStrOffset(at))?.to_slice()))
+}
+
+fn line_string(both: UnitRef<'_, Slice<'_>>, at: usize) -> ReadResult<u128> {
+    Ok(number_of(both.line_string(DebugLineStrOffset(at))?.to_slice()))
+}
+
+fn rows(alloc: Global, both: UnitRef<'_, Slice<'_>>, at: usize) -> ReadResult<u128> {
+    match both.entries_raw(alloc, Some(UnitOffset(at))) {
+        Ok(rows) => Ok(if rows.is_empty() { 0 } else { 1 }),
+        Err(reason) => Err(reason),
     }
 }
 
@@ -141,80 +156,98 @@ const FAR: Bytes<'static> = Bytes {
     line: b"",
 };
 
+/// The sections in which is looked up.
+#[derive(Clone, Copy)]
+enum File {
+    Whole,
+    Cut,
+    CutTwice,
+    Far,
+}
+
+fn bytes_of(file: File) -> Bytes<'static> {
+    match file {
+        File::Whole => WHOLE,
+        File::Cut => CUT,
+        File::CutTwice => CUT_TWICE,
+        File::Far => FAR,
+    }
+}
+
 const PAST: ReadResult<u128> = Err(ReadError::UnexpectedEof);
 
-type Case = (&'static Bytes<'static>, Sought, u64, ReadResult<u128>);
+type Case = (File, Sought, u64, ReadResult<u128>);
 
 // Indices.
 const INDEXED: &[Case] = &[
-    (&WHOLE, StringOffset, 0, Ok(0)),
-    (&WHOLE, StringOffset, 1, Ok(2)),
-    (&WHOLE, StringOffset, 2, PAST),
-    (&WHOLE, Address, 0, Ok(0x10)),
-    (&WHOLE, Address, 1, Ok(0x20)),
-    (&WHOLE, Address, 2, PAST),
-    (&WHOLE, Ranges, 0, Ok(20)),
-    (&WHOLE, Ranges, 1, Ok(22)),
-    (&WHOLE, Ranges, 2, PAST),
-    (&WHOLE, Locations, 0, Ok(20)),
-    (&WHOLE, Locations, 1, Ok(22)),
-    (&WHOLE, Locations, 2, PAST),
-    (&CUT, StringOffset, 0, Ok(0)),
-    (&CUT, StringOffset, 1, PAST),
-    (&CUT, Address, 0, Ok(0x10)),
-    (&CUT, Address, 1, PAST),
-    (&CUT, Ranges, 0, Ok(20)),
-    (&CUT, Ranges, 1, PAST),
-    (&CUT, Locations, 0, Ok(20)),
-    (&CUT, Locations, 1, PAST),
-    (&CUT_TWICE, StringOffset, 0, PAST),
-    (&CUT_TWICE, Address, 0, PAST),
-    (&CUT_TWICE, Ranges, 0, PAST),
-    (&CUT_TWICE, Locations, 0, PAST),
-    (&FAR, Ranges, 0, Err(ReadError::OffsetOutOfBounds(u64::MAX))),
+    (Whole, StringOffset, 0, Ok(0)),
+    (Whole, StringOffset, 1, Ok(2)),
+    (Whole, StringOffset, 2, PAST),
+    (Whole, Address, 0, Ok(0x10)),
+    (Whole, Address, 1, Ok(0x20)),
+    (Whole, Address, 2, PAST),
+    (Whole, Ranges, 0, Ok(20)),
+    (Whole, Ranges, 1, Ok(22)),
+    (Whole, Ranges, 2, PAST),
+    (Whole, Locations, 0, Ok(20)),
+    (Whole, Locations, 1, Ok(22)),
+    (Whole, Locations, 2, PAST),
+    (Cut, StringOffset, 0, Ok(0)),
+    (Cut, StringOffset, 1, PAST),
+    (Cut, Address, 0, Ok(0x10)),
+    (Cut, Address, 1, PAST),
+    (Cut, Ranges, 0, Ok(20)),
+    (Cut, Ranges, 1, PAST),
+    (Cut, Locations, 0, Ok(20)),
+    (Cut, Locations, 1, PAST),
+    (CutTwice, StringOffset, 0, PAST),
+    (CutTwice, Address, 0, PAST),
+    (CutTwice, Ranges, 0, PAST),
+    (CutTwice, Locations, 0, PAST),
+    (Far, Ranges, 0, Err(ReadError::OffsetOutOfBounds(u64::MAX))),
     (
-        &FAR,
+        Far,
         Locations,
         0,
         Err(ReadError::OffsetOutOfBounds(u64::MAX)),
     ),
-    (&FAR, Ranges, 1, PAST),
+    (Far, Ranges, 1, PAST),
 ];
 
 // Places of indices that pass 64 bits don't come round to the first ones.
 const HUGE: &[Case] = &[
-    (&WHOLE, StringOffset, 1 << 62, PAST),
-    (&WHOLE, StringOffset, 1 << 63, PAST),
-    (&WHOLE, StringOffset, u64::MAX, PAST),
-    (&WHOLE, Address, 1 << 61, PAST),
-    (&WHOLE, Address, 1 << 63, PAST),
-    (&WHOLE, Address, u64::MAX, PAST),
-    (&WHOLE, Ranges, 1 << 62, PAST),
-    (&WHOLE, Ranges, 1 << 63, PAST),
-    (&WHOLE, Ranges, u64::MAX, PAST),
-    (&WHOLE, Locations, 1 << 62, PAST),
-    (&WHOLE, Locations, 1 << 63, PAST),
-    (&WHOLE, Locations, u64::MAX, PAST),
+    (Whole, StringOffset, 1 << 62, PAST),
+    (Whole, StringOffset, 1 << 63, PAST),
+    (Whole, StringOffset, u64::MAX, PAST),
+    (Whole, Address, 1 << 61, PAST),
+    (Whole, Address, 1 << 63, PAST),
+    (Whole, Address, u64::MAX, PAST),
+    (Whole, Ranges, 1 << 62, PAST),
+    (Whole, Ranges, 1 << 63, PAST),
+    (Whole, Ranges, u64::MAX, PAST),
+    (Whole, Locations, 1 << 62, PAST),
+    (Whole, Locations, 1 << 63, PAST),
+    (Whole, Locations, u64::MAX, PAST),
 ];
 
 // Offsets. The rows of the unit go from 12 to 30.
 const PLACED: &[Case] = &[
-    (&WHOLE, String, 0, Ok(0x61)),
-    (&WHOLE, String, 2, Ok(0x6263)),
-    (&WHOLE, String, 4, Ok(0)),
-    (&WHOLE, String, 5, PAST),
-    (&WHOLE, String, 6, PAST),
-    (&WHOLE, String, u64::MAX, PAST),
-    (&WHOLE, LineString, 0, Ok(0x6465)),
-    (&WHOLE, LineString, 3, PAST),
-    (&WHOLE, Rows, 12, Ok(1)),
-    (&WHOLE, Rows, 29, Ok(1)),
-    (&WHOLE, Rows, 30, Ok(0)),
-    (&WHOLE, Rows, 0, Err(ReadError::OffsetOutOfBounds(0))),
-    (&WHOLE, Rows, 11, Err(ReadError::OffsetOutOfBounds(11))),
-    (&WHOLE, Rows, 31, Err(ReadError::OffsetOutOfBounds(31))),
+    (Whole, String, 0, Ok(0x61)),
+    (Whole, String, 2, Ok(0x6263)),
+    (Whole, String, 4, Ok(0)),
+    (Whole, String, 5, PAST),
+    (Whole, String, 6, PAST),
+    (Whole, String, u64::MAX, PAST),
+    (Whole, LineString, 0, Ok(0x6465)),
+    (Whole, LineString, 3, PAST),
+    (Whole, Rows, 12, Ok(1)),
+    (Whole, Rows, 29, Ok(1)),
+    (Whole, Rows, 30, Ok(0)),
+    (Whole, Rows, 0, Err(ReadError::OffsetOutOfBounds(0))),
+    (Whole, Rows, 11, Err(ReadError::OffsetOutOfBounds(11))),
+    (Whole, Rows, 31, Err(ReadError::OffsetOutOfBounds(31))),
     (
-        &WHOLE,
+        Whole,
         Rows,
         u64::MAX,
         Err(ReadError::OffsetOutOfBounds(u64::MAX)),
@@ -227,8 +260,8 @@ fn cases() -> [&'static [Case]; 3] {
 
 /// The first row of a table that leads elsewhere.
 fn first_missed(alloc: Global, table: &[Case]) -> Option<usize> {
-    for (row, (bytes, sought, at, wanted)) in table.iter().enumerate() {
-        if looked_up(alloc, bytes, *sought, *at) != *wanted {
+    for (row, (file, sought, at, wanted)) in table.iter().enumerate() {
+        if looked_up(alloc, &bytes_of(*file), *sought, *at) != *wanted {
             return Some(row);
         }
     }
