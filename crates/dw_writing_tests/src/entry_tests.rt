@@ -2,13 +2,13 @@
 
 use crate::programs::{Name, string_of};
 use crate::trees::Step::{Add, AddReserved, Reserve, Room, Set};
-use crate::trees::{Sample, Step, are_copied, built, has_names, is_flattened, value_of};
+use crate::trees::{Sample, Step, are_copied, has_names, is_flattened, take_all, value_of};
 use dw_base::constants::{
     DW_AT_byte_size, DW_AT_location, DW_AT_loclists_base, DW_AT_name, DW_AT_rnglists_base,
     DW_AT_stmt_list, DW_TAG_base_type, DW_TAG_variable,
 };
 use dw_base::{DwAt, Result};
-use dw_entries::{Item, OwnLists, OwnParts};
+use dw_entries::{Entries, Item, OwnLists, OwnParts};
 use std::alloc::Global;
 use std::test::Fail;
 
@@ -61,24 +61,32 @@ const ROOT_NAMES: [DwAt; 5] = [
     DW_AT_rnglists_base,
 ];
 
-/// Tells that the tree is built, copied and settled as these tables tell.
-fn is_settled(alloc: Global) -> Result<bool> {
-    let mut entries = built(alloc, TREE)?;
-    let is_built = is_flattened(alloc, &entries, &AS_BUILT);
-    let is_copied = are_copied(&entries, 0)? && are_copied(&entries, 1)?;
-    entries.settle(PARTS)?;
+/// Tells that the tree is built and copied as these tables tell.
+fn is_built(alloc: Global, entries: &mut Entries) -> Result<bool> {
+    take_all(alloc, entries, TREE)?;
     Ok(
-        is_built
-            && is_copied
-            && is_flattened(alloc, &entries, &BASE_TYPES_FIRST)
-            && has_names(&entries, 0, &ROOT_NAMES),
+        is_flattened(alloc, entries, &AS_BUILT)
+            && are_copied(entries, 0)?
+            && are_copied(entries, 1)?,
     )
 }
 
+/// Tells that it is settled so.
+fn is_settled(alloc: Global, entries: &mut Entries) -> Result<bool> {
+    entries.settle(PARTS)?;
+    Ok(is_flattened(alloc, entries, &BASE_TYPES_FIRST) && has_names(entries, 0, &ROOT_NAMES))
+}
+
+/// The answers to both, of a new tree.
+fn answers(alloc: Global) -> Result<[Result<bool>; 2]> {
+    let mut entries = Entries::new(alloc)?;
+    let is_built = is_built(alloc, &mut entries);
+    Ok([is_built, is_settled(alloc, &mut entries)])
+}
+
 #[test]
-fn a_tree_is_settled(rt: HostRuntime) -> std::result::Result<(), Fail> {
-    assert!(rt; is_settled(rt.alloc())?);
-    Ok(())
+fn a_tree_is_settled(rt: HostRuntime) {
+    assert_eq!(rt; answers(rt.alloc()), Ok([Ok(true); 2]));
 }
 
 const VALUES: [Sample; 4] = [

@@ -3,7 +3,7 @@
 
 use crate::programs::Name::{A, B, Included, LineStringAt, Root, Source, StringAt};
 use crate::programs::Step::{Begin, Directory, End, File, Known, Row};
-use crate::programs::{Built, Step, Told, built};
+use crate::programs::{Built, Step, Told, begun, take_all};
 use crate::writing::Wanted::{Answer, Bytes, FaultAt, Records};
 use crate::writing::{Wanted, is_as};
 use dw_base::Format::{Dwarf32, Dwarf64};
@@ -324,8 +324,9 @@ fn cases() -> &'static [Case] {
 
 /// Tells that a program is written as its case tells. No other function owns a program.
 fn is_met(alloc: Global, case: &Case) -> Result<bool> {
-    let program = built(alloc, &case.0)?;
-    Ok(is_as(alloc, &program, &case.1))
+    let mut program = begun(alloc, &case.0)?;
+    let taken = take_all(alloc, &mut program, case.0.3);
+    Ok(taken == Ok(()) && is_as(alloc, &program, &case.1))
 }
 
 #[test]

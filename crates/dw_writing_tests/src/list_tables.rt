@@ -88,7 +88,19 @@ fn write_range_table<W: Writer>(
     Ok((table.count(), offsets.base(), place))
 }
 
-/// Writes a table of ranges.
+/// Fills a table of ranges, and writes it.
+fn fill_ranges<W: Writer>(
+    alloc: Global,
+    table: &mut RangeListTable,
+    lists: &[&[Range]],
+    sections: &mut Sections<W>,
+    way: Way,
+) -> Result<Answer> {
+    add_range_lists(alloc, table, lists)?;
+    write_range_table(table, sections, way)
+}
+
+/// The same of a new table.
 fn write_ranges<W: Writer>(
     alloc: Global,
     lists: &[&[Range]],
@@ -96,8 +108,7 @@ fn write_ranges<W: Writer>(
     way: Way,
 ) -> Result<Answer> {
     let mut table = RangeListTable::new(alloc);
-    add_range_lists(alloc, &mut table, lists)?;
-    write_range_table(&table, sections, way)
+    fill_ranges(alloc, &mut table, lists, sections, way)
 }
 
 fn expression(alloc: Global, body: Body) -> Result<Expression> {
@@ -198,6 +209,29 @@ fn fill(alloc: Global, table: &mut LocationListTable, lists: Lists) -> Result<()
     }
 }
 
+/// Fills a table of locations, and writes it.
+fn fill_locations<W: Writer>(
+    alloc: Global,
+    table: &mut LocationListTable,
+    lists: Lists,
+    sections: &mut Sections<W>,
+    way: Way,
+) -> Result<Answer> {
+    fill(alloc, table, lists)?;
+    write_location_table(table, sections, way)
+}
+
+/// The same of a new table.
+fn write_locations<W: Writer>(
+    alloc: Global,
+    lists: Lists,
+    sections: &mut Sections<W>,
+    way: Way,
+) -> Result<Answer> {
+    let mut table = LocationListTable::new(alloc);
+    fill_locations(alloc, &mut table, lists, sections, way)
+}
+
 /// Writes a table of lists.
 fn write<W: Writer>(
     alloc: Global,
@@ -205,12 +239,10 @@ fn write<W: Writer>(
     sections: &mut Sections<W>,
     way: Way,
 ) -> Result<Answer> {
-    if let Lists::Ranges(lists) = lists {
-        return write_ranges(alloc, lists, sections, way);
+    match lists {
+        Lists::Ranges(lists) => write_ranges(alloc, lists, sections, way),
+        _ => write_locations(alloc, lists, sections, way),
     }
-    let mut table = LocationListTable::new(alloc);
-    fill(alloc, &mut table, lists)?;
-    write_location_table(&table, sections, way)
 }
 
 /// What a section has at its begin, how many bytes follow, its relocations, and at most one

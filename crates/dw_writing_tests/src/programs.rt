@@ -124,17 +124,18 @@ fn info_of(alloc: Global, told: &Told) -> Result<Option<FileInfo>>
     }))
 }
 
-/// A program of a working directory, without files.
-fn begun(alloc: Global, unit: Unit, minimum: u8, root: &Name) -> Result<LineProgram> {
-    if minimum == 0 {
+/// A program of a working directory, without its steps.
+pub fn begun(alloc: Global, program: &Built) -> Result<LineProgram> {
+    let (unit, minimum, root, _) = program;
+    if *minimum == 0 {
         return amiss();
     }
     let line_encoding = LineEncoding {
-        minimum_instruction_length: minimum,
+        minimum_instruction_length: *minimum,
         ..LineEncoding::default()
     };
     let root = string_of(alloc, root)?;
-    LineProgram::new(alloc, encoding_of(unit), line_encoding, root)
+    LineProgram::new(alloc, encoding_of(*unit), line_encoding, root)
 }
 
 fn add_directory(program: &mut LineProgram, name: LineString) -> Result<()>
@@ -198,32 +199,45 @@ fn end(program: &mut LineProgram, offset: u64) -> Result<()> {
     program.end_sequence(offset)
 }
 
+fn take_directory(alloc: Global, program: &mut LineProgram, name: &Name) -> Result<()> {
+    add_directory(program, string_of(alloc, name)?)
+}
+
+fn take_file(
+    alloc: Global,
+    program: &mut LineProgram,
+    name: &Name,
+    directory: usize,
+) -> Result<()> {
+    add_file(program, string_of(alloc, name)?, directory, None)
+}
+
+fn take_known(
+    alloc: Global,
+    program: &mut LineProgram,
+    name: &Name,
+    directory: usize,
+    told: &Told,
+) -> Result<()> {
+    let info = info_of(alloc, told)?;
+    add_file(program, string_of(alloc, name)?, directory, info)
+}
+
 fn take(alloc: Global, program: &mut LineProgram, step: &Step) -> Result<()> {
     match step {
-        Step::Directory(name) => add_directory(program, string_of(alloc, name)?),
-        Step::File(name, directory) => {
-            add_file(program, string_of(alloc, name)?, *directory, None)
-        }
-        Step::Known(name, directory, told) => {
-            let info = info_of(alloc, told)?;
-            add_file(program, string_of(alloc, name)?, *directory, info)
-        }
+        Step::Directory(name) => take_directory(alloc, program, name),
+        Step::File(name, directory) => take_file(alloc, program, name, *directory),
+        Step::Known(name, directory, told) => take_known(alloc, program, name, *directory, told),
         Step::Begin(address) => begin(program, *address),
         Step::Row(row) => add_row(program, *row),
         Step::End(offset) => end(program, *offset),
     }
 }
 
-fn take_all(alloc: Global, program: &mut LineProgram, steps: &[Step]) -> Result<()> {
+/// Takes these steps, behind those that were taken.
+pub fn take_all(alloc: Global, program: &mut LineProgram, steps: &[Step]) -> Result<()> {
     for step in steps {
         take(alloc, program, step)?;
     }
     Ok(())
-}
-
-/// A program after its steps.
-pub fn built(alloc: Global, program: &Built) -> Result<LineProgram> {
-    let mut line_program = begun(alloc, program.0, program.1, &program.2)?;
-    take_all(alloc, &mut line_program, program.3)?;
-    Ok(line_program)
 }

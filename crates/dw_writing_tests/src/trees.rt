@@ -89,6 +89,16 @@ fn set(entries: &mut Entries, index: usize, name: DwAt, value: AttributeValue) -
     entries.set(index, name, value)
 }
 
+fn set_sample(
+    alloc: Global,
+    entries: &mut Entries,
+    index: usize,
+    name: DwAt,
+    sample: &Sample,
+) -> Result<()> {
+    set(entries, index, name, value_of(alloc, sample)?)
+}
+
 fn take(alloc: Global, entries: &mut Entries, step: &Step) -> Result<()> {
     match step {
         Step::Add(parent, tag) => add(entries, *parent, *tag),
@@ -96,22 +106,16 @@ fn take(alloc: Global, entries: &mut Entries, step: &Step) -> Result<()> {
         Step::AddReserved(child, parent, tag) => add_reserved(entries, *child, *parent, *tag),
         Step::Room(index, _) if *index >= entries.count() => amiss(),
         Step::Room(index, additional) => entries.reserve_attributes(*index, *additional),
-        Step::Set(index, name, sample) => set(entries, *index, *name, value_of(alloc, sample)?),
+        Step::Set(index, name, sample) => set_sample(alloc, entries, *index, *name, sample),
     }
 }
 
-fn take_all(alloc: Global, entries: &mut Entries, steps: &[Step]) -> Result<()> {
+/// Takes these steps, behind those that were taken.
+pub fn take_all(alloc: Global, entries: &mut Entries, steps: &[Step]) -> Result<()> {
     for step in steps {
         take(alloc, entries, step)?;
     }
     Ok(())
-}
-
-/// A root, after these steps.
-pub fn built(alloc: Global, steps: &[Step]) -> Result<Entries> {
-    let mut entries = Entries::new(alloc)?;
-    take_all(alloc, &mut entries, steps)?;
-    Ok(entries)
 }
 
 /// Tells that the tree in preorder is this one.

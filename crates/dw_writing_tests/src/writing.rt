@@ -98,17 +98,26 @@ fn refusal(alloc: Global, program: &LineProgram, unit: Encoding) -> Option<Error
     write(alloc, program, unit, &mut w).err()
 }
 
-/// What a write answers where this call of the writer fails, if it leaves what stood before it.
-fn fault(alloc: Global, program: &LineProgram, failing: u64) -> Result<Option<Error>> {
-    let calls = vec![in alloc; failing]?;
-    let mut w = DebugLine::from(FaultVec::new(alloc, RunTimeEndian::Little, calls));
+/// What a write answers, if it leaves what stood before it.
+fn answer_behind(
+    alloc: Global,
+    program: &LineProgram,
+    w: &mut DebugLine<FaultVec<RunTimeEndian>>,
+) -> Result<Option<Error>> {
     w.0.write(&[1, 2, 3])?;
-    let answer = write(alloc, program, program.encoding(), &mut w);
+    let answer = write(alloc, program, program.encoding(), w);
     if w.0.slice().starts_with(&[1, 2, 3]) {
         Ok(answer.err())
     } else {
         Ok(None)
     }
+}
+
+/// The same where this call of the writer fails.
+fn fault(alloc: Global, program: &LineProgram, failing: u64) -> Result<Option<Error>> {
+    let calls = vec![in alloc; failing]?;
+    let mut w = DebugLine::from(FaultVec::new(alloc, RunTimeEndian::Little, calls));
+    answer_behind(alloc, program, &mut w)
 }
 
 /// Tells that the writing of a program comes to what is wanted.
