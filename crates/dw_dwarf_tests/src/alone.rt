@@ -5,7 +5,7 @@ ghost use Rattle.dw_writer.specs.Sections.{NoFixups};
 use crate::building::{Call, How, Value, make_calls};
 use crate::plans::{ROOT_INFO, ROOT_TABLE, Told, VERSION_4, VERSION_5};
 use crate::units::holds;
-use crate::writing::Written;
+use crate::writing::{Written, drop};
 use dw_base::constants::{DW_AT_low_pc, DW_AT_type, DW_TAG_base_type};
 use dw_dwarf::{
     Address, DebugInfoRef, DwarfUnit, Encoding, Error, Range, Result, UnitEntryId, UnitId,
@@ -131,7 +131,11 @@ fn write_new(
     requires { NoFixups sections.old }
 {
     match DwarfUnit::new(alloc, encoding) {
-        Ok(mut dwarf) => write_called(alloc, calls, &mut dwarf, sections),
+        Ok(mut dwarf) => {
+            let told = write_called(alloc, calls, &mut dwarf, sections);
+            drop(dwarf);
+            told
+        }
         Err(error) => Err(error),
     }
 }

@@ -1,7 +1,7 @@
 //! Files whose units are converted behind another unit, and written.
 
 use crate::plans::{ONE_ROOT, Told, add_units};
-use crate::writing::{Written, refusal};
+use crate::writing::{Written, drop, refusal};
 use dw_base::{Address, UnitEntryId};
 use dw_dwarf::{
     ConvertResult, ConvertUnit, ConvertUnitEntry, ConvertUnitSection, Dwarf, LittleEndian, Result,
@@ -162,7 +162,11 @@ fn convert_unit<'a>(
 /// Converts the next unit at once, if there is one.
 fn convert_next(section: &mut ConvertUnitSection<'_, Slice>) -> ConvertResult<()> {
     match section.read_unit()? {
-        Some((mut unit, root)) => convert_unit(&mut unit, root),
+        Some((mut unit, root)) => {
+            let converted = convert_unit(&mut unit, root);
+            drop(unit);
+            converted
+        }
         None => Ok(()),
     }
 }
@@ -263,7 +267,12 @@ fn add_unit<'a>(
 /// Converts the next unit entry by entry, if there is one.
 fn add_next_unit(section: &mut ConvertUnitSection<'_, Slice>) -> ConvertResult<()> {
     match section.read_unit()? {
-        Some((mut unit, mut root)) => add_unit(&mut unit, &mut root),
+        Some((mut unit, mut root)) => {
+            let added = add_unit(&mut unit, &mut root);
+            drop(root);
+            drop(unit);
+            added
+        }
         None => Ok(()),
     }
 }
@@ -282,7 +291,9 @@ fn convert_each(section: &mut ConvertUnitSection<'_, Slice>, way: Way) -> Conver
 /// Converts the units of a file one after the other.
 fn convert_by_section(read: &ReadDwarf<Slice>, dwarf: &mut Dwarf, way: Way) -> ConvertResult<()> {
     let mut section = dwarf.convert(read)?;
-    convert_each(&mut section, way)
+    let converted = convert_each(&mut section, way);
+    drop(section);
+    converted
 }
 
 /// Converts a file in a way.

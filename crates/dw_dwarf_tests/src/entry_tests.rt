@@ -3,6 +3,7 @@
 use crate::building::{How, Value, put};
 use crate::converting::{Slice, TWO_UNITS, read_sections};
 use crate::plans::VERSION_4;
+use crate::writing::drop;
 use dw_base::constants::{DW_AT_producer, DW_TAG_compile_unit, DW_TAG_variable};
 use dw_base::{DwTag, UnitEntryId, UnitOffset};
 use dw_dwarf::{
@@ -47,7 +48,7 @@ fn tag_in(alloc: Global, unit: UnitRef<'_, Slice>, offset: usize) -> ConvertResu
 /// The tag of the entry at an offset of the first unit.
 fn tag_at(alloc: Global, read: &ReadDwarf<Slice>, offset: usize) -> ConvertResult<DwTag> {
     let found = number_units(alloc, read)?;
-    match found.units.first() {
+    let tag = match found.units.first() {
         Some(first) => {
             let unit = UnitRef {
                 dwarf: read,
@@ -56,7 +57,9 @@ fn tag_at(alloc: Global, read: &ReadDwarf<Slice>, offset: usize) -> ConvertResul
             tag_in(alloc, unit, offset)
         }
         None => Err(ConvertError::UnsupportedOperation),
-    }
+    };
+    drop(found);
+    tag
 }
 
 #[test]
@@ -107,7 +110,10 @@ fn producers(
 fn producers_of_new(alloc: Global) -> Result<[[Option<bool>; 2]; 2]> {
     let wanted = AttributeValue::String(Bytes::new(alloc, b"root")?);
     let mut units = UnitTable::new(alloc);
-    producers(alloc, &mut units, &wanted)
+    let found = producers(alloc, &mut units, &wanted);
+    drop(units);
+    drop(wanted);
+    found
 }
 
 #[test]

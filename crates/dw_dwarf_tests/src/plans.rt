@@ -1,6 +1,7 @@
 //! Units by plan: how they are built, and what they are to tell once they were written.
 
 use crate::building::{Call, make_calls};
+use crate::writing::drop;
 use dw_dwarf::{
     Dwarf, Encoding, Error, Format, LineProgram, Result, Sections, Unit, UnitEntryId, UnitTable,
     Writer,
@@ -142,7 +143,9 @@ pub(crate) fn write_plans<W: Writer>(
     sections: &mut Sections<W>,
 ) -> Result<Told> {
     let mut dwarf = Dwarf::new(alloc);
-    write_twice(alloc, &mut dwarf, plans, sections)
+    let told = write_twice(alloc, &mut dwarf, plans, sections);
+    drop(dwarf);
+    told
 }
 
 /// Adds a root to a `Dwarf`, and writes it once.

@@ -2,6 +2,7 @@
 
 use crate::building::{Call, How, Value};
 use crate::plans::{Plan, ROOT, Told, write_plans};
+use crate::writing::drop;
 use dw_base::constants::{DW_AT_location, DW_AT_low_pc, DW_AT_macros, DW_AT_ranges, DW_AT_type};
 use dw_dwarf::{
     Address, DebugInfoRef, Error, LittleEndian, Range, Result, SectionId, Sections, UnitEntryId,
@@ -249,7 +250,9 @@ fn write_row(
 /// Writes the units of a row into new sections.
 fn write_new(alloc: Global, row: &Row) -> Result<Told> {
     let mut sections = Sections::new(alloc, RelocVec::new(alloc, LittleEndian))?;
-    write_row(alloc, row, &mut sections)
+    let told = write_row(alloc, row, &mut sections);
+    drop(sections);
+    told
 }
 
 #[test]

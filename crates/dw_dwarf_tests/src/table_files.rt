@@ -3,7 +3,7 @@
 
 use crate::building::{Call, How, Value};
 use crate::plans::{Told, add_unit};
-use crate::writing::{Written, refusal};
+use crate::writing::{Written, drop, refusal};
 use crate::{finding, reading};
 use dw_base::constants::{DW_AT_name, DW_AT_producer, DW_TAG_compile_unit, DW_TAG_subprogram};
 use dw_base::{DwAt, DwTag};
@@ -126,7 +126,11 @@ fn converted(alloc: Global, file: usize, sections: &Written) -> ConvertResult<Dw
 /// Tells whether the sections of a file become what was built.
 fn come_back(alloc: Global, file: usize, sections: &Written) -> bool {
     match converted(alloc, file, sections) {
-        Ok(dwarf) => finding::are_found(file, &dwarf),
+        Ok(dwarf) => {
+            let is_found = finding::are_found(file, &dwarf);
+            drop(dwarf);
+            is_found
+        }
         Err(_) => false,
     }
 }

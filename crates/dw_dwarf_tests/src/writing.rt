@@ -31,6 +31,10 @@ pub(crate) enum Job {
     Filling,
 }
 
+/// Drops a value. What owns much is handed on to be dropped, so that its owner's proof doesn't go
+/// through all that it owns.
+pub(crate) fn drop<T: Drop>(_value: T) {}
+
 /// Writes a `Dwarf`, and tells why it is refused.
 pub(crate) fn refusal(dwarf: &mut Dwarf, sections: &mut Written) -> Option<Error> {
     dwarf.write(sections).err()
@@ -59,5 +63,9 @@ pub(crate) fn write(
     job: Job,
 ) -> Result<Told> {
     let mut sections = Sections::new(alloc, FaultVec::new(alloc, endian, failing))?;
-    write_into(alloc, job, &mut Dwarf::new(alloc), &mut sections)
+    let mut dwarf = Dwarf::new(alloc);
+    let told = write_into(alloc, job, &mut dwarf, &mut sections);
+    drop(dwarf);
+    drop(sections);
+    told
 }

@@ -21,6 +21,8 @@ mod list_tables;
 #[cfg(test)]
 mod lists;
 #[cfg(test)]
+mod owned;
+#[cfg(test)]
 mod programs;
 #[cfg(test)]
 mod read_back;

@@ -3,6 +3,7 @@
 use crate::expressions::Places;
 use crate::list_calls::Call::{self, Op};
 use crate::list_calls::expression_of;
+use crate::owned::drop;
 use dw_base::constants::DW_OP_nop;
 use dw_base::{
     Encoding, LocationListId, LocationListsOffset, RangeListId, RangeListsOffset, Result,
@@ -108,7 +109,9 @@ fn write_ranges<W: Writer>(
     way: Way,
 ) -> Result<Answer> {
     let mut table = RangeListTable::new(alloc);
-    fill_ranges(alloc, &mut table, lists, sections, way)
+    let answer = fill_ranges(alloc, &mut table, lists, sections, way);
+    drop(table);
+    answer
 }
 
 fn expression(alloc: Global, body: Body) -> Result<Expression> {
@@ -229,7 +232,9 @@ fn write_locations<W: Writer>(
     way: Way,
 ) -> Result<Answer> {
     let mut table = LocationListTable::new(alloc);
-    fill_locations(alloc, &mut table, lists, sections, way)
+    let answer = fill_locations(alloc, &mut table, lists, sections, way);
+    drop(table);
+    answer
 }
 
 /// Writes a table of lists.
@@ -296,5 +301,6 @@ pub fn write_row(alloc: Global, row: Row, text: Text) -> Result<(Result<Answer>,
     let version = way.encoding.version;
     let is_right = is_there(&sections, lists, version, text)
         && leaves_open(&sections, version, text.3);
+    drop(sections);
     Ok((answer, is_right))
 }

@@ -3,6 +3,7 @@
 
 ghost use Rattle.std.specs.Prelude.{◌≡◌, IfOk};
 
+use crate::owned::drop;
 use crate::section_tests::{OfSections, sections_pass};
 use crate::writer_calls::{Answer, Answered, Held, Left, answers, first_wrong, leaves};
 use dw_base::{BigEndian, LittleEndian, Result, RunTimeEndian};
@@ -71,7 +72,11 @@ fn new_sections_pass<W: Writer + Clone + Held>(
     requires { (s n : W) → W.is_clone s n → W.meaning n ≡ W.meaning s }
 {
     match Sections::new(alloc, section) {
-        Ok(mut sections) => Ok(sections_pass(&mut sections, trial)),
+        Ok(mut sections) => {
+            let is_passed = sections_pass(&mut sections, trial);
+            drop(sections);
+            Ok(is_passed)
+        }
         Err(error) => Err(error),
     }
 }

@@ -1,5 +1,6 @@
 //! Programs as they are written, beside bytes that were put down by hand.
 
+use crate::owned::drop;
 use crate::programs::{Unit, encoding_of};
 use dw_base::{Encoding, Error, Result, RunTimeEndian};
 use dw_line::LineProgram;
@@ -70,7 +71,10 @@ fn write<W: Writer>(
 ) -> Result<usize> {
     let mut strings = StringTable::new(alloc);
     let mut line_strings = LineStringTable::new(alloc);
-    write_over(&mut strings, &mut line_strings, program, unit, w)
+    let place = write_over(&mut strings, &mut line_strings, program, unit, w);
+    drop(strings);
+    drop(line_strings);
+    place
 }
 
 /// Tells that a program is written as these bytes.
