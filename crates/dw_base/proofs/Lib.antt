@@ -6,3 +6,4 @@ pub mod EntryLaws
 pub mod InfoLaws
 pub mod Sizes
 mod Worked
+mod WorkedLineMachine

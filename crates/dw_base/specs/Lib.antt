@@ -12,3 +12,7 @@ pub mod Spelling
 pub mod Spellable
 pub mod Faults
 pub mod Pointers
+pub mod LineMachine
+pub mod Instructions
+pub mod LineTables
+pub mod LineReader

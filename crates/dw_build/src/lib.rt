@@ -1,6 +1,6 @@
 //! Builds the DWARF that a script says, line by line. A script's lines are those of `dw_script`;
-//! each is a call on the units that stand, as `dw_script_units` makes it. Those of the command `link`
-//! build several sets.
+//! each is a call on the units that stand, which `dw_script_units` makes. Those of the command
+//! `link` build several sets.
 #![tactic(auto)]
 
 mod script;

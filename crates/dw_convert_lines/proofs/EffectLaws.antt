@@ -3,7 +3,7 @@ use Rattle.std.proofs.Common.{◌≡◌, ◌∙◌, sym, ap, subst, inr, ◌⊎�
 use Rattle.std.specs.Prelude.{if◌then◌else◌}
 use Rattle.dw_base.specs.declared.address.Address.{Address}
 use Rattle.dw_base.specs.declared.ids.FileId.{FileId}
-use Rattle.dw_line_machine.specs.LineMachine.{LineHeader, Registers, Instruction, Copy, Special, EndSequence, SetAddress, Shown, Row, End, begin, cleared, changed, shows, leaves}
+use Rattle.dw_base.specs.LineMachine.{LineHeader, Registers, Instruction, Copy, Special, EndSequence, SetAddress, Shown, Row, End, begin, cleared, changed, shows, leaves}
 use Rattle.dw_line.specs.LinePrograms.{LineProgramValue, is_in_sequence}
 use Rattle.dw_line.specs.ProgramTexts.{ProgramValue}
 use Rattle.dw_sources.specs.declared.convert_error.ConvertError.{ConvertError}

@@ -4,8 +4,8 @@ use Rattle.std.specs.Prelude.{◌↔◌}
 use Rattle.dw_base.specs.declared.constants.TheConstants.{DW_LNE_define_file}
 use Rattle.dw_base.specs.declared.address.Address.{Address}
 use Rattle.dw_base.specs.declared.ids.FileId.{FileId}
-use Rattle.dw_line_machine.specs.Instructions.{instruction_at}
-use Rattle.dw_line_machine.specs.LineMachine.{LineHeader, Registers, Instruction}
+use Rattle.dw_base.specs.Instructions.{instruction_at}
+use Rattle.dw_base.specs.LineMachine.{LineHeader, Registers, Instruction}
 use Rattle.dw_line.specs.LinePrograms.{LineProgramValue}
 use Rattle.dw_line.specs.ProgramTexts.{ProgramValue}
 use Rattle.dw_read.specs.Reading.{Reading, IsReading, left}

@@ -4,7 +4,7 @@ use Rattle.std.specs.Prelude.{◌||◌, if◌then◌else◌}
 use Rattle.std.proofs.lemmas.List.{map-append}
 use Rattle.dw_base.specs.declared.address.Address.{Address}
 use Rattle.dw_base.specs.declared.ids.FileId.{FileId}
-use Rattle.dw_line_machine.specs.LineMachine.{LineHeader, Registers, Instruction, EndSequence, Shown, Row, End, begin, changed, shows, leaves}
+use Rattle.dw_base.specs.LineMachine.{LineHeader, Registers, Instruction, EndSequence, Shown, Row, End, begin, changed, shows, leaves}
 use Rattle.dw_line.specs.LineRows.{last_offset}
 use Rattle.dw_line.specs.ProgramTexts.{ProgramValue, minimum_length, with_begin, with_row, with_end}
 use Rattle.dw_line.specs.Programs.{SequenceValue}

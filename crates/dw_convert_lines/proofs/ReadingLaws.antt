@@ -4,8 +4,8 @@ use Rattle.std.specs.Prelude.{◌||◌, if◌then◌else◌}
 use Rattle.std.specs.List.{flat_map}
 use Rattle.dw_base.specs.Numbers.{◌>>=◌, when}
 use Rattle.dw_base.proofs.NumberLaws.{bind_is, bind_parts, when_same}
-use Rattle.dw_line_machine.specs.Instructions.{instruction_at, instructions_at, rows_of}
-use Rattle.dw_line_machine.specs.LineMachine.{LineHeader, Registers, Instruction, EndSequence, SetAddress, Shown, Row, End, begin, changed, shows, leaves, run}
+use Rattle.dw_base.specs.Instructions.{instruction_at, instructions_at, rows_of}
+use Rattle.dw_base.specs.LineMachine.{LineHeader, Registers, Instruction, EndSequence, SetAddress, Shown, Row, End, begin, changed, shows, leaves, run}
 use Rattle.dw_convert_lines.specs.ReadRows.{is_narrow, stepped, walk, shows_row, any_row, set_by, set_before_rows, ReadSequence, IsSequence, AreSequences, IsNext, AreRead, shown_of}
 
 pub read_more : (h : LineHeader) (bytes : List ℕ) (is : List Instruction) (rest : List ℕ) (i : Instruction) (next : List ℕ) → AreRead h bytes is rest → IsNext h rest i next → AreRead h bytes (is ++ i ∷ []) next

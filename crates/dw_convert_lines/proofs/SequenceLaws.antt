@@ -4,7 +4,7 @@ use Rattle.std.specs.Prelude.{unwrap_or}
 use Rattle.std.specs.Option.{option_map}
 use Rattle.dw_base.specs.declared.address.Address.{Address}
 use Rattle.dw_base.specs.declared.ids.FileId.{FileId}
-use Rattle.dw_line_machine.specs.LineMachine.{Registers}
+use Rattle.dw_base.specs.LineMachine.{Registers}
 use Rattle.dw_line.specs.LinePrograms.{LineProgramValue, line_encoding_of, is_in_sequence, last_offset_of, begun}
 use Rattle.dw_line.specs.LineRows.{last_offset}
 use Rattle.dw_line.specs.ProgramTexts.{ProgramValue, minimum_length, with_begin, with_row, with_end}

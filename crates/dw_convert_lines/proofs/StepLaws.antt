@@ -5,7 +5,7 @@ use Rattle.std.proofs.lemmas.Bool.Decides.{nat_tests}
 use Rattle.std.proofs.Math.Seq.{drop-cons}
 use Rattle.dw_base.specs.Numbers.{◌>>=◌, when, high_first, low_first}
 use Rattle.dw_base.specs.declared.common.LineEncoding.{LineEncoding}
-use Rattle.dw_line_machine.specs.LineMachine.{LineHeader, Registers, ConstAddPc, Special, put_line, changed}
+use Rattle.dw_base.specs.LineMachine.{LineHeader, Registers, ConstAddPc, Special, put_line, changed}
 use Rattle.dw_convert_lines.specs.ReadRows.{stepped}
 use Rattle.dw_convert_lines.specs.RegisterSteps.{in_64_bits, IsTold}
 use Rattle.dw_convert_lines.specs.RegisterViews.{narrowed, line_narrowed}

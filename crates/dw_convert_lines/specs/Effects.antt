@@ -1,5 +1,5 @@
 -- What instructions do besides changing registers.
-use Rattle.dw_line_machine.specs.LineMachine.{Instruction, Copy, Special, EndSequence, SetAddress}
+use Rattle.dw_base.specs.LineMachine.{Instruction, Copy, Special, EndSequence, SetAddress}
 use Rattle.dw_convert_lines.specs.declared.machine.Effect.{Effect}
 use Rattle.dw_convert_lines.specs.declared.machine.Effect.TheVariants.{Nothing, SetsAddress, ShowsRow, EndsSequence}
 

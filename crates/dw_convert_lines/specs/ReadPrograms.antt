@@ -4,7 +4,7 @@ use Rattle.dw_base.specs.declared.address.Address.{Address}
 use Rattle.dw_base.specs.declared.common.Encoding.{Encoding}
 use Rattle.dw_base.specs.declared.common.LineEncoding.{LineEncoding}
 use Rattle.dw_base.specs.declared.ids.FileId.{FileId}
-use Rattle.dw_line_machine.specs.LineMachine.{LineHeader}
+use Rattle.dw_base.specs.LineMachine.{LineHeader}
 use Rattle.dw_line.specs.LinePrograms.{LineProgramValue}
 use Rattle.dw_read.specs.Reading.{Reading, left}
 use Rattle.dw_read_lines.specs.LineHeaderViews.{machine_of}

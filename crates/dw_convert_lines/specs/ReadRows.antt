@@ -3,8 +3,8 @@
 use Rattle.std.specs.Prelude.{◌≡◌, ℕ, ◌^◌, ◌<◌, nat_lt, Bool, true, false, ◌&&◌, ◌||◌, List, [], ◌∷◌, ◌++◌, map, length, Option, Some, None, Ok, if◌then◌else◌}
 use Rattle.dw_base.specs.Numbers.{◌>>=◌, when}
 use Rattle.dw_base.specs.declared.constants.TheConstants.{DW_LNE_define_file}
-use Rattle.dw_line_machine.specs.Instructions.{instruction_at}
-use Rattle.dw_line_machine.specs.LineMachine.{LineHeader, Registers, Instruction, Copy, Special, EndSequence, SetAddress, Shown, Row, End, begin, changed, shows, leaves}
+use Rattle.dw_base.specs.Instructions.{instruction_at}
+use Rattle.dw_base.specs.LineMachine.{LineHeader, Registers, Instruction, Copy, Special, EndSequence, SetAddress, Shown, Row, End, begin, changed, shows, leaves}
 use Rattle.dw_read_lines.specs.LineInstructions.{extended_code}
 
 -- the address and the line, which instructions add to, have 64 bits

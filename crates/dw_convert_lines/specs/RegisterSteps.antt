@@ -2,7 +2,7 @@
 use Rattle.std.specs.Prelude.{◌≡◌, ℕ, ◌^◌, nat_lt, Bool, true, false, Option, Some}
 use Rattle.dw_base.specs.Numbers.{when}
 use Rattle.dw_base.specs.declared.common.LineEncoding.{LineEncoding}
-use Rattle.dw_line_machine.specs.LineMachine.{LineHeader, Instruction, AdvancePc, AdvanceLine, ConstAddPc, FixedAdvancePc, Special, SetAddress}
+use Rattle.dw_base.specs.LineMachine.{LineHeader, Instruction, AdvancePc, AdvanceLine, ConstAddPc, FixedAdvancePc, Special, SetAddress}
 
 -- whether an instruction adds to a register, or sets the address
 abbrev pub is_moving : Instruction → Bool

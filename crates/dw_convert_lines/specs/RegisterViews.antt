@@ -1,7 +1,7 @@
 -- The registers of the machine as they are held.
 use Rattle.std.specs.Prelude.{ℤ, Option, Some}
 use Rattle.dw_base.specs.Numbers.{◌>>=◌, when}
-use Rattle.dw_line_machine.specs.LineMachine.{Registers, line_moved}
+use Rattle.dw_base.specs.LineMachine.{Registers, line_moved}
 use Rattle.dw_convert_lines.specs.ReadRows.{is_narrow}
 use Rattle.dw_convert_lines.specs.declared.registers.Registers.{Registers as Held}
 

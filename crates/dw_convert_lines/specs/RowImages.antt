@@ -2,7 +2,7 @@
 use Rattle.std.specs.Prelude.{◌≡◌, ℕ, ◌-◌, ◌%◌, ◌<◌, ◌==◌, nat_le, Bool, ◌&&◌, List, [], ◌∷◌, Option, Some, None, Result, Ok, Err, slice_get, if◌then◌else◌}
 use Rattle.dw_base.specs.declared.address.Address.{Address}
 use Rattle.dw_base.specs.declared.ids.FileId.{FileId}
-use Rattle.dw_line_machine.specs.LineMachine.{Registers}
+use Rattle.dw_base.specs.LineMachine.{Registers}
 use Rattle.dw_line.specs.LineRows.{last_offset}
 use Rattle.dw_line.specs.Programs.{SequenceValue}
 use Rattle.dw_line.specs.RawRows.{base_of}

@@ -3,8 +3,8 @@ use Rattle.std.specs.Prelude.{◌≡◌, ◌⊎◌, ℕ, Bool, true, false, not,
 use Rattle.std.specs.List.{flat_map}
 use Rattle.dw_base.specs.declared.address.Address.{Address}
 use Rattle.dw_base.specs.declared.ids.FileId.{FileId}
-use Rattle.dw_line_machine.specs.Instructions.{rows_of}
-use Rattle.dw_line_machine.specs.LineMachine.{LineHeader, Registers, Instruction, Shown, Row, End, begin, shows, leaves}
+use Rattle.dw_base.specs.Instructions.{rows_of}
+use Rattle.dw_base.specs.LineMachine.{LineHeader, Registers, Instruction, Shown, Row, End, begin, shows, leaves}
 use Rattle.dw_line.specs.LinePrograms.{LineProgramValue, file_count_of}
 use Rattle.dw_line.specs.LineRows.{last_offset}
 use Rattle.dw_line.specs.ProgramTexts.{ProgramValue, minimum_length, with_begin, with_row, with_end}

@@ -2,7 +2,7 @@
 
 ghost use Rattle.std.specs.Prelude.{◌≡◌, ◌+◌, ◌*◌};
 ghost use Rattle.std.specs.Option.{option_map};
-ghost use Rattle.dw_line_machine.specs.LineMachine.{LineHeader, begin, cleared};
+ghost use Rattle.dw_base.specs.LineMachine.{LineHeader, begin, cleared};
 ghost use Rattle.dw_convert_lines.specs.RegisterViews.{registers_of, narrowed, line_narrowed};
 
 /// What the line machine holds between two instructions.

@@ -3,7 +3,7 @@
 ghost use Rattle.std.specs.Prelude.{◌≡◌, Bool, false, Some};
 ghost use Rattle.std.specs.Option.{option_map};
 ghost use Rattle.dw_base.specs.Numbers.{value_of, high_first, low_first};
-ghost use Rattle.dw_line_machine.specs.LineMachine.{LineHeader, Special, ConstAddPc, changed};
+ghost use Rattle.dw_base.specs.LineMachine.{LineHeader, Special, ConstAddPc, changed};
 ghost use Rattle.dw_read.specs.Reading.{left};
 ghost use Rattle.dw_read_lines.specs.LineHeaderViews.{machine_of};
 ghost use Rattle.dw_read_lines.specs.LineInstructionViews.{instruction_of};
@@ -18,7 +18,7 @@ use dw_read_lines::{LineInstruction, LineProgramHeader};
 
 /// What an instruction makes of the registers, before it leaves them to the next one. None comes
 /// where a sum falls below 0 or passes 64 bits.
-#[tactic(auto, unfolding(dw_line_machine::specs::LineMachine::changed))]
+#[tactic(auto, unfolding(dw_base::specs::LineMachine::changed))]
 pub(crate) fn step<R: Reader>(
     header: &LineProgramHeader<R>,
     instruction: &LineInstruction<R>,
@@ -48,7 +48,7 @@ pub(crate) fn step<R: Reader>(
 }
 
 /// What an instruction makes of them that adds to no register and sets no address.
-#[tactic(auto, unfolding(dw_line_machine::specs::LineMachine::changed))]
+#[tactic(auto, unfolding(dw_base::specs::LineMachine::changed))]
 fn marked<R: Reader>(instruction: &LineInstruction<R>, registers: Registers) -> Registers
     requires { is_moving (instruction_of R.reading instruction.now) ≡ false }
     ensures is { (h : LineHeader) → changed h (instruction_of R.reading instruction.now)

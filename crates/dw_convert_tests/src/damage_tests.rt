@@ -59,8 +59,8 @@ const OLD_LOCATIONS_TURNED: &[u8] = b"\
     EEEEEEEEE EEEEEEEEE EEEEEEEEE";
 
 /// What is converted, in which unit, the lengths to which it can be cut and still be whole, and
-/// what comes of it where a byte is turned. A list is whole at its close alone, an expression behind
-/// any operation.
+/// what comes of it where a byte is turned. A list is whole at its close alone, an expression
+/// behind any operation.
 type Row = (
     Kind,
     &'static [u8],

@@ -8,7 +8,7 @@ use Rattle.dw_base.specs.declared.ids.FileId.{FileId}
 use Rattle.dw_line.specs.LinePrograms.{LineProgramValue, is_in_sequence}
 use Rattle.dw_line.specs.LineRows.{first_line_row}
 use Rattle.dw_line.specs.ProgramTexts.{ProgramValue}
-use Rattle.dw_line_machine.specs.LineMachine.{LineHeader}
+use Rattle.dw_base.specs.LineMachine.{LineHeader}
 use Rattle.dw_read.specs.Reading.{Reading, left}
 use Rattle.dw_read_lines.specs.LineHeaders.{ReadLines}
 use Rattle.dw_read_lines.specs.LineHeaderViews.{lines_of}

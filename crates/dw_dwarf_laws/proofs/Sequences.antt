@@ -10,7 +10,7 @@ use Rattle.dw_line.specs.ProgramTexts.{ProgramValue, minimum_length}
 use Rattle.dw_line.specs.Programs.{SequenceValue}
 use Rattle.dw_line.specs.RawRows.{base_of}
 use Rattle.dw_line.specs.declared.row.LineRow.{LineRow}
-use Rattle.dw_line_machine.specs.LineMachine.{LineHeader, Registers, Instruction, EndSequence, Shown, Row, End, begin, shows, leaves}
+use Rattle.dw_base.specs.LineMachine.{LineHeader, Registers, Instruction, EndSequence, Shown, Row, End, begin, shows, leaves}
 use Rattle.dw_convert_lines.specs.ReadRows.{ReadSequence, IsSequence, AreSequences, AreRead, stepped, walk}
 use Rattle.dw_convert_lines.specs.RowImages.{AddressImage, row_image, offset_image, AreRowImages, AreSequenceImages, IsSequenceImage}
 use Rattle.dw_convert_lines.specs.RowOutcomes.{AddsSequences}

@@ -59,8 +59,8 @@ impl<'a, R: Reader> UnitRows<'a, R> {
     }
 
     /// Reads the next entry, and answers its id and that of its parent, both numbered in the order
-    /// of reading, the root as 0; the root's parent is the root. Null entries are passed. It is None
-    /// where no entry is left. Where all rows of the unit can be read it is refused as `NoMemory`
+    /// of reading, the root as 0; the root's parent is the root. Null entries are passed. None tells
+    /// that no entry is left. Where all rows of the unit can be read it is refused as `NoMemory`
     /// alone.
     pub fn next(
         &mut self,

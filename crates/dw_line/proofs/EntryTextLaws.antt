@@ -14,7 +14,7 @@ use Rattle.dw_writer.specs.SectionTexts.{offset_text}
 use Rattle.dw_strings.specs.Strings.{closed, string_place}
 use Rattle.dw_strings.proofs.StringLaws.{text-again}
 use Rattle.dw_line.specs.Files.{columns_of, file_numbers, first_source, has_timestamp, has_size, source_of, source_text, file_text}
-use Rattle.dw_line_machine.specs.LineTables.{ReadEntry, Inline, InStrings, InLineStrings, untold, taken, name_at, part_at, entry_at}
+use Rattle.dw_base.specs.LineTables.{ReadEntry, Inline, InStrings, InLineStrings, untold, taken, name_at, part_at, entry_at}
 use Rattle.dw_line.specs.BuiltTables.{told, name_read, file_read}
 use Rattle.dw_line.specs.Names.{IsName, form_of, name_text}
 use Rattle.dw_line.specs.RowTexts.{where_needed}

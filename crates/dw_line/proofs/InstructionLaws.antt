@@ -8,8 +8,8 @@ use Rattle.dw_base.specs.Leb128.{uleb_at, uleb, sleb}
 use Rattle.dw_base.proofs.NumberLaws.{bind_is, bytes_at-again, number-fits-again, length-num}
 use Rattle.dw_base.proofs.Leb128Laws.{uleb-again, uleb_short, sleb-again}
 use Rattle.dw_base.specs.declared.constants.TheConstants.{DW_LNS_copy, DW_LNS_advance_pc, DW_LNS_advance_line, DW_LNS_set_file, DW_LNS_set_column, DW_LNS_negate_stmt, DW_LNS_set_basic_block, DW_LNS_const_add_pc, DW_LNS_fixed_advance_pc, DW_LNS_set_prologue_end, DW_LNS_set_epilogue_begin, DW_LNS_set_isa, DW_LNE_end_sequence, DW_LNE_set_address, DW_LNE_set_discriminator}
-use Rattle.dw_line_machine.specs.LineMachine.{LineHeader, Instruction, Copy, AdvancePc, AdvanceLine, SetFile, SetColumn, NegateStatement, SetBasicBlock, ConstAddPc, FixedAdvancePc, SetPrologueEnd, SetEpilogueBegin, SetIsa, Special, EndSequence, SetAddress, SetDiscriminator, Passed}
-use Rattle.dw_line_machine.specs.Instructions.{with, standard_at, extended_of, extended_at, instruction_at, instructions_at, extended_bytes, instruction_bytes, IsSpellable, IsWrittenHeader}
+use Rattle.dw_base.specs.LineMachine.{LineHeader, Instruction, Copy, AdvancePc, AdvanceLine, SetFile, SetColumn, NegateStatement, SetBasicBlock, ConstAddPc, FixedAdvancePc, SetPrologueEnd, SetEpilogueBegin, SetIsa, Special, EndSequence, SetAddress, SetDiscriminator, Passed}
+use Rattle.dw_base.specs.Instructions.{with, standard_at, extended_of, extended_at, instruction_at, instructions_at, extended_bytes, instruction_bytes, IsSpellable, IsWrittenHeader}
 
 -- an operand that was read
 with_is : {A : Type 0} (make : A → Instruction) (r : Option (A × List ℕ)) (v : A) (rest : List ℕ) → r ≡ Some (v, rest) → with make r ≡ Some (make v, rest)

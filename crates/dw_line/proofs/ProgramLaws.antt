@@ -5,8 +5,8 @@ use Rattle.std.proofs.Math.Nat.{div-le_self}
 use Rattle.std.proofs.lemmas.List.Elements.{All-nil, All-cons, All-append}
 use Rattle.dw_base.specs.Numbers.{◌>>=◌}
 use Rattle.dw_base.proofs.NumberLaws.{bind_is}
-use Rattle.dw_line_machine.specs.LineMachine.{LineHeader, Registers, Instruction, Copy, AdvancePc, AdvanceLine, SetFile, SetColumn, NegateStatement, SetBasicBlock, SetPrologueEnd, SetEpilogueBegin, SetIsa, EndSequence, SetAddress, SetDiscriminator, Shown, Row, End, begin, cleared, changed, shows, leaves, run}
-use Rattle.dw_line_machine.specs.Instructions.{IsSpellable, IsWrittenHeader, rows_of}
+use Rattle.dw_base.specs.LineMachine.{LineHeader, Registers, Instruction, Copy, AdvancePc, AdvanceLine, SetFile, SetColumn, NegateStatement, SetBasicBlock, SetPrologueEnd, SetEpilogueBegin, SetIsa, EndSequence, SetAddress, SetDiscriminator, Shown, Row, End, begin, cleared, changed, shows, leaves, run}
+use Rattle.dw_base.specs.Instructions.{IsSpellable, IsWrittenHeader, rows_of}
 use Rattle.dw_line.specs.RawRows.{RawRow, Sequence, first_row, given, line_change, advance, row_instructions, rows_instructions, address_instructions, sequence_instructions, sequences_bytes, base_of, registers_of, shown_rows, shown_sequence, IsReached, IsRowAfter, AreRowsAfter, IsAddress, IsSequence, AreSequences}
 use Rattle.dw_line.proofs.InstructionLaws.{program-again}
 use Rattle.dw_line.proofs.RowLaws.{quiet, put_address, row-shown}

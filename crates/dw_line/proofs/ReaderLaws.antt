@@ -13,15 +13,15 @@ use Rattle.dw_writer.specs.SignedNumbers.{twos_complement}
 use Rattle.dw_writer.specs.Texts.{Text, followed}
 use Rattle.dw_writer.specs.Meaning.{Layout, Meaning, Model, IsTidy, Appends, resolved}
 use Rattle.dw_writer.proofs.Laws.{followed_assoc, resolved-wide}
-use Rattle.dw_line_machine.specs.LineReader.{is_line_version}
+use Rattle.dw_base.specs.LineReader.{is_line_version}
 use Rattle.dw_line.specs.Headers.{version_bytes, flag_byte, parameters_bytes, tables_text, header_length, header_text}
-use Rattle.dw_line_machine.specs.LineMachine.{LineHeader}
-use Rattle.dw_line_machine.specs.LineReader.{parameters_at, address_size_at, ReadProgram, line_program_at, line_rows_at, line_tables_at}
+use Rattle.dw_base.specs.LineMachine.{LineHeader}
+use Rattle.dw_base.specs.LineReader.{parameters_at, address_size_at, ReadProgram, line_program_at, line_rows_at, line_tables_at}
 use Rattle.dw_line.specs.Shows.{ShowsSequences, ShowsTables}
-use Rattle.dw_line_machine.specs.LineTables.{byte_at}
-use Rattle.dw_line_machine.specs.LineReader.{signed_byte}
+use Rattle.dw_base.specs.LineTables.{byte_at}
+use Rattle.dw_base.specs.LineReader.{signed_byte}
 use Rattle.dw_line.specs.LineRows.{standard_operand_counts, written_header}
-use Rattle.dw_line_machine.specs.Instructions.{IsWrittenHeader}
+use Rattle.dw_base.specs.Instructions.{IsWrittenHeader}
 use Rattle.dw_line.specs.Parts.{texts}
 use Rattle.dw_line.specs.ProgramTexts.{ProgramValue, IsLineEncoding, HeaderIsWide, open_sequence, open_sequences, program_sequences, open_text, sequences_text, program_length, program_size, contents_text, program_text}
 use Rattle.dw_line.specs.Programs.{ended, built_model, ended_text}

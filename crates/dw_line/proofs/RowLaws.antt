@@ -5,7 +5,7 @@ use Rattle.std.proofs.Math.IntN.{+ℤ_comm, -ℤ-+ℤ_cancel}
 use Rattle.std.proofs.lemmas.Bool.Decides.{nat_tests}
 use Rattle.std.specs.Bool.{beq}
 use Rattle.dw_base.specs.Numbers.{◌>>=◌}
-use Rattle.dw_line_machine.specs.LineMachine.{LineHeader, Registers, Instruction, Copy, AdvancePc, AdvanceLine, SetFile, SetColumn, NegateStatement, SetBasicBlock, SetPrologueEnd, SetEpilogueBegin, SetIsa, SetDiscriminator, Row, cleared, put_line, changed, shows, leaves, run}
+use Rattle.dw_base.specs.LineMachine.{LineHeader, Registers, Instruction, Copy, AdvancePc, AdvanceLine, SetFile, SetColumn, NegateStatement, SetBasicBlock, SetPrologueEnd, SetEpilogueBegin, SetIsa, SetDiscriminator, Row, cleared, put_line, changed, shows, leaves, run}
 use Rattle.dw_line.specs.RawRows.{RawRow, given, line_change, advance, row_instructions, registers_of, IsReached, IsRowAfter}
 
 bind_none_more : {A : Type 0} (x : Option A) → ◌>>=◌ {B = A} x (λ more. Some more) ≡ x

@@ -4,8 +4,8 @@ use Rattle.std.specs.Bool.{beq}
 use Rattle.std.specs.List.{flat_map}
 use Rattle.std.proofs.lemmas.List.Concat.{flat_map-append}
 use Rattle.dw_base.specs.declared.constants.TheConstants.{DW_LNS_copy, DW_LNE_end_sequence}
-use Rattle.dw_line_machine.specs.LineMachine.{LineHeader, Instruction, Copy, AdvancePc, AdvanceLine, SetFile, SetColumn, NegateStatement, SetBasicBlock, SetPrologueEnd, SetEpilogueBegin, SetIsa, EndSequence, SetDiscriminator}
-use Rattle.dw_line_machine.specs.Instructions.{extended_bytes, instruction_bytes}
+use Rattle.dw_base.specs.LineMachine.{LineHeader, Instruction, Copy, AdvancePc, AdvanceLine, SetFile, SetColumn, NegateStatement, SetBasicBlock, SetPrologueEnd, SetEpilogueBegin, SetIsa, EndSequence, SetDiscriminator}
+use Rattle.dw_base.specs.Instructions.{extended_bytes, instruction_bytes}
 use Rattle.dw_line.specs.RawRows.{RawRow, given, line_change, row_instructions, end_instructions, rows_instructions}
 use Rattle.dw_line.specs.RowTexts.{where_needed, row_text, rows_text, last_row, end_text, sequence_rows_text}
 

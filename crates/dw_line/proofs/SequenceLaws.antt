@@ -12,8 +12,8 @@ use Rattle.dw_writer.specs.Texts.{Text, followed, num_text, int_text}
 use Rattle.dw_writer.specs.Meaning.{Layout}
 use Rattle.dw_writer.specs.SectionTexts.{address_text}
 use Rattle.dw_base.specs.declared.constants.TheConstants.{DW_LNE_set_address}
-use Rattle.dw_line_machine.specs.LineMachine.{LineHeader, SetAddress}
-use Rattle.dw_line_machine.specs.Instructions.{instruction_bytes, IsWrittenHeader, rows_of}
+use Rattle.dw_base.specs.LineMachine.{LineHeader, SetAddress}
+use Rattle.dw_base.specs.Instructions.{instruction_bytes, IsWrittenHeader, rows_of}
 use Rattle.dw_line.specs.RawRows.{RawRow, Sequence, first_row, rows_instructions, sequence_instructions, sequences_bytes, shown_sequence, AreRowsAfter, IsAddress, IsSequence, AreSequences}
 use Rattle.dw_line.specs.Parts.{texts}
 use Rattle.dw_line.specs.RowTexts.{sequence_rows_text}

@@ -8,7 +8,7 @@ use Rattle.dw_base.specs.declared.address.Address.{Address}
 use Rattle.dw_writer.specs.Meaning.{Meaning, Adds, Appends}
 use Rattle.dw_writer.specs.SectionTexts.{address_text}
 use Rattle.dw_writer.proofs.Steps.{Adds-appends, Adds-then, Appends-then}
-use Rattle.dw_line_machine.specs.LineMachine.{LineHeader}
+use Rattle.dw_base.specs.LineMachine.{LineHeader}
 use Rattle.dw_line.specs.LineRows.{raw_row, built_sequence, are_in_order, last_offset, is_end_in_order, IsRanged}
 use Rattle.dw_line.specs.RawRows.{row_before, line_change, IsReached, IsRowAfter, AreRowsAfter}
 use Rattle.dw_line.specs.RowTexts.{rows_text, last_row, end_text, sequence_rows_text, lines_fit}

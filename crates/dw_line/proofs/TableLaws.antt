@@ -16,7 +16,7 @@ use Rattle.dw_writer.specs.Meaning.{Layout, Model}
 use Rattle.dw_strings.specs.Strings.{closed}
 use Rattle.dw_strings.proofs.StringLaws.{text-again}
 use Rattle.dw_line.specs.Headers.{flag_byte, content_bytes, directory_formats, source_content, part_count, file_formats}
-use Rattle.dw_line_machine.specs.LineTables.{ReadEntry, untold, entry_at, many_at, format_at, new_entries_at, old_entries_at}
+use Rattle.dw_base.specs.LineTables.{ReadEntry, untold, entry_at, many_at, format_at, new_entries_at, old_entries_at}
 use Rattle.dw_line.specs.Parts.{texts}
 use Rattle.dw_line.specs.RowTexts.{where_needed}
 use Rattle.dw_line.specs.declared.file.Columns.{Columns}

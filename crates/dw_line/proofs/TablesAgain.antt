@@ -18,7 +18,7 @@ use Rattle.dw_strings.specs.Strings.{closed}
 use Rattle.dw_line.specs.Accepted.{is_new_file, has_form, sources_agree, forms_agree}
 use Rattle.dw_line.specs.Files.{old_columns, columns_of, first_source, has_timestamp, has_size, has_md5, source_of, file_text}
 use Rattle.dw_line.specs.Headers.{directory_formats, file_formats, directory_form, file_form, new_tables_text, tables_text}
-use Rattle.dw_line_machine.specs.LineTables.{ReadEntry, Inline, untold, named, entry_at, new_entries_at, old_directory_at, old_file_at, old_tables_at, new_tables_at, tables_at}
+use Rattle.dw_base.specs.LineTables.{ReadEntry, Inline, untold, named, entry_at, new_entries_at, old_directory_at, old_file_at, old_tables_at, new_tables_at, tables_at}
 use Rattle.dw_line.specs.BuiltTables.{told, name_read, directory_read, file_read, tables_read}
 use Rattle.dw_line.specs.Names.{IsName, IsFull, form_of, name_text}
 use Rattle.dw_line.specs.Parts.{texts}

@@ -7,7 +7,7 @@ use Rattle.dw_base.specs.declared.common.Encoding.{Encoding}
 use Rattle.dw_base.specs.declared.constants.TheConstants.{DW_FORM_string}
 use Rattle.dw_base.specs.declared.error.Error.{Error}
 use Rattle.dw_base.specs.declared.error.Error.TheVariants.{IncompatibleLineProgramEncoding, UnsupportedVersion, UnsupportedWordSize, NeedVersion, LineStringFormMismatch}
-use Rattle.dw_line_machine.specs.LineReader.{is_line_version}
+use Rattle.dw_base.specs.LineReader.{is_line_version}
 use Rattle.dw_line.specs.Names.{form_of}
 use Rattle.dw_line.specs.Files.{first_source, source_of}
 use Rattle.dw_line.specs.Headers.{directory_form, file_form}

@@ -5,7 +5,7 @@ use Rattle.dw_base.specs.declared.section_id.SectionId.TheVariants.{DebugStr, De
 use Rattle.dw_writer.specs.Texts.{zeros}
 use Rattle.dw_writer.specs.Meaning.{Layout, start_of}
 use Rattle.dw_strings.specs.Strings.{string_place}
-use Rattle.dw_line_machine.specs.LineTables.{ReadName, Inline, InStrings, InLineStrings, ReadEntry, LineTables, named}
+use Rattle.dw_base.specs.LineTables.{ReadName, Inline, InStrings, InLineStrings, ReadEntry, LineTables, named}
 use Rattle.dw_line.specs.Files.{has_md5, first_source, source_of}
 use Rattle.dw_line.specs.declared.line_string.LineString.{LineString}
 use Rattle.dw_line.specs.declared.line_string.LineString.TheVariants.{String, StringRef, LineStringRef}

@@ -3,8 +3,8 @@ use Rattle.std.specs.Prelude.{ℕ, ◌+◌, ◌%◌, ◌^◌, ◌<◌, Bool, tru
 use Rattle.dw_base.specs.declared.address.Address.{Address}
 use Rattle.dw_base.specs.declared.common.LineEncoding.{LineEncoding}
 use Rattle.dw_writer.specs.SignedNumbers.{twos_complement}
-use Rattle.dw_line_machine.specs.LineMachine.{LineHeader}
-use Rattle.dw_line_machine.specs.LineReader.{signed_byte}
+use Rattle.dw_base.specs.LineMachine.{LineHeader}
+use Rattle.dw_base.specs.LineReader.{signed_byte}
 use Rattle.dw_line.specs.RawRows.{RawRow}
 use Rattle.dw_line.specs.SequenceTexts.{BuiltSequence}
 use Rattle.dw_line.specs.declared.row.LineRow.{LineRow}

@@ -4,8 +4,8 @@ use Rattle.std.specs.Bool.{beq}
 use Rattle.std.specs.List.{flat_map}
 use Rattle.dw_base.specs.Numbers.{fits}
 use Rattle.dw_base.specs.Leb128.{fits_i64}
-use Rattle.dw_line_machine.specs.LineMachine.{LineHeader, Registers, Instruction, Copy, AdvancePc, AdvanceLine, SetFile, SetColumn, NegateStatement, SetBasicBlock, SetPrologueEnd, SetEpilogueBegin, SetIsa, EndSequence, SetAddress, SetDiscriminator, Shown, Row, End}
-use Rattle.dw_line_machine.specs.Instructions.{instruction_bytes}
+use Rattle.dw_base.specs.LineMachine.{LineHeader, Registers, Instruction, Copy, AdvancePc, AdvanceLine, SetFile, SetColumn, NegateStatement, SetBasicBlock, SetPrologueEnd, SetEpilogueBegin, SetIsa, EndSequence, SetAddress, SetDiscriminator, Shown, Row, End}
+use Rattle.dw_base.specs.Instructions.{instruction_bytes}
 
 -- A row as instructions tell it: its address from the sequence's on, and its file by the number that the program has for it.
 pub record RawRow : Type 0 where

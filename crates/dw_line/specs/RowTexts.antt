@@ -7,7 +7,7 @@ use Rattle.dw_base.specs.declared.error.Error.{Error}
 use Rattle.dw_base.specs.declared.error.Error.TheVariants.{ValueTooLarge}
 use Rattle.dw_writer.specs.Meaning.{Meaning}
 use Rattle.dw_writer.specs.Causes.{BytesRefused}
-use Rattle.dw_line_machine.specs.Instructions.{extended_bytes}
+use Rattle.dw_base.specs.Instructions.{extended_bytes}
 use Rattle.dw_line.specs.RawRows.{RawRow, line_change}
 
 abbrev pub where_needed : Bool → List ℕ → List ℕ

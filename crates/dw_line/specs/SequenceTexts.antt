@@ -10,7 +10,7 @@ use Rattle.dw_base.specs.declared.error.Error.TheVariants.{InvalidAddress, Value
 use Rattle.dw_writer.specs.Texts.{followed}
 use Rattle.dw_writer.specs.Meaning.{Layout, Model}
 use Rattle.dw_writer.specs.SectionTexts.{address_text}
-use Rattle.dw_line_machine.specs.LineMachine.{LineHeader, Shown}
+use Rattle.dw_base.specs.LineMachine.{LineHeader, Shown}
 use Rattle.dw_line.specs.RawRows.{RawRow, Sequence, first_row, shown_sequence, AreRowsAfter}
 use Rattle.dw_line.specs.RowTexts.{sequence_rows_text, lines_fit}
 

@@ -1,7 +1,7 @@
 -- What a program that was added at the end of its section is read as (DWARF 5, 6.2).
 use Rattle.std.specs.Prelude.{◌≡◌, ℕ, List, ◌++◌, Some}
 use Rattle.dw_writer.specs.Meaning.{Layout, Meaning, IsTidy, resolved}
-use Rattle.dw_line_machine.specs.LineReader.{line_rows_at, line_tables_at}
+use Rattle.dw_base.specs.LineReader.{line_rows_at, line_tables_at}
 use Rattle.dw_line.specs.BuiltTables.{tables_read}
 use Rattle.dw_line.specs.SequenceTexts.{BuiltSequence, built_rows}
 use Rattle.dw_line.specs.declared.line_string.LineString.{LineString}

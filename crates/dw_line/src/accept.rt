@@ -5,7 +5,7 @@ ghost use Rattle.std.specs.List.{list_all, list_any};
 ghost use Rattle.dw_base.specs.Numbers.{is_width};
 ghost use Rattle.dw_base.specs.declared.error.Error.{Error as AnError};
 ghost use Rattle.dw_line.specs.Files.{source_of};
-ghost use Rattle.dw_line_machine.specs.LineReader.{is_line_version};
+ghost use Rattle.dw_base.specs.LineReader.{is_line_version};
 ghost use Rattle.dw_line.specs.Accepted.{encodings_agree, encoding_fails, is_new_file, has_form, sources_agree, forms_agree, forms_fail};
 
 use crate::file::{FileEntry, first_source_form};

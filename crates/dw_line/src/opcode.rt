@@ -7,7 +7,7 @@ ghost use Rattle.dw_base.specs.declared.error.Error.TheVariants.{ValueTooLarge};
 ghost use Rattle.dw_writer.specs.Meaning.{IsSameWriter, Adds};
 ghost use Rattle.dw_writer.specs.Causes.{BytesRefused};
 ghost use Rattle.dw_line.specs.Parts.{KeepsFront};
-ghost use Rattle.dw_line_machine.specs.Instructions.{extended_bytes};
+ghost use Rattle.dw_base.specs.Instructions.{extended_bytes};
 ghost use Rattle.dw_line.specs.LineRows.{raw_file};
 ghost use Rattle.dw_line.specs.RawRows.{line_change};
 ghost use Rattle.dw_line.specs.RowTexts.{where_needed, LineRefused};

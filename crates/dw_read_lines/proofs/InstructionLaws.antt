@@ -7,8 +7,8 @@ use Rattle.std.proofs.lemmas.List.{take_all}
 use Rattle.dw_base.specs.Numbers.{◌>>=◌, bytes_at, number_at, value_of}
 use Rattle.dw_base.specs.Leb128.{uleb_at, sleb_at}
 use Rattle.dw_base.specs.declared.constants.TheConstants.{DW_LNS_copy, DW_LNS_advance_pc, DW_LNS_advance_line, DW_LNS_set_file, DW_LNS_set_column, DW_LNS_negate_stmt, DW_LNS_set_basic_block, DW_LNS_const_add_pc, DW_LNS_fixed_advance_pc, DW_LNS_set_prologue_end, DW_LNS_set_epilogue_begin, DW_LNS_set_isa, DW_LNE_end_sequence, DW_LNE_set_address, DW_LNE_set_discriminator}
-use Rattle.dw_line_machine.specs.LineMachine.{LineHeader, Instruction, AdvancePc, AdvanceLine, SetFile, SetColumn, FixedAdvancePc, SetIsa, Special, SetAddress}
-use Rattle.dw_line_machine.specs.Instructions.{with, passed_at, standard_at, extended_of, extended_at, instruction_at}
+use Rattle.dw_base.specs.LineMachine.{LineHeader, Instruction, AdvancePc, AdvanceLine, SetFile, SetColumn, FixedAdvancePc, SetIsa, Special, SetAddress}
+use Rattle.dw_base.specs.Instructions.{with, passed_at, standard_at, extended_of, extended_at, instruction_at}
 use Rattle.dw_read.specs.Reasons.{◌=>>◌, or_refuse, bytes_read, number_read, uleb_read, sleb_read}
 use Rattle.dw_read.specs.declared.error.ReadError.{ReadError}
 use Rattle.dw_read.specs.declared.error.ReadError.TheVariants.{UnexpectedEof}

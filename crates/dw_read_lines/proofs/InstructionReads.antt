@@ -3,7 +3,7 @@ use Rattle.std.proofs.Common.{◌≡◌, ◌∙◌, ap, ℕ, suc, List, length, 
 use Rattle.std.proofs.lemmas.Bool.{ne_eqb}
 use Rattle.dw_base.specs.Numbers.{value_of}
 use Rattle.dw_base.specs.Leb128.{uleb_at}
-use Rattle.dw_line_machine.specs.LineMachine.{Instruction, Copy, AdvancePc, AdvanceLine, SetFile, SetColumn, NegateStatement, SetBasicBlock, ConstAddPc, FixedAdvancePc, SetPrologueEnd, SetEpilogueBegin, SetIsa, EndSequence, SetAddress, SetDiscriminator, Passed}
+use Rattle.dw_base.specs.LineMachine.{Instruction, Copy, AdvancePc, AdvanceLine, SetFile, SetColumn, NegateStatement, SetBasicBlock, ConstAddPc, FixedAdvancePc, SetPrologueEnd, SetEpilogueBegin, SetIsa, EndSequence, SetAddress, SetDiscriminator, Passed}
 use Rattle.dw_read.specs.Reading.{Reading, IsReading, Reads, Read, left}
 use Rattle.dw_read.specs.Reasons.{number_read, uleb_read, sleb_read}
 use Rattle.dw_read.specs.Took.{Took}

@@ -3,10 +3,10 @@
 use Rattle.std.proofs.Common.{◌≡◌, ◌∙◌, sym, ap, ℕ, ◌-◌, List, [], ◌∷◌, Option, Some, None, Result, Ok, Bool, true, false, refl, nat_eq, nat_le, if◌then◌else◌}
 use Rattle.dw_base.specs.Numbers.{◌>>=◌, bytes_at, number_at, initial_length_at, is_width, word_of}
 use Rattle.dw_base.specs.declared.common.Format.{Format}
-use Rattle.dw_line_machine.specs.LineReader.{is_line_version}
-use Rattle.dw_line_machine.specs.LineMachine.{LineHeader}
-use Rattle.dw_line_machine.specs.LineReader.{ReadProgram, operations_at, parameters_at, address_size_at, line_program_at}
-use Rattle.dw_line_machine.specs.LineTables.{byte_at}
+use Rattle.dw_base.specs.LineReader.{is_line_version}
+use Rattle.dw_base.specs.LineMachine.{LineHeader}
+use Rattle.dw_base.specs.LineReader.{ReadProgram, operations_at, parameters_at, address_size_at, line_program_at}
+use Rattle.dw_base.specs.LineTables.{byte_at}
 use Rattle.dw_read.specs.Reasons.{◌=>>◌, if_so, bytes_read, number_read, initial_length_read}
 use Rattle.dw_read.specs.declared.error.ReadError.{ReadError}
 use Rattle.dw_read.specs.declared.error.ReadError.TheVariants.{UnsupportedAddressSize, UnsupportedSegmentSize}

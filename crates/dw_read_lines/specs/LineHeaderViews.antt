@@ -1,6 +1,6 @@
 -- Headers of line programs that were read, as the grammar has them.
 use Rattle.std.specs.Prelude.{◌≡◌, ℕ, Bool}
-use Rattle.dw_line_machine.specs.LineMachine.{LineHeader}
+use Rattle.dw_base.specs.LineMachine.{LineHeader}
 use Rattle.dw_read.specs.Reading.{Reading, left}
 use Rattle.dw_read_lines.specs.LineHeaders.{ReadLines}
 use Rattle.dw_read_lines.specs.declared.parameters.Parameters.{Parameters}

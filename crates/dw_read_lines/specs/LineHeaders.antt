@@ -3,9 +3,9 @@ use Rattle.std.specs.Prelude.{ℕ, ◌-◌, ◌==◌, nat_le, Bool, not, List, R
 use Rattle.dw_base.specs.Numbers.{is_width, word_of}
 use Rattle.dw_base.specs.declared.common.Encoding.{Encoding}
 use Rattle.dw_base.specs.declared.common.Format.{Format}
-use Rattle.dw_line_machine.specs.LineReader.{is_line_version}
-use Rattle.dw_line_machine.specs.LineMachine.{LineHeader}
-use Rattle.dw_line_machine.specs.LineReader.{signed_byte}
+use Rattle.dw_base.specs.LineReader.{is_line_version}
+use Rattle.dw_base.specs.LineMachine.{LineHeader}
+use Rattle.dw_base.specs.LineReader.{signed_byte}
 use Rattle.dw_read.specs.Reading.{Read}
 use Rattle.dw_read.specs.Reasons.{◌=>>◌, if_so, bytes_read, number_read, initial_length_read}
 use Rattle.dw_read.specs.declared.error.ReadError.{ReadError}

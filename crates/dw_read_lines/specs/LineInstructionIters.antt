@@ -1,7 +1,7 @@
 -- What iteration over the instructions of a line program answers.
 use Rattle.std.specs.Prelude.{◌≡◌, ◌⊎◌, ◌<◌, length, true, false, Option, Some, None, Result, Ok, Err}
-use Rattle.dw_line_machine.specs.LineMachine.{LineHeader, Instruction}
-use Rattle.dw_line_machine.specs.Instructions.{instruction_at}
+use Rattle.dw_base.specs.LineMachine.{LineHeader, Instruction}
+use Rattle.dw_base.specs.Instructions.{instruction_at}
 use Rattle.dw_read.specs.Reading.{Reading, Reads, Refuses, left}
 use Rattle.dw_read.specs.declared.error.ReadError.{ReadError}
 use Rattle.dw_read_lines.specs.LineHeaderViews.{machine_of}

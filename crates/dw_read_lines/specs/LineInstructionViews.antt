@@ -2,7 +2,7 @@
 use Rattle.std.specs.Prelude.{ℕ, length, Option, Some, None}
 use Rattle.dw_base.specs.Numbers.{value_of}
 use Rattle.dw_base.specs.declared.constants.TheConstants.{DW_LNE_end_sequence, DW_LNE_set_address, DW_LNE_set_discriminator}
-use Rattle.dw_line_machine.specs.LineMachine.{Instruction, Copy, AdvancePc, AdvanceLine, SetFile, SetColumn, NegateStatement, SetBasicBlock, ConstAddPc, FixedAdvancePc, SetPrologueEnd, SetEpilogueBegin, SetIsa, Special, EndSequence, SetAddress, SetDiscriminator, Passed}
+use Rattle.dw_base.specs.LineMachine.{Instruction, Copy, AdvancePc, AdvanceLine, SetFile, SetColumn, NegateStatement, SetBasicBlock, ConstAddPc, FixedAdvancePc, SetPrologueEnd, SetEpilogueBegin, SetIsa, Special, EndSequence, SetAddress, SetDiscriminator, Passed}
 use Rattle.dw_read.specs.Reading.{Reading, left}
 use Rattle.dw_read_lines.specs.declared.instruction.LineInstruction.{LineInstruction}
 use Rattle.dw_read_lines.specs.declared.instruction.LineInstruction.TheVariants as held

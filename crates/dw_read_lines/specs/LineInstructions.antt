@@ -3,7 +3,7 @@
 use Rattle.std.specs.Prelude.{ℕ, zero, suc, ◌-◌, ◌==◌, nat_le, Bool, List, length, Option, Some, None, Result, Ok, slice_index, if◌then◌else◌}
 use Rattle.dw_base.specs.Numbers.{value_of}
 use Rattle.dw_base.specs.declared.constants.TheConstants.{DW_LNS_copy, DW_LNS_advance_pc, DW_LNS_advance_line, DW_LNS_set_file, DW_LNS_set_column, DW_LNS_negate_stmt, DW_LNS_set_basic_block, DW_LNS_const_add_pc, DW_LNS_fixed_advance_pc, DW_LNS_set_prologue_end, DW_LNS_set_epilogue_begin, DW_LNS_set_isa, DW_LNE_end_sequence, DW_LNE_set_address, DW_LNE_set_discriminator}
-use Rattle.dw_line_machine.specs.LineMachine.{LineHeader, Instruction, Copy, AdvancePc, AdvanceLine, SetFile, SetColumn, NegateStatement, SetBasicBlock, ConstAddPc, FixedAdvancePc, SetPrologueEnd, SetEpilogueBegin, SetIsa, Special, EndSequence, SetAddress, SetDiscriminator, Passed}
+use Rattle.dw_base.specs.LineMachine.{LineHeader, Instruction, Copy, AdvancePc, AdvanceLine, SetFile, SetColumn, NegateStatement, SetBasicBlock, ConstAddPc, FixedAdvancePc, SetPrologueEnd, SetEpilogueBegin, SetIsa, Special, EndSequence, SetAddress, SetDiscriminator, Passed}
 use Rattle.dw_read.specs.Reading.{Read}
 use Rattle.dw_read.specs.Reasons.{◌=>>◌, bytes_read, number_read, uleb_read, sleb_read}
 use Rattle.dw_read.specs.declared.error.ReadError.{ReadError}

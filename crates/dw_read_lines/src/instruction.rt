@@ -3,7 +3,7 @@
 ghost use Rattle.std.specs.Prelude.{◌≡◌, ◌-◌, ◌<◌, ◌≤◌, IfOk, IfErr, OnOk, Some, None, Ok, Err, slice_index};
 ghost use Rattle.dw_read.specs.Reading.{left};
 ghost use Rattle.dw_read.specs.Took.{Took};
-ghost use Rattle.dw_line_machine.specs.LineMachine.{Passed};
+ghost use Rattle.dw_base.specs.LineMachine.{Passed};
 ghost use Rattle.dw_read_lines.specs.LineHeaderViews.{machine_of};
 ghost use Rattle.dw_read_lines.specs.LineInstructions.{instruction_read, extended_read, extended_code, marked_code};
 ghost use Rattle.dw_read_lines.specs.LineInstructions.{coded_read, standard_read, passed_read};

@@ -1,7 +1,7 @@
 //! The parameters of the line machine, as a header tells them (DWARF 5, 6.2.4).
 
 ghost use Rattle.std.specs.Prelude.{◌≡◌, ◌-◌, nat_le, IfOk, IfErr, Err};
-ghost use Rattle.dw_line_machine.specs.LineReader.{signed_byte};
+ghost use Rattle.dw_base.specs.LineReader.{signed_byte};
 ghost use Rattle.dw_read.specs.Reading.{left};
 ghost use Rattle.dw_read.specs.Took.{Took};
 ghost use Rattle.dw_read_lines.specs.LineHeaders.{operations_read, parameters_read};

@@ -2,7 +2,7 @@
 
 ghost use Rattle.std.specs.Prelude.{◌≡◌, ◌≤◌, IfOk, IfErr, Ok, Err};
 ghost use Rattle.dw_base.specs.Numbers.{is_width};
-ghost use Rattle.dw_line_machine.specs.LineReader.{is_line_version};
+ghost use Rattle.dw_base.specs.LineReader.{is_line_version};
 ghost use Rattle.dw_read.specs.Reading.{left};
 ghost use Rattle.dw_read.specs.Took.{Took};
 ghost use Rattle.dw_read_lines.specs.LineHeaders.{address_size_read, body_read, lines_read};

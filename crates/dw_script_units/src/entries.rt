@@ -17,9 +17,9 @@ use dw_unit::{AttributeValue, Unit};
 use dw_writer::Bytes;
 use std::alloc::{AllocError, Global};
 
-/// Does to a unit's entries what a line asks for. It is refused with the first reason that holds, in
-/// the order in which docs/FORMAT.md lists a line's refusals, and as `NoMemory`; the unit isn't used
-/// again then.
+/// Does to a unit's entries what a line asks for. It is refused with the first reason that holds,
+/// in the order in which docs/FORMAT.md lists a line's refusals, and as `NoMemory`; the unit isn't
+/// used again then.
 ///
 /// ```
 /// apply_change(alloc, &mut unit, Change::Reserve)?;

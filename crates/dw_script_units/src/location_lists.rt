@@ -11,8 +11,8 @@ use dw_script::{LocationFields, ScriptLocation};
 use dw_unit::Unit;
 use std::alloc::{AllocError, Global};
 
-/// Adds the location list of a line to a unit, unless an equal one stands there (DWARF 5, 2.6.2). It
-/// is refused for want of memory alone.
+/// Adds the location list of a line to a unit, unless an equal one stands there (DWARF 5, 2.6.2).
+/// It is refused for want of memory alone.
 ///
 /// ```
 /// add_location_list(alloc, &mut unit, &locations)?;

@@ -10,8 +10,8 @@ use dw_script::{RangeFields, ScriptRange};
 use dw_unit::Unit;
 use std::alloc::{AllocError, Global};
 
-/// Adds the range list of a line to a unit, unless an equal one stands there (DWARF 5, 2.17.3). It is
-/// refused for want of memory alone.
+/// Adds the range list of a line to a unit, unless an equal one stands there (DWARF 5, 2.17.3). It
+/// is refused for want of memory alone.
 ///
 /// ```
 /// add_range_list(alloc, &mut unit, &ranges)?;

@@ -1,6 +1,6 @@
 use Rattle.std.proofs.Common.{◌∙◌, sym, ap, subst, inl, inr, refl, ℕ, List, None}
 use Rattle.dw_base.specs.declared.common.LineEncoding.{LineEncoding}
-use Rattle.dw_line_machine.specs.LineMachine.{Registers}
+use Rattle.dw_base.specs.LineMachine.{Registers}
 use Rattle.dw_line.specs.LinePrograms.{is_in_sequence}
 use Rattle.dw_read.specs.Reading.{Reading, left}
 use Rattle.dw_read.specs.declared.error.ReadError.{ReadError}

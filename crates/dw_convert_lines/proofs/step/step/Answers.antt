@@ -1,6 +1,6 @@
 use Rattle.std.proofs.Common.{◌≡◌, ◌∙◌, sym, ap, refl}
 use Rattle.dw_base.specs.declared.common.LineEncoding.{LineEncoding}
-use Rattle.dw_line_machine.specs.LineMachine.{LineHeader}
+use Rattle.dw_base.specs.LineMachine.{LineHeader}
 use Rattle.dw_read_lines.specs.LineHeaderViews.{machine_of}
 use Rattle.dw_convert_lines.specs.RegisterSteps.{IsTold}
 use Rattle.dw_convert_lines.proofs.step.step.Goals as goal

@@ -3,7 +3,7 @@ use Rattle.dw_base.specs.Leb128.{uleb}
 use Rattle.dw_base.proofs.Leb128Laws.{uleb_short}
 use Rattle.dw_writer.proofs.Outcomes.{OnOk-map, IfErr-map}
 use Rattle.dw_writer.proofs.Steps.{IsSameWriter-trans, Adds-then}
-use Rattle.dw_line_machine.specs.Instructions.{extended_bytes}
+use Rattle.dw_base.specs.Instructions.{extended_bytes}
 use Rattle.dw_line.proofs.Steps.{Adds-byte, needed, left_out, other, equal}
 use Rattle.dw_line.proofs.FrontSteps.{Adds-front, AddsSome-front, Front-either, Front-none, Front-then}
 use Rattle.std.proofs.lemmas.Result.{err_from_is_err_and}

@@ -1,7 +1,7 @@
 use Rattle.std.proofs.Common.{◌≡◌, ◌∙◌, ap, arith, ◌-◌, ◌+◌, ℕ}
 use Rattle.std.proofs.lemmas.Result.{err_from_is_err_and}
 use Rattle.dw_base.specs.Leb128.{uleb_at}
-use Rattle.dw_line_machine.specs.LineMachine.{Instruction, Passed}
+use Rattle.dw_base.specs.LineMachine.{Instruction, Passed}
 use Rattle.dw_read.specs.Reading.{left}
 use Rattle.dw_read.specs.Reasons.{uleb_read}
 use Rattle.dw_read.proofs.Chain.{took, took_of, went, went_none, went_then}

@@ -1,6 +1,6 @@
 use Rattle.std.proofs.Common.{sym, ℕ, Option, ◌≡◌, ◌∙◌, ap, subst, refl, Bool, Ok, Err}
 use Rattle.std.proofs.lemmas.Result.{err_from_is_err_and, IfOk-weaker, IfErr-weaker}
-use Rattle.dw_line_machine.specs.LineMachine.{Instruction}
+use Rattle.dw_base.specs.LineMachine.{Instruction}
 use Rattle.dw_read.specs.Reading.{Reading, left}
 use Rattle.dw_base.specs.Leb128.{uleb_at}
 use Rattle.dw_read.specs.Reasons.{uleb_read}

@@ -2,7 +2,7 @@ use Rattle.std.proofs.Common.{sym, Option, ◌≡◌, ap, subst, arith, refl, �
 use Rattle.std.specs.Prelude.{IfErr}
 use Rattle.std.proofs.lemmas.Bool.{ne_eqb, le-leb, lt-leb}
 use Rattle.std.proofs.lemmas.Result.{err_from_is_err_and, IfOk-weaker, IfErr-weaker}
-use Rattle.dw_line_machine.specs.LineMachine.{Instruction}
+use Rattle.dw_base.specs.LineMachine.{Instruction}
 use Rattle.dw_read.specs.Reading.{left}
 use Rattle.dw_read.proofs.Chain.{took, went, went_of, went_then, went_order, number_took, number_not}
 use Rattle.dw_read_lines.specs.LineHeaderViews.{machine_of}

@@ -5,7 +5,7 @@ use mir.Syntax.{w64}
 use Rattle.std.proofs.lemmas.Result.{err_from_is_err_and}
 use Rattle.dw_base.specs.Numbers.{number_at}
 use Rattle.dw_base.specs.Leb128.{uleb_at, sleb_at}
-use Rattle.dw_line_machine.specs.LineMachine.{AdvancePc, AdvanceLine, SetFile, SetColumn, FixedAdvancePc, SetIsa}
+use Rattle.dw_base.specs.LineMachine.{AdvancePc, AdvanceLine, SetFile, SetColumn, FixedAdvancePc, SetIsa}
 use Rattle.dw_read.specs.Reasons.{number_read, uleb_read, sleb_read}
 use Rattle.dw_read.proofs.Chain.{took_of}
 use Rattle.dw_read.proofs.Laws.{uleb_law, sleb_law, number_law}

@@ -3,7 +3,7 @@ use Rattle.std.proofs.lemmas.Int.{to_z-of_z}
 use mir.Val.{SFits}
 use mir.Syntax.{w8}
 use Rattle.std.proofs.lemmas.Result.{err_from_is_err_and}
-use Rattle.dw_line_machine.specs.LineMachine.{LineHeader}
+use Rattle.dw_base.specs.LineMachine.{LineHeader}
 use Rattle.dw_read.specs.Reading.{Reading}
 use Rattle.dw_read.proofs.Chain.{took, went, went_of, went_then, went_order, number_took, number_not}
 use Rattle.dw_read_lines.specs.LineHeaders.{operations_read, parameters_read}

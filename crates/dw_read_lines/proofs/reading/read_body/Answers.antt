@@ -1,8 +1,8 @@
 use Rattle.std.proofs.Common.{◌≡◌, ◌∙◌, ap, subst, refl, ℕ, Bool, true, false, rules, Ok}
 use Rattle.std.proofs.lemmas.Result.{err_from_is_err_and}
 use Rattle.dw_base.specs.Numbers.{word_of}
-use Rattle.dw_line_machine.specs.LineReader.{is_line_version}
-use Rattle.dw_line_machine.specs.LineMachine.{LineHeader}
+use Rattle.dw_base.specs.LineReader.{is_line_version}
+use Rattle.dw_base.specs.LineMachine.{LineHeader}
 use Rattle.dw_read.specs.Reading.{Reading, left}
 use Rattle.dw_read.proofs.Chain.{went, went_of, went_then, went_order, number_took, number_not}
 use Rattle.dw_read.proofs.HeaderParts.{bytes_took}

@@ -9,7 +9,7 @@ use Rattle.dw_writer.specs.Texts.{zeros}
 use Rattle.dw_writer.specs.Meaning.{Adds, Replaces}
 use Rattle.dw_base.specs.declared.error.Error.TheVariants as errors
 use Rattle.dw_writer.proofs.Outcomes.{OnOk-map}
-use Rattle.dw_line_machine.specs.LineReader.{is_line_version}
+use Rattle.dw_base.specs.LineReader.{is_line_version}
 use Rattle.dw_line.specs.Accepted.{is_new_file, encoding_fails, forms_agree, forms_fail}
 use Rattle.dw_line.specs.Headers.{header_length, length_fails}
 use Rattle.dw_line.specs.ProgramTexts.{IsLineEncoding, HeaderIsWide, program_sequences, program_length, contents_fail, program_fails}

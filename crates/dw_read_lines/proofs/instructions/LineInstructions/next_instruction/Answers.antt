@@ -1,6 +1,6 @@
 use Rattle.std.proofs.Common.{◌≡◌, ◌∙◌, subst, ◌<◌, length, true, false, ⊎_elim, Ok, Err, refl}
-use Rattle.dw_line_machine.specs.LineMachine.{Instruction}
-use Rattle.dw_line_machine.specs.Instructions.{instruction_at}
+use Rattle.dw_base.specs.LineMachine.{Instruction}
+use Rattle.dw_base.specs.Instructions.{instruction_at}
 use Rattle.dw_read.specs.Reading.{Reading, left}
 use Rattle.dw_read.specs.Took.{Took}
 use Rattle.dw_read.proofs.Chain.{reads_of}

@@ -4,9 +4,9 @@ use Rattle.dw_base.specs.Numbers.{bytes_at, number_at}
 use Rattle.dw_base.specs.Forms.{text_at, kind_of, direct_at, form_at}
 use Rattle.dw_base.specs.declared.common.Format.TheVariants.{Dwarf32, Dwarf64}
 use Rattle.dw_base.specs.Leb128.{groups_at, uleb_at, signed_groups_at, sleb_at}
-use Rattle.dw_line_machine.specs.LineMachine.{LineHeader, Registers, begin, Row, End, changed, shows, leaves, run}
-use Rattle.dw_line_machine.specs.LineTables.{Inline, InLineStrings, named, part_at, entry_at, many_at, new_entries_at, old_entries_at, tables_at}
-use Rattle.dw_line_machine.specs.Instructions.{standard_at, extended_of, extended_at, instruction_at, instructions_at, rows_of}
+use Rattle.dw_base.specs.LineMachine.{LineHeader, Registers, begin, Row, End, changed, shows, leaves, run}
+use Rattle.dw_base.specs.LineTables.{Inline, InLineStrings, named, part_at, entry_at, many_at, new_entries_at, old_entries_at, tables_at}
+use Rattle.dw_base.specs.Instructions.{standard_at, extended_of, extended_at, instruction_at, instructions_at, rows_of}
 
 header : LineHeader
 header = record {

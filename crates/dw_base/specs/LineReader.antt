@@ -3,9 +3,9 @@
 use Rattle.std.specs.Prelude.{ℕ, ◌-◌, Bool, not, ◌&&◌, ◌==◌, nat_le, nat_lt, List, drop, Option, Some, ℤ, pos, negsuc, if◌then◌else◌}
 use Rattle.dw_base.specs.Numbers.{Parser, ◌>>=◌, when, bytes_at, number_at, initial_length_at, word_of}
 use Rattle.dw_base.specs.declared.common.Encoding.{Encoding}
-use Rattle.dw_line_machine.specs.LineMachine.{LineHeader, Shown}
-use Rattle.dw_line_machine.specs.LineTables.{LineTables, byte_at, tables_at}
-use Rattle.dw_line_machine.specs.Instructions.{rows_of}
+use Rattle.dw_base.specs.LineMachine.{LineHeader, Shown}
+use Rattle.dw_base.specs.LineTables.{LineTables, byte_at, tables_at}
+use Rattle.dw_base.specs.Instructions.{rows_of}
 
 abbrev pub is_line_version : ℕ → Bool
 is_line_version v = nat_le 2 v && nat_le v 5

@@ -1,4 +1,0 @@
-pub mod LineMachine
-pub mod Instructions
-pub mod LineTables
-pub mod LineReader
