@@ -1,4 +1,4 @@
--- Where the rows of a unit are read while it is converted.
+-- Where the rows of a unit are read, entry by entry.
 use Rattle.std.specs.Prelude.{◌≡◌, ℕ, ◌-◌, ◌≤◌, List, [], ◌∷◌, ◌++◌, All, length, map, Ok, false}
 use Rattle.dw_base.specs.Entries.{Row, Open}
 use Rattle.dw_base.specs.declared.ids.UnitEntryId.{UnitEntryId}

@@ -31,7 +31,7 @@ pub struct UnitRows<'a, R: Reader> {
     pub(crate) count: usize,
     /// Those whose lists of children are open, the outermost first.
     pub(crate) parents: Vec<UnitEntryId>,
-    /// All of them were converted at once, so that none is left.
+    /// Whether the walk has ended: no entry is handed out any more.
     pub is_ended: bool,
 }
 
@@ -59,9 +59,9 @@ impl<'a, R: Reader> UnitRows<'a, R> {
     }
 
     /// Reads the next entry, and answers its id and that of its parent, both numbered in the order
-    /// of reading, the root as 0; the root's parent is the root. Null entries are passed. None tells
-    /// that no entry is left. Where all rows of the unit can be read it is refused as `NoMemory`
-    /// alone.
+    /// of reading, the root as 0; the root's parent is the root. Null entries are passed. None
+    /// tells that no entry is left. Where all rows of the unit can be read it is refused as
+    /// `NoMemory` alone.
     pub fn next(
         &mut self,
         entry: &mut DebuggingInformationEntry<R>,

@@ -1,4 +1,4 @@
--- What the calls that add a variable make of a unit.
+-- What the calls that add a variable and the base type make of a unit.
 use Rattle.std.specs.Prelude.{ℕ, ◌+◌, ◌%◌, ◌==◌, if◌then◌else◌}
 use Rattle.dw_base.specs.declared.constants.TheConstants.{DW_TAG_variable, DW_TAG_base_type, DW_AT_byte_size, DW_AT_type, DW_AT_specification}
 use Rattle.dw_entries.specs.declared.value.AttributeValue.TheVariants.{Data1, Udata, UnitRef}

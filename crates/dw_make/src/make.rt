@@ -51,7 +51,7 @@ pub fn generate(alloc: Global, count: u64) -> Result<Dwarf>
     Ok(dwarf)
 }
 
-// Adds the units of so many variables in all to none.
+// Adds the units of so many variables in all to an empty table.
 fn add_units(alloc: Global, units: &mut UnitTable, count: u64) -> Result<()>
     requires { units.old ≡ [] }
     ensures ok { OnOk result (units.new ≡ (generated count).units) }

@@ -15,7 +15,8 @@ pub enum CommandError {
     NoMemory,
 }
 
-/// The index that a line gives, where there is something at it.
+/// The index that a line gives, where there is something at it; else it is refused for the reason
+/// `missing`.
 pub fn index_below(number: u64, count: usize, missing: Reason) -> Result<usize, CommandError>
     ensures ok { IfOk result (λ i. (i ≡ number) × (i < count)) }
     ensures err { IfErr result (λ e. (e ≡ CommandError.Refused missing) × (count ≤ number)) }

@@ -18,8 +18,8 @@ use dw_writer::Bytes;
 use std::alloc::{AllocError, Global};
 
 /// Does to a unit's entries what a line asks for. It is refused with the first reason that holds,
-/// in the order in which docs/FORMAT.md lists a line's refusals, and as `NoMemory`; the unit isn't
-/// used again then.
+/// in the order in which docs/FORMAT.md lists a line's refusals, and as `NoMemory`; the unit is not
+/// to be used again then.
 ///
 /// ```
 /// apply_change(alloc, &mut unit, Change::Reserve)?;

@@ -16,7 +16,7 @@ use dw_writer::Bytes;
 use std::alloc::Global;
 
 /// Does to a unit's line program what a line asks for (DWARF 5, 6.2). It is refused with the first
-/// reason that holds, and as `NoMemory`; the unit isn't used again then.
+/// reason that holds, and as `NoMemory`; the unit is not to be used again then.
 ///
 /// ```
 /// apply_line_change(alloc, &mut unit, LineChange::BeginSequence(None))?;

@@ -9,7 +9,11 @@ use crate::command_error::CommandError;
 use dw_script::{HexBytes, Reason};
 use std::alloc::Global;
 
-/// The bytes of a string, which has no zero byte.
+/// The bytes of a string. It is refused where it has a zero byte (`ZeroByte`), and as `NoMemory`.
+///
+/// ```
+/// let text = text_of(alloc, &bytes)?;
+/// ```
 pub fn text_of(alloc: Global, bytes: &HexBytes<'_>) -> Result<Vec<u8>, CommandError>
     ensures ok { IfOk result (λ text. Ok text.items ≡ text_in bytes.now) }
     ensures text { IfOk result (λ text. IsText text.items) }

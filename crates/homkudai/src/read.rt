@@ -1,6 +1,6 @@
 //! Sections, their units and what units lead to, read.
 
-pub use dw_entry_ids::{EntryIds, NumberedUnit, NumberedUnits, number_units};
+pub use dw_entry_ids::{EntryIds, NumberedUnit, NumberedUnits, UnitRows, number_units};
 pub use dw_entry_ranges::{
     AddressRange, CodeAddresses, entry_ranges, list_ranges, location_address, low_high, ranges_at,
 };
