@@ -8,3 +8,5 @@ mod Within
 mod Worked
 mod Pending
 mod ListSteps
+mod WorkedChildren
+mod AttributeSteps

@@ -3,3 +3,5 @@ pub mod Kept
 pub mod NextNames
 pub mod PlaceViews
 pub mod Places
+pub mod AttributePlaces
+pub mod Children

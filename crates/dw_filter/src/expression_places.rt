@@ -135,7 +135,7 @@ fn begin<R: Reader>(
 }
 
 /// Adds a place, where there is one, to others.
-fn add_place(
+pub(crate) fn add_place(
     place: Option<UnitSectionOffset>,
     places: &mut Vec<UnitSectionOffset>,
 ) -> ConvertResult<()>

@@ -49,7 +49,10 @@ fn base_place<R: Reader>(
 
 /// The place in `.debug_info` of a place in the unit, where it lies in the unit and behind its
 /// header: no entry begins elsewhere.
-fn place_in<R: Reader>(unit: UnitRef<'_, R>, offset: UnitOffset) -> Option<UnitSectionOffset>
+pub(crate) fn place_in<R: Reader>(
+    unit: UnitRef<'_, R>,
+    offset: UnitOffset,
+) -> Option<UnitSectionOffset>
     ensures { result ≡ place_in (bounds_of R.reading unit.entry) offset.0 }
 {
     if !unit.contains(offset) {

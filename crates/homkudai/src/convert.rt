@@ -9,5 +9,8 @@ pub use dw_convert_lines::{ConvertLineProgram, convert_line_program, read_line_p
 pub use dw_dwarf::{
     ConvertUnit, ConvertUnitEntry, ConvertUnitSection, convert_entries, convert_units,
 };
-pub use dw_filter::{FilterDependencies, add_expression_places, add_location_list_places};
+pub use dw_filter::{
+    FilterDependencies, add_attribute_places, add_entry_places, add_expression_places,
+    add_location_list_places, leads_to_child,
+};
 pub use dw_sources::{ConvertError, ConvertResult};
