@@ -10,3 +10,4 @@ mod Pending
 mod ListSteps
 mod WorkedChildren
 mod AttributeSteps
+mod Handing

@@ -15,7 +15,8 @@ type_tags =
     ∷ DW_TAG_unspecified_type ∷ DW_TAG_shared_type ∷ DW_TAG_rvalue_reference_type ∷ DW_TAG_coarray_type ∷ DW_TAG_dynamic_type
     ∷ DW_TAG_atomic_type ∷ DW_TAG_immutable_type ∷ []
 
--- what else stands for itself: other names of types, scopes, imports, procedures, and entries into functions (chapters 3 to 5)
+-- what else stands for itself: entries into functions, other names of types, procedures of operations, common blocks and lists of
+-- names, namespaces and modules, and imports (chapters 3 to 5, and 2.5)
 abbrev pub own_tags : List DwTag
 own_tags =
     DW_TAG_entry_point ∷ DW_TAG_typedef ∷ DW_TAG_dwarf_procedure ∷ DW_TAG_common_block ∷ DW_TAG_template_alias ∷ DW_TAG_namelist
@@ -25,7 +26,7 @@ own_tags =
 abbrev pub is_declaration : ReadEntry → Bool
 is_declaration e = list_any (λ a. a.name == DW_AT_declaration.0) e.attributes
 
--- an entry that its parent doesn't lead to: a type, what else stands for itself, or a function with a body
+-- an entry that its parent doesn't lead to: a type, what else stands for itself, or a function that isn't a declaration
 abbrev pub stands_apart : ReadEntry → Bool
 stands_apart e = list_any (λ t. t.0 == e.tag) (type_tags ++ own_tags) || (e.tag == DW_TAG_subprogram.0 && not (is_declaration e))
 

@@ -100,7 +100,8 @@ fn add_value_places<R: Reader>(
     }
 }
 
-/// Adds the places that the location list of an index in the unit's part of `.debug_loclists` names.
+/// Adds the places that a location list names, which stands at an index in the unit's part of
+/// `.debug_loclists`.
 fn add_indexed_list_places<R: Reader>(
     alloc: Global,
     unit: UnitRef<'_, R>,

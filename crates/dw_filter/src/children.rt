@@ -51,8 +51,8 @@ const APART_TAGS: [DwTag; 36] = [
 ];
 
 /// Whether an entry of a tag leads to a child: to what describes it, as its parameters, members,
-/// enumerators and blocks do, and not to what stands for itself within it, as a type, a namespace
-/// or a function with a body does. A namespace leads to none.
+/// enumerators and blocks do, and not to what stands for itself within it, as a type, a namespace,
+/// an import or a function that isn't a declaration does. A namespace leads to none.
 ///
 /// ```
 /// let is_needed = leads_to_child(DW_TAG_structure_type, &member);

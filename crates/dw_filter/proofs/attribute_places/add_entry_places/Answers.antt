@@ -1,14 +1,7 @@
-use Rattle.std.proofs.Common.{◌≡◌, sym, subst, inl, inr, ⊎_elim, Result, Ok, Err, IfErr}
-use Rattle.std.specs.Prelude.{IsErr}
-use Rattle.std.specs.Result.{IsErrAnd}
-use Rattle.dw_sources.specs.declared.convert_error.ConvertError.{ConvertError}
+use Rattle.std.proofs.Common.{inl, inr, ⊎_elim}
+use Rattle.dw_filter.proofs.Handing.{handed_on}
 use Rattle.dw_filter.proofs.AttributeSteps.{one_more, one_refused}
 use Rattle.dw_filter.proofs.attribute_places.add_entry_places.Goals as goal
-
--- a `?` hands on a reason
-handed_on : {A : Type 0} (r : Result A ConvertError) (e : ConvertError) (P : ConvertError → Type 0) → IsErr r × IsErrAnd r (λ x. x ≡ e) → P e → IfErr r P
-handed_on (Ok x) e P h p = tt
-handed_on (Err x) e P h p = subst P (sym h.1) p
 
 pub returns-in_err-add_attribute_places-clause-err : goal.returns-in_err-add_attribute_places-clause-err
 returns-in_err-add_attribute_places-clause-err g c =

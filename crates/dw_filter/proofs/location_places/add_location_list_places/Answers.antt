@@ -1,9 +1,7 @@
-use Rattle.std.proofs.Common.{◌≡◌, sym, subst, inr, refl, Result, Ok, Err, IfErr}
-use Rattle.std.specs.Prelude.{IsErr}
-use Rattle.std.specs.Result.{IsErrAnd}
+use Rattle.std.proofs.Common.{inr, refl}
 use Rattle.dw_sources.specs.ConvertErrors.{from_read}
-use Rattle.dw_sources.specs.declared.convert_error.ConvertError.{ConvertError}
 use Rattle.dw_sources.proofs.Progress.{fewer_left}
+use Rattle.dw_filter.proofs.Handing.{handed_on}
 use Rattle.dw_filter.proofs.ListSteps.{section_read, goes_first, goes_on, goes_to_close, goes_wrong, passes_one, closes}
 use Rattle.dw_filter.proofs.location_places.add_location_list_places.Goals as goal
 
@@ -23,11 +21,6 @@ items-smaller g c =
     let is = g.met.R.Reader.is_reading in
     let p = passes_one _ _ reading c.args.unit c.items.items c.next.new.self _ c.in-Some.item c.in_ok-item.ensures c.in-Some.is in
     fewer_left _ _ (reading c.items.items.input) (reading c.next.new.self.input) _ (is c.items.items.input) (is c.next.new.self.input) p.item p.progress
-
--- a `?` hands on a reason
-handed_on : {A : Type 0} (r : Result A ConvertError) (e : ConvertError) (P : ConvertError → Type 0) → IsErr r × IsErrAnd r (λ x. x ≡ e) → P e → IfErr r P
-handed_on (Ok x) e P h p = tt
-handed_on (Err x) e P h p = subst P (sym h.1) p
 
 pub returns-in_err-item-clause-err : goal.returns-in_err-item-clause-err
 returns-in_err-item-clause-err g c =
