@@ -5,6 +5,7 @@ mod joined;
 mod lines;
 mod lists;
 mod lookups;
+mod named;
 mod numbers;
 mod operations;
 mod reasons;
