@@ -17,7 +17,7 @@ use Rattle.dw_writer.specs.declared.pointer.PointerLayout.TheVariants.{Uleb128, 
 use Rattle.dw_writer.specs.Causes.{BytesRefused, NumberRefused, AddressRefused, EncodingRefused, LaidRefused, DataRefused, CountedRefused, RecordRefused, PointerRefused, address_fits, offset_fits}
 use Rattle.dw_expr.specs.Causes.{width_fails, address_fails}
 use Rattle.dw_expr.specs.Places.{Refused}
-use Rattle.dw_frame.specs.Causes.{IsNone}
+use Rattle.dw_frame_instructions.specs.Causes.{IsNone}
 use Rattle.dw_frame.specs.Parts.{number_fails}
 use Rattle.dw_frame.specs.PointerParts.{signed_fails, encoding_fails, laid_fails, data_fails, counted_fails, record_fails, pointer_fails, offset_fails}
 

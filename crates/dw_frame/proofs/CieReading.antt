@@ -14,7 +14,7 @@ use Rattle.dw_writer.specs.Texts.{Text}
 use Rattle.dw_writer.proofs.Laws.{length-num_text}
 use Rattle.dw_frame.specs.declared.cie.CommonInformationEntry.{CommonInformationEntry}
 use Rattle.dw_frame.specs.declared.kind.FrameKind.{FrameKind}
-use Rattle.dw_frame.specs.Pieces.{Piece, bytes, both, missing}
+use Rattle.dw_frame_instructions.specs.Pieces.{Piece, bytes, both, missing}
 use Rattle.dw_frame.specs.Parts.{Placed, free, caused, in_turn, only_if, numbered}
 use Rattle.dw_frame.specs.PointerParts.{pointer}
 use Rattle.dw_frame.specs.Entries.{counted, padded}

@@ -2,7 +2,7 @@
 use Rattle.std.specs.Prelude.{◌≡◌, ℕ, Bool, true, false, [], ◌∷◌, refl, if◌then◌else◌}
 use Rattle.std.proofs.Common.{sym, ap}
 use Rattle.std.proofs.lemmas.Bool.{ne_eqb, eq-eqb}
-use Rattle.dw_frame.specs.Pieces.{nothing, bytes}
+use Rattle.dw_frame_instructions.specs.Pieces.{nothing, bytes}
 use Rattle.dw_frame.specs.Cies.{byte_if, sizes}
 
 pub byte_none : (b : Bool) (n : ℕ) → b ≡ false → nothing ≡ byte_if b n

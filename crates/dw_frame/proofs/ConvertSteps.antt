@@ -23,8 +23,8 @@ use Rattle.dw_sources.specs.declared.convert_error.ConvertError.{ConvertError}
 use Rattle.dw_sources.specs.declared.convert_error.ConvertError.TheVariants.{IntegerOverflow}
 use Rattle.dw_convert.specs.Lists.{First}
 use Rattle.dw_frame.proofs.ConvertLaws.{first_more}
-use Rattle.dw_frame.specs.declared.instruction.CallFrameInstruction.{CallFrameInstruction}
-use Rattle.dw_frame.specs.declared.program.Step.{Step}
+use Rattle.dw_frame_instructions.specs.declared.instruction.CallFrameInstruction.{CallFrameInstruction}
+use Rattle.dw_frame_instructions.specs.declared.program.Step.{Step}
 use Rattle.dw_frame.specs.declared.cie.CommonInformationEntry.{CommonInformationEntry}
 use Rattle.dw_frame.specs.declared.fde.FrameDescriptionEntry.{FrameDescriptionEntry}
 use Rattle.dw_frame.specs.ConvertInstructions.{InstructionOutcome, in_u32}

@@ -15,13 +15,13 @@ use Rattle.dw_writer.proofs.Places.{length-zeros}
 use Rattle.dw_writer.proofs.Plain.{Replaces-number, num-shown}
 use Rattle.dw_writer.proofs.Steps.{IsSameWriter-trans, Adds-filled, Appends-as, Patches-by}
 use Rattle.dw_expr.specs.Places.{Refused}
-use Rattle.dw_frame.specs.Pieces.{Piece, number, both, IsWritten}
-use Rattle.dw_frame.specs.Causes.{IsNone, Writes}
+use Rattle.dw_frame_instructions.specs.Pieces.{Piece, number, both, IsWritten}
+use Rattle.dw_frame_instructions.specs.Causes.{IsNone, Writes}
 use Rattle.dw_frame.specs.Parts.{Part, Placed, in_turn, Puts, number_fails}
 use Rattle.dw_frame.specs.Entries.{length_piece, length_fails, with_length, measured, with_count, counted, padded, entry}
 use Rattle.dw_frame.specs.Opened.{IsOpened}
 use Rattle.dw_frame.specs.declared.entry.OpenEntry.{OpenEntry}
-use Rattle.dw_frame.proofs.Steps.{or_none, refused_first, refused_second, refused_in, nothing-followed}
+use Rattle.dw_frame_instructions.proofs.Steps.{or_none, refused_first, refused_second, refused_in, nothing-followed}
 use Rattle.dw_frame.proofs.CauseSteps.{number_none}
 use Rattle.dw_frame.proofs.PartSteps.{Puts-first}
 

@@ -16,7 +16,7 @@ use Rattle.dw_frame.specs.declared.kind.FrameKind.{FrameKind}
 use Rattle.dw_frame.specs.declared.kind.FrameKind.TheVariants.{Debug, Eh}
 use Rattle.dw_frame.specs.declared.cie.CommonInformationEntry.{CommonInformationEntry}
 use Rattle.dw_frame.specs.declared.fde.FrameDescriptionEntry.{FrameDescriptionEntry}
-use Rattle.dw_frame.specs.Pieces.{missing, both}
+use Rattle.dw_frame_instructions.specs.Pieces.{missing, both}
 use Rattle.dw_frame.specs.Parts.{Placed, caused, in_turn, numbered}
 use Rattle.dw_frame.specs.PointerParts.{pointer, address, pointer_data, frame_offset}
 use Rattle.dw_frame.specs.Cies.{cie_number, has_encoding}

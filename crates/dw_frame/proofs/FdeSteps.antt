@@ -11,7 +11,7 @@ use Rattle.dw_writer.specs.SectionTexts.{eh_pointer_text, eh_pointer_size}
 use Rattle.dw_writer.specs.Causes.{BytesRefused, PointerRefused}
 use Rattle.dw_frame.specs.Parts.{Placed, in_turn, refused_if, Puts}
 use Rattle.dw_frame.specs.Fdes.{lsda_part, disagree, mismatch}
-use Rattle.dw_frame.proofs.Steps.{written-nothing}
+use Rattle.dw_frame_instructions.proofs.Steps.{written-nothing}
 use Rattle.dw_frame.proofs.NumberSteps.{Puts-pointer}
 
 pub lsda_none : (m : Meaning) (w : ℕ) (o : Option DwEhPe) (x : Option Address) → o ≡ None → Puts {T = Unit {0}} (Ok tt) m m (lsda_part w o x)

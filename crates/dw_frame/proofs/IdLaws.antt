@@ -11,7 +11,7 @@ use Rattle.dw_frame.specs.declared.cie.CommonInformationEntry.{CommonInformation
 use Rattle.dw_frame.specs.declared.fde.FrameDescriptionEntry.{FrameDescriptionEntry}
 use Rattle.dw_frame.specs.declared.kind.FrameKind.{FrameKind}
 use Rattle.dw_frame.specs.declared.kind.FrameKind.TheVariants.{Debug, Eh}
-use Rattle.dw_frame.specs.Pieces.{bytes, both}
+use Rattle.dw_frame_instructions.specs.Pieces.{bytes, both}
 use Rattle.dw_frame.specs.Parts.{Part, Placed, free, in_turn, only_if, refused_if}
 use Rattle.dw_frame.specs.Entries.{with_length, counted, padded, entry}
 use Rattle.dw_frame.specs.Cies.{cie_id, cie_number, version_part, letters, sizes, cie_data, is_augmented, first_instructions, cie_head, cie_measures, cie_contents, cie_part}

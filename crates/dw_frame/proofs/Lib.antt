@@ -1,9 +1,3 @@
-pub mod FactorLaws
-pub mod Steps
-pub mod OperandSteps
-pub mod InstructionSteps
-pub mod AdvanceSteps
-pub mod ProgramSteps
 pub mod PartSteps
 pub mod CauseSteps
 pub mod NumberSteps
@@ -19,7 +13,6 @@ pub mod FdeReading
 pub mod CieReading
 pub mod TableReading
 pub mod TableWhole
-pub mod EqualSteps
 pub mod ConvertLaws
 pub mod ConvertSteps
 pub mod ConvertTableSteps

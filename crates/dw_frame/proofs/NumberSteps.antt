@@ -19,7 +19,7 @@ use Rattle.dw_writer.specs.declared.pointer.PointerLayout.TheVariants.{Uleb128, 
 use Rattle.dw_writer.proofs.Laws.{length-num_text, length-signed_text}
 use Rattle.dw_writer.proofs.Plain.{num-shown}
 use Rattle.dw_writer.proofs.Steps.{Adds-appends, Appends-by}
-use Rattle.dw_frame.specs.Pieces.{IsWritten, number}
+use Rattle.dw_frame_instructions.specs.Pieces.{IsWritten, number}
 use Rattle.dw_frame.specs.Parts.{Puts, numbered}
 use Rattle.dw_frame.specs.PointerParts.{pointer, address, pointer_data, frame_offset}
 use Rattle.dw_frame.proofs.PartSteps.{called}

@@ -5,10 +5,10 @@ use Rattle.dw_base.specs.declared.error.Error.{Error}
 use Rattle.dw_writer.specs.Meaning.{Meaning, Adds}
 use Rattle.dw_writer.specs.Causes.{BytesRefused}
 use Rattle.dw_expr.specs.Places.{Refused}
-use Rattle.dw_frame.specs.Pieces.{bytes, IsWritten}
-use Rattle.dw_frame.specs.Causes.{IsNone, Writes}
+use Rattle.dw_frame_instructions.specs.Pieces.{bytes, IsWritten}
+use Rattle.dw_frame_instructions.specs.Causes.{IsNone, Writes}
 use Rattle.dw_frame.specs.Parts.{Placed, free, only_if, in_turn, Puts}
-use Rattle.dw_frame.proofs.Steps.{Writes-then, Writes-bytes, refused_first, written-nothing}
+use Rattle.dw_frame_instructions.proofs.Steps.{Writes-then, Writes-bytes, refused_first, written-nothing}
 
 -- one call of a writer, with the clauses that it has
 pub called : {T P : Type 0} {Q : Error → Type 0} (r : Result T Error) (a b : Meaning) (p : Placed) →

@@ -17,7 +17,7 @@ use Rattle.dw_frame.specs.Cies.{cie_part}
 use Rattle.dw_frame.specs.Fdes.{fde_part}
 use Rattle.dw_frame.specs.Tables.{Places, no_places, with_place, place_at, new_cie, fde_of, frame, frames_from, frames_part}
 use Rattle.dw_frame.specs.Reading.{at_zero, ShowsCie, ShowsFrame, ShowsFrames, AreTold}
-use Rattle.dw_frame.proofs.Steps.{nothing-followed}
+use Rattle.dw_frame_instructions.proofs.Steps.{nothing-followed}
 use Rattle.dw_frame.proofs.TextParts.{IsText, turned, turn_size}
 use Rattle.dw_frame.specs.ReadCies.{IsRangedCie}
 use Rattle.dw_frame.proofs.FdeReading.{fde_again}

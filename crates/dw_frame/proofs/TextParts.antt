@@ -6,7 +6,7 @@ use Rattle.dw_base.specs.Numbers.{when, num, number_at, is_width, fits, word_of,
 use Rattle.dw_base.specs.declared.common.Format.{Format}
 use Rattle.dw_base.proofs.NumberLaws.{number-fits-again}
 use Rattle.dw_writer.specs.Texts.{Text, followed, num_text}
-use Rattle.dw_frame.specs.Pieces.{both}
+use Rattle.dw_frame_instructions.specs.Pieces.{both}
 use Rattle.dw_frame.specs.Parts.{Part, Placed, in_turn}
 use Rattle.dw_frame.specs.Entries.{length_piece, with_length, with_count}
 use Rattle.dw_frame.specs.Reading.{at_zero}

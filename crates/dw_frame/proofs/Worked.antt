@@ -1,11 +1,11 @@
 -- Instructions and advances, worked by hand from the tables of the standard (DWARF 5, 6.4.2 and 7.24).
 use Rattle.std.specs.Prelude.{◌≡◌, ℕ, Some, None, refl, pos, negsuc, false, [], ◌∷◌}
 use Rattle.dw_base.specs.declared.common.Register.{Register}
-use Rattle.dw_frame.specs.declared.instruction.CallFrameInstruction.TheVariants.{Cfa, CfaOffset, Restore, Offset, ValOffset}
-use Rattle.dw_frame.specs.Factors.{factored}
-use Rattle.dw_frame.specs.Operands.{Nothing, Uleb, Sleb}
-use Rattle.dw_frame.specs.Instructions.{spell, spelled}
-use Rattle.dw_frame.specs.Advances.{delta, delta_piece}
+use Rattle.dw_frame_instructions.specs.declared.instruction.CallFrameInstruction.TheVariants.{Cfa, CfaOffset, Restore, Offset, ValOffset}
+use Rattle.dw_frame_instructions.specs.Factors.{factored}
+use Rattle.dw_frame_instructions.specs.Operands.{Nothing, Uleb, Sleb}
+use Rattle.dw_frame_instructions.specs.Instructions.{spell, spelled}
+use Rattle.dw_frame_instructions.specs.Advances.{delta, delta_piece}
 use Rattle.dw_base.specs.Leb128.{uleb, uleb_groups, sleb, sleb_groups}
 use Rattle.dw_base.specs.Numbers.{num}
 use Rattle.dw_base.specs.declared.address.Address.TheVariants.{Constant}
@@ -16,7 +16,7 @@ use Rattle.dw_frame.specs.declared.cie.CommonInformationEntry.{CommonInformation
 use Rattle.dw_frame.specs.declared.fde.FrameDescriptionEntry.{FrameDescriptionEntry}
 use Rattle.dw_frame.specs.declared.kind.FrameKind.{FrameKind}
 use Rattle.dw_frame.specs.declared.kind.FrameKind.TheVariants.{Debug, Eh}
-use Rattle.dw_frame.specs.Pieces.{both}
+use Rattle.dw_frame_instructions.specs.Pieces.{both}
 use Rattle.dw_frame.specs.Parts.{in_turn}
 use Rattle.dw_frame.specs.Entries.{with_length}
 use Rattle.dw_frame.specs.Reading.{at_zero}

@@ -10,10 +10,10 @@ use Rattle.dw_base.specs.declared.error.Error.TheVariants as errors
 use Rattle.dw_frame.specs.declared.cie.CommonInformationEntry.{CommonInformationEntry}
 use Rattle.dw_frame.specs.declared.kind.FrameKind.{FrameKind}
 use Rattle.dw_frame.specs.declared.kind.FrameKind.TheVariants.{Debug, Eh}
-use Rattle.dw_frame.specs.Pieces.{Piece, missing, bytes, both}
+use Rattle.dw_frame_instructions.specs.Pieces.{Piece, missing, bytes, both}
 use Rattle.dw_frame.specs.Parts.{Placed, free, caused, only_if, in_turn, numbered}
 use Rattle.dw_frame.specs.PointerParts.{pointer}
-use Rattle.dw_frame.specs.Programs.{instructions_piece, instructions_fail}
+use Rattle.dw_frame_instructions.specs.Programs.{instructions_piece, instructions_fail}
 use Rattle.dw_frame.specs.Entries.{entry, counted}
 
 -- the same in each field, and in each instruction

@@ -12,8 +12,8 @@ use Rattle.dw_sources.specs.declared.convert_error.ConvertError.{ConvertError}
 use Rattle.dw_sources.specs.declared.convert_error.ConvertError.TheVariants.{UnsupportedOperation, UnsupportedCfiInstruction, IntegerOverflow}
 use Rattle.dw_convert.specs.Expressions.{ExpressionOutcome}
 use Rattle.dw_convert.specs.Outcomes.{Then}
-use Rattle.dw_frame.specs.declared.instruction.CallFrameInstruction.{CallFrameInstruction}
-use Rattle.dw_frame.specs.declared.instruction.CallFrameInstruction.TheVariants as built
+use Rattle.dw_frame_instructions.specs.declared.instruction.CallFrameInstruction.{CallFrameInstruction}
+use Rattle.dw_frame_instructions.specs.declared.instruction.CallFrameInstruction.TheVariants as built
 
 -- an expression of a call frame, which has no unit and names no entry
 abbrev pub FrameExpression : (ℕ → Option Address → Type 0) → Bool → Encoding → List ℕ → Result (List Node) ConvertError → Type 0

@@ -10,9 +10,9 @@ use Rattle.dw_read_frames.specs.declared.cie.CieFields.{CieFields}
 use Rattle.dw_sources.specs.ConvertErrors.{from_read}
 use Rattle.dw_sources.specs.declared.convert_error.ConvertError.{ConvertError}
 use Rattle.dw_convert.specs.Lists.{First}
-use Rattle.dw_frame.specs.declared.instruction.CallFrameInstruction.{CallFrameInstruction}
-use Rattle.dw_frame.specs.declared.program.Step.{Step}
-use Rattle.dw_frame.specs.Programs.{a_step}
+use Rattle.dw_frame_instructions.specs.declared.instruction.CallFrameInstruction.{CallFrameInstruction}
+use Rattle.dw_frame_instructions.specs.declared.program.Step.{Step}
+use Rattle.dw_frame_instructions.specs.Programs.{a_step}
 use Rattle.dw_frame.specs.ConvertInstructions.{InstructionOutcome, in_u32}
 
 -- by what instructions are read and converted: the byte order, the place where they end, and what their CIE says

@@ -7,8 +7,8 @@ use Rattle.dw_base.specs.declared.error.Error.{Error}
 use Rattle.dw_base.specs.declared.error.Error.TheVariants as errors
 use Rattle.dw_writer.specs.Texts.{zeros}
 use Rattle.dw_expr.specs.Causes.{width_fails}
-use Rattle.dw_frame.specs.Pieces.{Piece, missing, bytes, number, both}
-use Rattle.dw_frame.specs.Causes.{either}
+use Rattle.dw_frame_instructions.specs.Pieces.{Piece, missing, bytes, number, both}
+use Rattle.dw_frame_instructions.specs.Causes.{either}
 use Rattle.dw_frame.specs.Parts.{Part, Placed, free, caused, in_turn, number_fails}
 
 -- a length that the format can spell

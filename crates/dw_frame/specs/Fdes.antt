@@ -12,9 +12,9 @@ use Rattle.dw_frame.specs.declared.fde.FrameDescriptionEntry.{FrameDescriptionEn
 use Rattle.dw_frame.specs.declared.kind.FrameKind.{FrameKind}
 use Rattle.dw_frame.specs.declared.kind.FrameKind.TheVariants.{Debug, Eh}
 use Rattle.dw_frame.specs.Parts.{Placed, free, caused, refused_if, only_if, in_turn, numbered}
-use Rattle.dw_frame.specs.Pieces.{bytes, missing}
+use Rattle.dw_frame_instructions.specs.Pieces.{bytes, missing}
 use Rattle.dw_frame.specs.PointerParts.{pointer, address, pointer_data, frame_offset}
-use Rattle.dw_frame.specs.Programs.{program_piece, program_fails}
+use Rattle.dw_frame_instructions.specs.Programs.{program_piece, program_fails}
 use Rattle.dw_frame.specs.Entries.{entry, counted}
 use Rattle.dw_frame.specs.Cies.{cie_number, has_encoding, is_augmented}
 

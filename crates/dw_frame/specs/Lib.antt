@@ -1,10 +1,3 @@
-pub mod Pieces
-pub mod Causes
-pub mod Factors
-pub mod Operands
-pub mod Instructions
-pub mod Advances
-pub mod Programs
 pub mod Parts
 pub mod PointerParts
 pub mod Entries

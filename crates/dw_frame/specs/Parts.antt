@@ -4,8 +4,8 @@ use Rattle.dw_base.specs.Numbers.{is_width, fits}
 use Rattle.dw_base.specs.declared.error.Error.{Error}
 use Rattle.dw_base.specs.declared.error.Error.TheVariants as errors
 use Rattle.dw_writer.specs.Meaning.{Meaning}
-use Rattle.dw_frame.specs.Pieces.{Piece, nothing, missing, number, both}
-use Rattle.dw_frame.specs.Causes.{never, either, Writes}
+use Rattle.dw_frame_instructions.specs.Pieces.{Piece, nothing, missing, number, both}
+use Rattle.dw_frame_instructions.specs.Causes.{never, either, Writes}
 
 -- a text, and the causes for which a writer refuses it, which hang on whether it is plain
 pub record Part : Type 0 where

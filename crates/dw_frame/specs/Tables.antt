@@ -7,8 +7,8 @@ use Rattle.dw_frame.specs.declared.cie.CommonInformationEntry.{CommonInformation
 use Rattle.dw_frame.specs.declared.fde.FrameDescriptionEntry.{FrameDescriptionEntry}
 use Rattle.dw_frame.specs.declared.kind.FrameKind.{FrameKind}
 use Rattle.dw_frame.specs.declared.table.FrameTable.{FrameTable}
-use Rattle.dw_frame.specs.Pieces.{bytes, missing}
-use Rattle.dw_frame.specs.Causes.{never}
+use Rattle.dw_frame_instructions.specs.Pieces.{bytes, missing}
+use Rattle.dw_frame_instructions.specs.Causes.{never}
 use Rattle.dw_frame.specs.Parts.{Placed, free, caused, in_turn}
 use Rattle.dw_frame.specs.Cies.{cie_part}
 use Rattle.dw_frame.specs.Fdes.{fde_part}

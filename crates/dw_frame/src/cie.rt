@@ -5,17 +5,16 @@ ghost use Rattle.dw_base.specs.declared.error.Error.TheVariants.{NoMemory};
 ghost use Rattle.dw_base.specs.declared.constants.TheConstants.{DW_EH_PE_absptr};
 ghost use Rattle.dw_base.specs.Leb128.{fits_i64};
 ghost use Rattle.dw_frame.specs.ReadCies.{IsShort, IsRangedCie};
-ghost use Rattle.dw_frame.specs.Causes.{never, Writes};
+ghost use Rattle.dw_frame_instructions.specs.Causes.{never, Writes};
 ghost use Rattle.dw_frame.specs.Parts.{only_if, Puts};
 ghost use Rattle.dw_frame.specs.Entries.{counted};
 ghost use Rattle.dw_frame.specs.Cies.{IsSameCie, is_augmented, has_encoding, byte_if, letters, encoding_if, sizes, version_part, register_part, personality_part, cie_data, cie_head, cie_measures, cie_contents, cie_part};
 
 use crate::entry::{OpenBlock, OpenEntry};
-use crate::instruction::CallFrameInstruction;
 use crate::kind::FrameKind;
-use crate::program::{copy_instructions, write_instructions};
 use dw_base::constants::DW_EH_PE_absptr;
 use dw_base::{Address, DwEhPe, Encoding, Error, Register, Result};
+use dw_frame_instructions::{CallFrameInstruction, copy_instructions, write_instructions};
 use dw_writer::Writer;
 use std::alloc::Global;
 

@@ -9,9 +9,9 @@ ghost use Rattle.dw_frame.specs.ConvertViews.{cie_terms};
 
 use crate::cie::CommonInformationEntry;
 use crate::convert_instruction::convert_instruction;
-use crate::instruction::CallFrameInstruction;
 use dw_base::constants::DW_EH_PE_absptr;
 use dw_base::{Address, DwEhPe};
+use dw_frame_instructions::CallFrameInstruction;
 use dw_read::Reader;
 use dw_read_frames::CommonInformationEntry as ReadCie;
 use dw_sources::{ConvertError, ConvertResult};

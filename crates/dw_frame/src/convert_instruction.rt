@@ -5,13 +5,13 @@ ghost use Rattle.dw_read_frames.specs.InstructionViews.{instruction_of};
 ghost use Rattle.dw_sources.specs.declared.convert_error.ConvertError.TheVariants.{NoMemory};
 ghost use Rattle.dw_read.specs.Reading.{left};
 ghost use Rattle.dw_frame.specs.ConvertInstructions.{FrameExpression, InstructionOutcome, plain, with, in_i32, in_u32};
-ghost use Rattle.dw_frame.specs.declared.instruction.CallFrameInstruction.TheVariants.{Cfa, CfaOffset, Offset, ValOffset, ArgsSize};
+ghost use Rattle.dw_frame_instructions.specs.declared.instruction.CallFrameInstruction.TheVariants.{Cfa, CfaOffset, Offset, ValOffset, ArgsSize};
 ghost use Rattle.dw_frame.specs.ConvertOrders.{order_of};
 
-use crate::instruction::CallFrameInstruction;
 use dw_base::{Address, Encoding, Register};
 use dw_convert::{NoConvertDebugInfoRef, expression};
 use dw_expr::Expression;
+use dw_frame_instructions::CallFrameInstruction;
 use dw_read::{Expression as ReadExpression, Reader};
 use dw_read_frames::CallFrameInstruction as ReadInstruction;
 use dw_read_units::UnitRef;

@@ -4,7 +4,7 @@ ghost use Rattle.std.specs.Prelude.{◌≡◌, ◌≤◌, ◌<◌, ◌^◌, [], 
 ghost use Rattle.dw_base.specs.declared.error.Error.TheVariants.{NoMemory};
 ghost use Rattle.dw_frame.specs.Parts.{only_if, Puts};
 ghost use Rattle.dw_frame.specs.Entries.{counted};
-ghost use Rattle.dw_frame.specs.Programs.{a_step};
+ghost use Rattle.dw_frame_instructions.specs.Programs.{a_step};
 ghost use Rattle.dw_frame.specs.ReadCies.{IsShort};
 ghost use Rattle.dw_frame.specs.Reading.{IsRanged};
 ghost use Rattle.dw_frame.specs.Cies.{is_augmented};
@@ -12,10 +12,9 @@ ghost use Rattle.dw_frame.specs.Fdes.{cie_offset, cie_pointer, encoded_range, pl
 
 use crate::cie::{CommonInformationEntry, tell_width};
 use crate::entry::{OpenBlock, OpenEntry};
-use crate::instruction::CallFrameInstruction;
 use crate::kind::FrameKind;
-use crate::program::{Step, copy_steps, write_steps};
 use dw_base::{Address, DwEhPe, Error, Format, Result, SectionId};
+use dw_frame_instructions::{CallFrameInstruction, Step, copy_steps, write_steps};
 use dw_writer::Writer;
 use std::alloc::Global;
 

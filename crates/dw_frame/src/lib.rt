@@ -2,24 +2,18 @@
 //! registers held (DWARF 5, 6.4).
 #![tactic(auto)]
 
-mod advance;
 mod cie;
 mod convert;
 mod convert_cie;
 mod convert_fde;
 mod convert_instruction;
 mod entry;
-mod factor;
 mod fde;
-mod instruction;
 mod kind;
-mod operand;
 mod places;
-mod program;
-mod spelling;
 mod table;
 
 pub use cie::CommonInformationEntry;
+pub use dw_frame_instructions::CallFrameInstruction;
 pub use fde::FrameDescriptionEntry;
-pub use instruction::CallFrameInstruction;
 pub use table::FrameTable;

@@ -10,8 +10,8 @@ use Rattle.dw_base.proofs.NumberLaws.{number-again}
 use Rattle.dw_writer.specs.Meaning.{Layout}
 use Rattle.dw_read.specs.Reasons.{◌=>>◌, number_read}
 use Rattle.dw_read.proofs.Laws.{read_is, number_law}
-use Rattle.dw_frame.specs.Advances.{delta, delta_piece, delta_part}
-use Rattle.dw_frame.specs.Pieces.{nothing, bytes, field, both}
+use Rattle.dw_frame_instructions.specs.Advances.{delta, delta_piece, delta_part}
+use Rattle.dw_frame_instructions.specs.Pieces.{nothing, bytes, field, both}
 use Rattle.dw_frame.proofs.TextParts.{split}
 use Rattle.dw_read_frames.specs.Instructions.{none, one, place_row, coded_row, behind_read, instruction_at}
 use Rattle.dw_read_frames.specs.Instructions as read

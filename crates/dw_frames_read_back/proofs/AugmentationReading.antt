@@ -17,7 +17,7 @@ use Rattle.dw_frame.specs.declared.cie.CommonInformationEntry.{CommonInformation
 use Rattle.dw_frame.specs.Cies.{byte_if, letters, encoding_if, personality_part, cie_data, is_augmented, has_encoding}
 use Rattle.dw_frame.specs.Entries.{counted}
 use Rattle.dw_frame.specs.Parts.{Placed, free, in_turn, only_if}
-use Rattle.dw_frame.specs.Pieces.{Piece, bytes, both}
+use Rattle.dw_frame_instructions.specs.Pieces.{Piece, bytes, both}
 use Rattle.dw_frame.specs.PointerParts.{pointer}
 use Rattle.dw_frame.specs.ReadCies.{IsShort}
 use Rattle.dw_frame.specs.Reading.{at_zero}

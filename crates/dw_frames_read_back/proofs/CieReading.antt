@@ -17,8 +17,8 @@ use Rattle.dw_frame.specs.declared.kind.FrameKind.TheVariants.{Debug, Eh}
 use Rattle.dw_frame.specs.Cies.{cie_id, is_known, version_fails, version_part, letters, sizes, register_part, is_augmented, has_encoding, cie_data, first_instructions, cie_head, cie_measures, cie_contents, cie_part}
 use Rattle.dw_frame.specs.Entries.{counted, padding, padded}
 use Rattle.dw_frame.specs.Parts.{Placed, free, caused, in_turn, only_if, numbered}
-use Rattle.dw_frame.specs.Pieces.{missing, bytes}
-use Rattle.dw_frame.specs.Programs.{instructions_piece}
+use Rattle.dw_frame_instructions.specs.Pieces.{missing, bytes}
+use Rattle.dw_frame_instructions.specs.Programs.{instructions_piece}
 use Rattle.dw_frame.specs.ReadCies.{IsRangedCie}
 use Rattle.dw_frame.specs.Reading.{at_zero}
 use Rattle.dw_frame.proofs.CieReading.{head_wide, measures_wide}

@@ -23,7 +23,7 @@ use Rattle.dw_frame.specs.Entries.{counted, padding, padded, entry}
 use Rattle.dw_frame.specs.Fdes.{cie_pointer, range_part, lsda_part, disagree, mismatch, instructions, fde_contents}
 use Rattle.dw_frame.specs.Parts.{Placed, in_turn, only_if, refused_if}
 use Rattle.dw_frame.specs.PointerParts.{pointer, frame_offset}
-use Rattle.dw_frame.specs.Programs.{program_piece}
+use Rattle.dw_frame_instructions.specs.Programs.{program_piece}
 use Rattle.dw_frame.specs.ReadCies.{IsShort}
 use Rattle.dw_frame.specs.Reading.{at_zero, IsRanged}
 use Rattle.dw_frame.proofs.FdeLaws.{RangeParts, offset_by, pointer_known, known_text, field_again, field_wide, range_parts, range_wide, turn_wide}

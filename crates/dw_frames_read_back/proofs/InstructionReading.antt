@@ -19,12 +19,12 @@ use Rattle.dw_expr.specs.Trees.{Node}
 use Rattle.dw_read.specs.Reading.{Read}
 use Rattle.dw_read.specs.Reasons.{◌=>>◌, number_read, uleb_read, uleb16_read, sleb_read}
 use Rattle.dw_read.specs.declared.error.ReadError.TheVariants.{UnknownCallFrameInstruction}
-use Rattle.dw_frame.specs.declared.instruction.CallFrameInstruction.{CallFrameInstruction}
-use Rattle.dw_frame.specs.declared.instruction.CallFrameInstruction.TheVariants as built
-use Rattle.dw_frame.specs.Factors.{factored}
-use Rattle.dw_frame.specs.Instructions.{Spelling, spell, spelled, spelling_piece, offset_rule, value_rule, is_small}
-use Rattle.dw_frame.specs.Operands.{Operand, Nothing, Uleb, Sleb, Block, operand_piece}
-use Rattle.dw_frame.specs.Pieces.{both}
+use Rattle.dw_frame_instructions.specs.declared.instruction.CallFrameInstruction.{CallFrameInstruction}
+use Rattle.dw_frame_instructions.specs.declared.instruction.CallFrameInstruction.TheVariants as built
+use Rattle.dw_frame_instructions.specs.Factors.{factored}
+use Rattle.dw_frame_instructions.specs.Instructions.{Spelling, spell, spelled, spelling_piece, offset_rule, value_rule, is_small}
+use Rattle.dw_frame_instructions.specs.Operands.{Operand, Nothing, Uleb, Sleb, Block, operand_piece}
+use Rattle.dw_frame_instructions.specs.Pieces.{both}
 use Rattle.dw_frame.proofs.TextParts.{split}
 use Rattle.dw_read_frames.specs.Augmentations.{standing}
 use Rattle.dw_read_frames.specs.Pointers.{Row, among, pointer_read}

@@ -15,8 +15,8 @@ use Rattle.dw_expr.proofs.ExpressionDrafts.{expression-wide}
 use Rattle.dw_read.specs.Reading.{Read}
 use Rattle.dw_read.specs.Reasons.{◌=>>◌, bytes_read, number_read, uleb_read, uleb16_read, sleb_read}
 use Rattle.dw_read.proofs.Laws.{read_is, bytes_law, number_law, uleb_law, uleb16_law, sleb_law}
-use Rattle.dw_frame.specs.Operands.{Operand, Uleb, Sleb, Block, nowhere, operand_piece}
-use Rattle.dw_frame.specs.Pieces.{both}
+use Rattle.dw_frame_instructions.specs.Operands.{Operand, Uleb, Sleb, Block, nowhere, operand_piece}
+use Rattle.dw_frame_instructions.specs.Pieces.{both}
 use Rattle.dw_frame.proofs.TextParts.{split}
 use Rattle.dw_read_frames.specs.Instructions.{block_read}
 use Rattle.dw_frames_read_back.specs.Instructions.{spelled_in}

@@ -7,13 +7,13 @@ use Rattle.dw_base.specs.declared.constants.DwEhPe.{DwEhPe}
 use Rattle.dw_writer.specs.Texts.{zeros}
 use Rattle.dw_writer.specs.Meaning.{Layout}
 use Rattle.dw_expr.specs.Trees.{Node}
-use Rattle.dw_frame.specs.Advances.{advance_piece}
-use Rattle.dw_frame.specs.Instructions.{instruction_piece}
-use Rattle.dw_frame.specs.Pieces.{both}
-use Rattle.dw_frame.specs.Programs.{instructions_piece, program_piece}
-use Rattle.dw_frame.specs.declared.instruction.CallFrameInstruction.{CallFrameInstruction}
-use Rattle.dw_frame.specs.declared.instruction.CallFrameInstruction.TheVariants as built
-use Rattle.dw_frame.specs.declared.program.Step.{Step}
+use Rattle.dw_frame_instructions.specs.Advances.{advance_piece}
+use Rattle.dw_frame_instructions.specs.Instructions.{instruction_piece}
+use Rattle.dw_frame_instructions.specs.Pieces.{both}
+use Rattle.dw_frame_instructions.specs.Programs.{instructions_piece, program_piece}
+use Rattle.dw_frame_instructions.specs.declared.instruction.CallFrameInstruction.{CallFrameInstruction}
+use Rattle.dw_frame_instructions.specs.declared.instruction.CallFrameInstruction.TheVariants as built
+use Rattle.dw_frame_instructions.specs.declared.program.Step.{Step}
 use Rattle.dw_frame.proofs.TextParts.{split}
 use Rattle.dw_read_frames.specs.Instructions.{Instruction, instruction_at}
 use Rattle.dw_read_frames.specs.Instructions as read

@@ -23,20 +23,20 @@ use Rattle.dw_expr.specs.Spelling.{expression_size}
 use Rattle.dw_expr.proofs.ExpressionDrafts.{expression-wide}
 use Rattle.dw_frame.specs.declared.cie.CommonInformationEntry.{CommonInformationEntry}
 use Rattle.dw_frame.specs.declared.fde.FrameDescriptionEntry.{FrameDescriptionEntry}
-use Rattle.dw_frame.specs.declared.instruction.CallFrameInstruction.{CallFrameInstruction}
+use Rattle.dw_frame_instructions.specs.declared.instruction.CallFrameInstruction.{CallFrameInstruction}
 use Rattle.dw_frame.specs.declared.kind.FrameKind.{FrameKind}
-use Rattle.dw_frame.specs.declared.program.Step.{Step}
-use Rattle.dw_frame.specs.Advances.{delta, delta_part, advance_piece}
+use Rattle.dw_frame_instructions.specs.declared.program.Step.{Step}
+use Rattle.dw_frame_instructions.specs.Advances.{delta, delta_part, advance_piece}
 use Rattle.dw_frame.specs.Cies.{byte_if, encoding_if, personality_part, cie_data, is_augmented, has_encoding, first_instructions, cie_head, cie_measures, cie_contents}
 use Rattle.dw_frame.specs.Entries.{with_count, padded}
 use Rattle.dw_frame.specs.Entries as entries
 use Rattle.dw_frame.specs.Fdes.{cie_pointer, range_part, lsda_part, instructions, fde_contents}
-use Rattle.dw_frame.specs.Instructions.{Spelling, spelled, spelling_piece, instruction_piece}
-use Rattle.dw_frame.specs.Operands.{Operand, Nothing, Uleb, Sleb, Block, nowhere, operand_piece, expression_piece}
+use Rattle.dw_frame_instructions.specs.Instructions.{Spelling, spelled, spelling_piece, instruction_piece}
+use Rattle.dw_frame_instructions.specs.Operands.{Operand, Nothing, Uleb, Sleb, Block, nowhere, operand_piece, expression_piece}
 use Rattle.dw_frame.specs.Parts.{Part, Placed, free, caused, only_if, in_turn}
-use Rattle.dw_frame.specs.Pieces.{Piece, missing, bytes, field, number, both}
+use Rattle.dw_frame_instructions.specs.Pieces.{Piece, missing, bytes, field, number, both}
 use Rattle.dw_frame.specs.PointerParts.{pointer}
-use Rattle.dw_frame.specs.Programs.{instructions_piece, program_piece}
+use Rattle.dw_frame_instructions.specs.Programs.{instructions_piece, program_piece}
 use Rattle.dw_frame.specs.Reading.{at_zero, IsWide}
 use Rattle.dw_frame.proofs.CieReading.{head_wide, measures_wide}
 use Rattle.dw_frame.proofs.FdeLaws.{turn_wide, pointer_wide, field_wide, range_wide}

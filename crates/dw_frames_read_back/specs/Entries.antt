@@ -10,7 +10,7 @@ use Rattle.dw_frame.specs.declared.fde.FrameDescriptionEntry.{FrameDescriptionEn
 use Rattle.dw_frame.specs.declared.kind.FrameKind.{FrameKind}
 use Rattle.dw_frame.specs.Cies.{is_augmented, has_encoding, cie_part}
 use Rattle.dw_frame.specs.Fdes.{fde_part}
-use Rattle.dw_frame.specs.Programs.{instructions_piece, program_piece}
+use Rattle.dw_frame_instructions.specs.Programs.{instructions_piece, program_piece}
 use Rattle.dw_frame.specs.ReadCies.{IsRangedCie}
 use Rattle.dw_frame.specs.Reading.{at_zero, IsRanged}
 use Rattle.dw_read_frames.specs.Entries.{Cie, Fde, entry_at}

@@ -7,11 +7,11 @@ use Rattle.dw_base.specs.declared.common.Register.{Register}
 use Rattle.dw_base.specs.declared.constants.DwEhPe.{DwEhPe}
 use Rattle.dw_writer.specs.Meaning.{Layout}
 use Rattle.dw_expr.specs.Trees.{Node}
-use Rattle.dw_frame.specs.Advances.{advance_piece}
-use Rattle.dw_frame.specs.Instructions.{instruction_piece}
-use Rattle.dw_frame.specs.Operands.{expression_piece}
-use Rattle.dw_frame.specs.declared.instruction.CallFrameInstruction.{CallFrameInstruction}
-use Rattle.dw_frame.specs.declared.instruction.CallFrameInstruction.TheVariants as built
+use Rattle.dw_frame_instructions.specs.Advances.{advance_piece}
+use Rattle.dw_frame_instructions.specs.Instructions.{instruction_piece}
+use Rattle.dw_frame_instructions.specs.Operands.{expression_piece}
+use Rattle.dw_frame_instructions.specs.declared.instruction.CallFrameInstruction.{CallFrameInstruction}
+use Rattle.dw_frame_instructions.specs.declared.instruction.CallFrameInstruction.TheVariants as built
 use Rattle.dw_read_frames.specs.Instructions.{Instruction, instruction_at}
 use Rattle.dw_read_frames.specs.Instructions as read
 

@@ -6,9 +6,9 @@ use Rattle.dw_base.specs.declared.constants.DwEhPe.{DwEhPe}
 use Rattle.dw_writer.specs.Texts.{zeros}
 use Rattle.dw_writer.specs.Meaning.{Layout}
 use Rattle.dw_expr.specs.Trees.{Node}
-use Rattle.dw_frame.specs.Programs.{instructions_piece, program_piece}
-use Rattle.dw_frame.specs.declared.instruction.CallFrameInstruction.{CallFrameInstruction}
-use Rattle.dw_frame.specs.declared.program.Step.{Step}
+use Rattle.dw_frame_instructions.specs.Programs.{instructions_piece, program_piece}
+use Rattle.dw_frame_instructions.specs.declared.instruction.CallFrameInstruction.{CallFrameInstruction}
+use Rattle.dw_frame_instructions.specs.declared.program.Step.{Step}
 use Rattle.dw_read_frames.specs.Instructions.{Instruction, instruction_at}
 use Rattle.dw_read_frames.specs.Instructions as read
 use Rattle.dw_frames_read_back.specs.Instructions.{Means, HasWidths, spelled_in}

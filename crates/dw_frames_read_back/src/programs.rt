@@ -1,8 +1,8 @@
 //! Programs of call frame instructions (DWARF 5, 6.4.1).
 
 ghost use Rattle.std.specs.Prelude.{List};
-ghost use Rattle.dw_frame.specs.declared.instruction.CallFrameInstruction.{CallFrameInstruction};
-ghost use Rattle.dw_frame.specs.declared.program.Step.{Step};
+ghost use Rattle.dw_frame_instructions.specs.declared.instruction.CallFrameInstruction.{CallFrameInstruction};
+ghost use Rattle.dw_frame_instructions.specs.declared.program.Step.{Step};
 ghost use Rattle.dw_frames_read_back.specs.Programs.{FirstReadBack, ProgramReadsBack};
 
 use dw_base::Encoding;

@@ -16,18 +16,18 @@ use Rattle.dw_writer.specs.Texts.{zeros}
 use Rattle.dw_expr.specs.Causes.{width_fails}
 use Rattle.dw_expr.specs.Places.{place_by}
 use Rattle.dw_expr.specs.Spelling.{expression_size}
-use Rattle.dw_frame.specs.declared.instruction.CallFrameInstruction.{CallFrameInstruction}
-use Rattle.dw_frame.specs.declared.instruction.CallFrameInstruction.TheVariants.{Cfa, CfaRegister, CfaOffset, CfaExpression, Restore, Undefined, SameValue, Offset, ValOffset, Expression, ValExpression, RememberState, RestoreState, ArgsSize, NegateRaState}
-use Rattle.dw_frame.specs.declared.instruction.CallFrameInstruction.TheVariants as built
-use Rattle.dw_frame.specs.declared.program.Step.{Step}
-use Rattle.dw_frame.specs.Advances.{delta, delta_piece, delta_part, advance_piece, advance_fails}
-use Rattle.dw_frame.specs.Causes.{IsNone, either}
+use Rattle.dw_frame_instructions.specs.declared.instruction.CallFrameInstruction.{CallFrameInstruction}
+use Rattle.dw_frame_instructions.specs.declared.instruction.CallFrameInstruction.TheVariants.{Cfa, CfaRegister, CfaOffset, CfaExpression, Restore, Undefined, SameValue, Offset, ValOffset, Expression, ValExpression, RememberState, RestoreState, ArgsSize, NegateRaState}
+use Rattle.dw_frame_instructions.specs.declared.instruction.CallFrameInstruction.TheVariants as built
+use Rattle.dw_frame_instructions.specs.declared.program.Step.{Step}
+use Rattle.dw_frame_instructions.specs.Advances.{delta, delta_piece, delta_part, advance_piece, advance_fails}
+use Rattle.dw_frame_instructions.specs.Causes.{IsNone, either}
 use Rattle.dw_frame.specs.Entries.{length_piece, length_fails, with_length, with_count, padding, padded, entry, counted}
-use Rattle.dw_frame.specs.Instructions.{Spelling, spelled, offset_of, is_offset, factor_fails, spelling_piece, spelling_fails, instruction_piece, instruction_fails}
-use Rattle.dw_frame.specs.Operands.{Operand, Nothing, Uleb, Sleb, Block, operand_piece, operand_fails, expression_piece}
+use Rattle.dw_frame_instructions.specs.Instructions.{Spelling, spelled, offset_of, is_offset, factor_fails, spelling_piece, spelling_fails, instruction_piece, instruction_fails}
+use Rattle.dw_frame_instructions.specs.Operands.{Operand, Nothing, Uleb, Sleb, Block, operand_piece, operand_fails, expression_piece}
 use Rattle.dw_frame.specs.Parts.{Part, Placed, free, caused, only_if, in_turn}
-use Rattle.dw_frame.specs.Pieces.{Piece, nothing, missing, bytes, number, field, both}
-use Rattle.dw_frame.specs.Programs.{instructions_piece, instructions_fail, program_piece, program_fails}
+use Rattle.dw_frame_instructions.specs.Pieces.{Piece, nothing, missing, bytes, number, field, both}
+use Rattle.dw_frame_instructions.specs.Programs.{instructions_piece, instructions_fail, program_piece, program_fails}
 use Rattle.dw_link_frames.specs.Numbered.{numbered_instruction, numbered_step}
 use Rattle.dw_link_frames.proofs.Instructing.{numbered_block, numbered_spelling, spelled_same}
 use Rattle.dw_link_frames.proofs.Sound.{IsThere, followed_there, true_from, width_known, number_there, There, Known, both_there}

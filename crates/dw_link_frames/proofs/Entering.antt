@@ -16,7 +16,7 @@ use Rattle.dw_frame.specs.declared.cie.CommonInformationEntry.{CommonInformation
 use Rattle.dw_frame.specs.declared.fde.FrameDescriptionEntry.{FrameDescriptionEntry}
 use Rattle.dw_frame.specs.declared.kind.FrameKind.{FrameKind}
 use Rattle.dw_frame.specs.declared.kind.FrameKind.TheVariants.{Debug, Eh}
-use Rattle.dw_frame.specs.Pieces.{Piece, missing, bytes, both}
+use Rattle.dw_frame_instructions.specs.Pieces.{Piece, missing, bytes, both}
 use Rattle.dw_frame.specs.Parts.{Placed, free, caused, refused_if, only_if, numbered as number_part}
 use Rattle.dw_frame.specs.PointerParts.{pointer, address, pointer_data, frame_offset}
 use Rattle.dw_frame.specs.Cies.{cie_id, cie_number, is_known, version_fails, version_part, has_encoding, is_augmented, byte_if, letters, sizes, has_byte_register, register_part, encoding_if, personality_part, cie_data, first_instructions, cie_head, cie_measures, cie_contents, cie_part}

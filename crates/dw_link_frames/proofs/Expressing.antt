@@ -14,7 +14,7 @@ use Rattle.dw_expr.specs.Trees.{Plain, Node, Tree, plain, entry_value, nothing, 
 use Rattle.dw_expr.specs.Operands.{Operand, Nothing, Byte, Bytes, Uleb, Sleb, Count, Target, Base, Place, Info, Distance, operands, entry_value_code}
 use Rattle.dw_expr.specs.Places.{place_by}
 use Rattle.dw_expr.specs.Spelling.{bytes, place_draft, info_draft, Part, parts_size, starts_from, parts_draft, expression, nested, operand_draft, operands_draft, operands_size, part, nested_part, node_part, tree_parts, parts_of, expression_size}
-use Rattle.dw_frame.specs.Operands.{nowhere, expression_piece}
+use Rattle.dw_frame_instructions.specs.Operands.{nowhere, expression_piece}
 use Rattle.dw_frame.specs.Reading.{at_zero}
 use Rattle.dw_frame.proofs.TextParts.{split}
 pub use Rattle.dw_dwarf_laws.proofs.Expressions.{numbered_operand, operands_same}

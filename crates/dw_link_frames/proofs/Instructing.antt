@@ -10,16 +10,16 @@ use Rattle.dw_base.specs.declared.constants.TheConstants.{DW_CFA_advance_loc, DW
 use Rattle.dw_writer.specs.Layout.{Layout}
 use Rattle.dw_expr.specs.Places.{place_by}
 use Rattle.dw_expr.specs.Spelling.{expression_size}
-use Rattle.dw_frame.specs.declared.instruction.CallFrameInstruction.{CallFrameInstruction}
-use Rattle.dw_frame.specs.declared.instruction.CallFrameInstruction.TheVariants.{Cfa, CfaRegister, CfaOffset, CfaExpression, Restore, Undefined, SameValue, Offset, ValOffset, Expression, ValExpression, RememberState, RestoreState, ArgsSize, NegateRaState}
-use Rattle.dw_frame.specs.declared.instruction.CallFrameInstruction.TheVariants as built
-use Rattle.dw_frame.specs.declared.program.Step.{Step}
-use Rattle.dw_frame.specs.Advances.{delta, delta_piece, delta_part, advance_piece}
-use Rattle.dw_frame.specs.Factors.{factored}
-use Rattle.dw_frame.specs.Instructions.{Spelling, spell, is_small, restored, offset_rule, value_rule, frame_rule, frame_offset_rule, spelled, spelling_piece, instruction_piece}
-use Rattle.dw_frame.specs.Operands.{Operand, Nothing, Uleb, Sleb, Block, operand_piece, expression_piece}
-use Rattle.dw_frame.specs.Pieces.{nothing, missing, bytes, field}
-use Rattle.dw_frame.specs.Programs.{instructions_piece, program_piece}
+use Rattle.dw_frame_instructions.specs.declared.instruction.CallFrameInstruction.{CallFrameInstruction}
+use Rattle.dw_frame_instructions.specs.declared.instruction.CallFrameInstruction.TheVariants.{Cfa, CfaRegister, CfaOffset, CfaExpression, Restore, Undefined, SameValue, Offset, ValOffset, Expression, ValExpression, RememberState, RestoreState, ArgsSize, NegateRaState}
+use Rattle.dw_frame_instructions.specs.declared.instruction.CallFrameInstruction.TheVariants as built
+use Rattle.dw_frame_instructions.specs.declared.program.Step.{Step}
+use Rattle.dw_frame_instructions.specs.Advances.{delta, delta_piece, delta_part, advance_piece}
+use Rattle.dw_frame_instructions.specs.Factors.{factored}
+use Rattle.dw_frame_instructions.specs.Instructions.{Spelling, spell, is_small, restored, offset_rule, value_rule, frame_rule, frame_offset_rule, spelled, spelling_piece, instruction_piece}
+use Rattle.dw_frame_instructions.specs.Operands.{Operand, Nothing, Uleb, Sleb, Block, operand_piece, expression_piece}
+use Rattle.dw_frame_instructions.specs.Pieces.{nothing, missing, bytes, field}
+use Rattle.dw_frame_instructions.specs.Programs.{instructions_piece, program_piece}
 use Rattle.dw_link_frames.specs.Numbered.{numbered_nodes, numbered_instruction, numbered_step}
 use Rattle.dw_link_frames.proofs.Turning.{Turns, bytes_turn, missing_turn, both_turn, if_turn}
 use Rattle.dw_link_frames.proofs.Expressing.{expression_size_same, expression_turns}

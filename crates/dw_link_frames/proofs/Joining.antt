@@ -16,12 +16,12 @@ use Rattle.dw_writer.proofs.Laws.{followed-somes}
 use Rattle.dw_frame.specs.declared.kind.FrameKind.{FrameKind}
 use Rattle.dw_frame.specs.declared.kind.FrameKind.TheVariants.{Debug, Eh}
 use Rattle.dw_frame.specs.declared.table.FrameTable.{FrameTable}
-use Rattle.dw_frame.specs.Causes.{IsNone}
+use Rattle.dw_frame_instructions.specs.Causes.{IsNone}
 use Rattle.dw_frame.specs.Parts.{Placed, in_turn}
-use Rattle.dw_frame.specs.Pieces.{both, IsWritten}
+use Rattle.dw_frame_instructions.specs.Pieces.{both, IsWritten}
 use Rattle.dw_frame.specs.Reading.{at_zero}
 use Rattle.dw_frame.specs.Tables.{frames_at}
-use Rattle.dw_frame.proofs.Steps.{nothing-followed}
+use Rattle.dw_frame_instructions.proofs.Steps.{nothing-followed}
 use Rattle.dw_frame.proofs.TextParts.{split}
 use Rattle.dw_link.specs.Sets.{Parts, parts_of, sets_of, bytes_of, concatenated, layout_in, linked_part, linked_from, linked_parts}
 use Rattle.dw_link.specs.Outcome.{JoinsParts}

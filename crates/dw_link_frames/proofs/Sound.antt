@@ -18,10 +18,10 @@ use Rattle.dw_writer.specs.Pointers.{signed_text, address_of, formatted, pointer
 use Rattle.dw_writer.specs.declared.pointer.PointerLayout.{PointerLayout}
 use Rattle.dw_writer.specs.declared.pointer.PointerLayout.TheVariants.{Uleb128, Sleb128, Unsigned, Signed}
 use Rattle.dw_expr.specs.Causes.{address_fails, width_fails}
-use Rattle.dw_frame.specs.Causes.{IsNone}
+use Rattle.dw_frame_instructions.specs.Causes.{IsNone}
 use Rattle.dw_frame.specs.Parts.{Placed, number_fails, in_turn}
 use Rattle.dw_frame.specs.PointerParts.{signed_fails, encoding_fails, laid_fails, data_fails, counted_fails, record_fails, pointer_fails, pointer, address}
-use Rattle.dw_frame.specs.Pieces.{Piece, both}
+use Rattle.dw_frame_instructions.specs.Pieces.{Piece, both}
 use Rattle.dw_link_frames.specs.Numbered.{known_or, value_at, numbered}
 use Rattle.dw_link_frames.proofs.Pointing.{laid_by}
 use Rattle.dw_link_frames.proofs.Tabling.{turn_none}

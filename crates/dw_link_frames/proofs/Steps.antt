@@ -17,7 +17,7 @@ use Rattle.dw_writer.specs.Visits.{written_ids}
 use Rattle.dw_writer.specs.declared.sections.Sections.{Sections}
 use Rattle.dw_frame.specs.declared.kind.FrameKind.{FrameKind}
 use Rattle.dw_frame.specs.declared.table.FrameTable.{FrameTable}
-use Rattle.dw_frame.specs.Causes.{IsNone}
+use Rattle.dw_frame_instructions.specs.Causes.{IsNone}
 use Rattle.dw_frame.specs.Tables.{causes_of}
 use Rattle.dw_frame.proofs.TableSteps.{got_at}
 use Rattle.dw_link_frames.specs.declared.error.LinkFrameError.{LinkFrameError}

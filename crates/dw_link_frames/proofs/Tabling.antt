@@ -13,8 +13,8 @@ use Rattle.dw_frame.specs.declared.cie.CommonInformationEntry.{CommonInformation
 use Rattle.dw_frame.specs.declared.fde.FrameDescriptionEntry.{FrameDescriptionEntry}
 use Rattle.dw_frame.specs.declared.kind.FrameKind.{FrameKind}
 use Rattle.dw_frame.specs.declared.kind.FrameKind.TheVariants.{Debug, Eh}
-use Rattle.dw_frame.specs.Pieces.{missing}
-use Rattle.dw_frame.specs.Causes.{IsNone, either}
+use Rattle.dw_frame_instructions.specs.Pieces.{missing}
+use Rattle.dw_frame_instructions.specs.Causes.{IsNone, either}
 use Rattle.dw_frame.specs.Parts.{Part, Placed, free, caused, refused_if, in_turn}
 use Rattle.dw_frame.specs.PointerParts.{frame_offset}
 use Rattle.dw_frame.specs.Cies.{cie_number}

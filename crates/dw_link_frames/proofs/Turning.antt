@@ -8,7 +8,7 @@ use Rattle.dw_base.specs.declared.error.Error.{Error}
 use Rattle.dw_writer.specs.Layout.{Layout}
 use Rattle.dw_writer.specs.Texts.{followed, num_text, zeros}
 use Rattle.dw_writer.proofs.Laws.{followed-somes}
-use Rattle.dw_frame.specs.Pieces.{Piece, missing, bytes, number, both}
+use Rattle.dw_frame_instructions.specs.Pieces.{Piece, missing, bytes, number, both}
 use Rattle.dw_frame.specs.Parts.{Part, Placed, free, caused, only_if, in_turn}
 use Rattle.dw_frame.specs.Entries.{length_piece, with_length, with_count, padding, padded, entry, counted}
 use Rattle.dw_frame.specs.Reading.{at_zero}

@@ -16,8 +16,8 @@ use Rattle.dw_expr.specs.Places.{place_by}
 use Rattle.dw_expr.specs.Spelling.{bytes, distance_text, parts_size, starts_from, parts_draft, expression, nested, operand_draft, operands_draft, node_part, tree_parts, parts_of}
 use Rattle.dw_expr.specs.Operands.{Operand, Nothing, Byte, Bytes, Uleb, Sleb, Count, Target, Base, Place, Info, Distance, operands, entry_value_code}
 use Rattle.dw_expr.specs.Trees.{Node, Tree, plain, entry_value, nothing, before}
-use Rattle.dw_frame.specs.Causes.{IsNone}
-use Rattle.dw_frame.specs.Operands.{nowhere, expression_piece}
+use Rattle.dw_frame_instructions.specs.Causes.{IsNone}
+use Rattle.dw_frame_instructions.specs.Operands.{nowhere, expression_piece}
 use Rattle.dw_link_frames.specs.Numbered.{numbered_node, numbered_tree, numbered_nodes}
 use Rattle.dw_link_frames.proofs.Entering.{first_false, second_false}
 use Rattle.dw_link_frames.proofs.Expressing.{numbered_operand, operands_same}

@@ -18,12 +18,12 @@ use Rattle.dw_frame.specs.declared.cie.CommonInformationEntry.{CommonInformation
 use Rattle.dw_frame.specs.declared.fde.FrameDescriptionEntry.{FrameDescriptionEntry}
 use Rattle.dw_frame.specs.declared.kind.FrameKind.{FrameKind}
 use Rattle.dw_frame.specs.declared.kind.FrameKind.TheVariants.{Debug, Eh}
-use Rattle.dw_frame.specs.Causes.{IsNone}
+use Rattle.dw_frame_instructions.specs.Causes.{IsNone}
 use Rattle.dw_frame.specs.Cies.{cie_id, cie_number, is_known, version_fails, version_part, has_encoding, is_augmented, byte_if, letters, sizes, has_byte_register, register_part, encoding_if, personality_part, cie_data, first_instructions, cie_head, cie_measures, cie_contents, cie_part}
 use Rattle.dw_frame.specs.Entries.{entry, counted}
 use Rattle.dw_frame.specs.Fdes.{too_large, cie_pointer, encoded_range, plain_range, range_part, lsda_part, disagree, mismatch, instructions, fde_contents, fde_part}
 use Rattle.dw_frame.specs.Parts.{Placed, free, caused, refused_if, only_if, number_fails, numbered as number_part}
-use Rattle.dw_frame.specs.Pieces.{missing, bytes}
+use Rattle.dw_frame_instructions.specs.Pieces.{missing, bytes}
 use Rattle.dw_frame.specs.PointerParts.{pointer, address, pointer_data, frame_offset, offset_fails}
 use Rattle.dw_link_frames.specs.Numbered.{numbered, numbered_cie, numbered_fde}
 use Rattle.dw_link_frames.specs.Placed.{is_fixed, personality_fixed, lsda_fixed, entry_fixed}

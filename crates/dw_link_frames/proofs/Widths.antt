@@ -19,19 +19,19 @@ use Rattle.dw_expr.specs.Spelling.{expression_size}
 use Rattle.dw_expr.proofs.ExpressionDrafts.{expression-draft}
 use Rattle.dw_frame.specs.declared.cie.CommonInformationEntry.{CommonInformationEntry}
 use Rattle.dw_frame.specs.declared.fde.FrameDescriptionEntry.{FrameDescriptionEntry}
-use Rattle.dw_frame.specs.declared.instruction.CallFrameInstruction.{CallFrameInstruction}
+use Rattle.dw_frame_instructions.specs.declared.instruction.CallFrameInstruction.{CallFrameInstruction}
 use Rattle.dw_frame.specs.declared.kind.FrameKind.{FrameKind}
-use Rattle.dw_frame.specs.declared.program.Step.{Step}
-use Rattle.dw_frame.specs.Advances.{delta, delta_piece, delta_part, advance_piece}
+use Rattle.dw_frame_instructions.specs.declared.program.Step.{Step}
+use Rattle.dw_frame_instructions.specs.Advances.{delta, delta_piece, delta_part, advance_piece}
 use Rattle.dw_frame.specs.Cies.{is_augmented, has_encoding, byte_if, encoding_if, personality_part, cie_data, first_instructions, cie_head, cie_measures, cie_contents, cie_part}
 use Rattle.dw_frame.specs.Entries.{length_piece, with_length, with_count, padding, padded, entry, counted}
 use Rattle.dw_frame.specs.Fdes.{cie_pointer, range_part, lsda_part, disagree, mismatch, instructions, fde_contents, fde_part}
-use Rattle.dw_frame.specs.Instructions.{Spelling, spelled, spelling_piece, instruction_piece}
-use Rattle.dw_frame.specs.Operands.{nowhere, Operand, Nothing, Uleb, Sleb, Block, operand_piece, expression_piece}
+use Rattle.dw_frame_instructions.specs.Instructions.{Spelling, spelled, spelling_piece, instruction_piece}
+use Rattle.dw_frame_instructions.specs.Operands.{nowhere, Operand, Nothing, Uleb, Sleb, Block, operand_piece, expression_piece}
 use Rattle.dw_frame.specs.Parts.{Part, Placed, free, caused, refused_if, only_if, in_turn}
-use Rattle.dw_frame.specs.Pieces.{Piece, nothing, missing, bytes, field, both}
+use Rattle.dw_frame_instructions.specs.Pieces.{Piece, nothing, missing, bytes, field, both}
 use Rattle.dw_frame.specs.PointerParts.{pointer}
-use Rattle.dw_frame.specs.Programs.{instructions_piece, program_piece}
+use Rattle.dw_frame_instructions.specs.Programs.{instructions_piece, program_piece}
 use Rattle.dw_frame.specs.Reading.{at_zero, IsWide}
 use Rattle.dw_frame.proofs.CieReading.{head_wide, measures_wide}
 use Rattle.dw_frame.proofs.FdeLaws.{field_wide, turn_wide, pointer_wide, range_wide}

@@ -6,9 +6,9 @@ use Rattle.std.proofs.lemmas.List.{length-map}
 use Rattle.dw_base.specs.declared.ids.CieId.{CieId}
 use Rattle.dw_frame.specs.declared.cie.CommonInformationEntry.{CommonInformationEntry}
 use Rattle.dw_frame.specs.declared.fde.FrameDescriptionEntry.{FrameDescriptionEntry}
-use Rattle.dw_frame.specs.declared.instruction.CallFrameInstruction.{CallFrameInstruction}
-use Rattle.dw_frame.specs.declared.instruction.CallFrameInstruction.TheVariants.{CfaExpression, Expression, ValExpression}
-use Rattle.dw_frame.specs.declared.program.Step.{Step}
+use Rattle.dw_frame_instructions.specs.declared.instruction.CallFrameInstruction.{CallFrameInstruction}
+use Rattle.dw_frame_instructions.specs.declared.instruction.CallFrameInstruction.TheVariants.{CfaExpression, Expression, ValExpression}
+use Rattle.dw_frame_instructions.specs.declared.program.Step.{Step}
 pub use Rattle.dw_dwarf_laws.specs.Addresses.{known_or, value_at, numbered_address as numbered, numbered_plain, numbered_node, numbered_tree, numbered_expression as numbered_nodes}
 
 -- the same list with each item changed

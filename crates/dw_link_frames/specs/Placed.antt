@@ -15,8 +15,8 @@ use Rattle.dw_frame.specs.declared.fde.FrameDescriptionEntry.{FrameDescriptionEn
 use Rattle.dw_frame.specs.declared.kind.FrameKind.{FrameKind}
 use Rattle.dw_frame.specs.declared.kind.FrameKind.TheVariants.{Debug, Eh}
 use Rattle.dw_frame.specs.declared.table.FrameTable.{FrameTable}
-use Rattle.dw_frame.specs.Pieces.{bytes}
-use Rattle.dw_frame.specs.Causes.{IsNone}
+use Rattle.dw_frame_instructions.specs.Pieces.{bytes}
+use Rattle.dw_frame_instructions.specs.Causes.{IsNone}
 use Rattle.dw_frame.specs.Parts.{Placed, free, in_turn}
 use Rattle.dw_frame.specs.Reading.{at_zero}
 use Rattle.dw_frame.specs.ReadTables.{ReadsFrames}

@@ -9,8 +9,8 @@ use Rattle.dw_writer.specs.Sections.{section_of}
 use Rattle.dw_writer.specs.declared.sections.Sections.{Sections}
 use Rattle.dw_frame.specs.declared.kind.FrameKind.{FrameKind}
 use Rattle.dw_frame.specs.declared.table.FrameTable.{FrameTable}
-use Rattle.dw_frame.specs.Causes.{IsNone}
-use Rattle.dw_frame.specs.Pieces.{IsWritten}
+use Rattle.dw_frame_instructions.specs.Causes.{IsNone}
+use Rattle.dw_frame_instructions.specs.Pieces.{IsWritten}
 use Rattle.dw_frame.specs.Reading.{AreTold}
 use Rattle.dw_frame.specs.Tables.{no_places, frames_at}
 use Rattle.dw_link_frames.specs.Placed.{section_id}

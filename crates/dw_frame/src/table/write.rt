@@ -4,9 +4,9 @@ ghost use Rattle.std.specs.Prelude.{◌≡◌, ◌<◌, length, IsTrue, Some, On
 ghost use Rattle.dw_expr.specs.Places.{Refused};
 ghost use Rattle.dw_writer.specs.Causes.{BytesRefused};
 ghost use Rattle.dw_frame.specs.declared.kind.FrameKind.TheVariants.{Debug, Eh};
-ghost use Rattle.dw_frame.specs.Causes.{IsNone};
+ghost use Rattle.dw_frame_instructions.specs.Causes.{IsNone};
 ghost use Rattle.dw_frame.specs.Owners.{have_cies};
-ghost use Rattle.dw_frame.specs.Pieces.{IsWritten};
+ghost use Rattle.dw_frame_instructions.specs.Pieces.{IsWritten};
 ghost use Rattle.dw_frame.specs.Parts.{Puts};
 ghost use Rattle.dw_frame.specs.Places.{known, AreBefore};
 ghost use Rattle.dw_frame.specs.Tables.{new_cie, frame, frames_part, no_places, place_at, with_place, frames_at, causes_of};

@@ -1,8 +1,8 @@
 use Rattle.std.specs.Prelude.{refl, [], ◌∷◌}
-use Rattle.dw_frame.specs.Pieces.{bytes}
-use Rattle.dw_frame.specs.Causes.{never}
+use Rattle.dw_frame_instructions.specs.Pieces.{bytes}
+use Rattle.dw_frame_instructions.specs.Causes.{never}
 use Rattle.dw_frame.specs.Cies.{byte_if}
-use Rattle.dw_frame.proofs.Steps.{Writes-none, Writes-as, Writes-bytes}
+use Rattle.dw_frame_instructions.proofs.Steps.{Writes-none, Writes-as, Writes-bytes}
 use Rattle.dw_frame.proofs.CieSteps.{byte_none, byte_some}
 use Rattle.dw_frame.proofs.cie.write_byte_if.Goals as goal
 

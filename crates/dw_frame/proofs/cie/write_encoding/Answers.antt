@@ -1,5 +1,5 @@
 use Rattle.std.specs.Prelude.{refl}
-use Rattle.dw_frame.proofs.Steps.{written-nothing, Writes-bytes}
+use Rattle.dw_frame_instructions.proofs.Steps.{written-nothing, Writes-bytes}
 use Rattle.dw_frame.proofs.cie.write_encoding.Goals as goal
 
 pub returns-in-None : goal.returns-in-None

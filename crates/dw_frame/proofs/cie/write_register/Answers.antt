@@ -1,6 +1,6 @@
 use Rattle.std.proofs.Common.{sym, ◌∙◌}
 use Rattle.dw_base.specs.Leb128.{uleb}
-use Rattle.dw_frame.specs.Pieces.{bytes}
+use Rattle.dw_frame_instructions.specs.Pieces.{bytes}
 use Rattle.dw_frame.specs.Parts.{free, numbered}
 use Rattle.dw_frame.specs.Cies.{has_byte_register}
 use Rattle.dw_frame.proofs.PartSteps.{Puts-if, Puts-else, Puts-bytes}

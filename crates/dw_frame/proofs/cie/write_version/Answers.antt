@@ -1,6 +1,6 @@
 use Rattle.std.specs.Prelude.{[], ◌∷◌}
 use Rattle.std.proofs.Common.{sym, ◌∙◌}
-use Rattle.dw_frame.specs.Pieces.{bytes, missing}
+use Rattle.dw_frame_instructions.specs.Pieces.{bytes, missing}
 use Rattle.dw_frame.specs.Parts.{free, caused}
 use Rattle.dw_frame.specs.Cies.{is_known, version_fails}
 use Rattle.dw_frame.proofs.PartSteps.{Puts-if, Puts-bytes}

@@ -5,7 +5,7 @@ use Rattle.dw_read_frames.specs.InstructionViews.{instruction_of}
 use Rattle.dw_sources.proofs.Progress.{fewer_left}
 use Rattle.dw_sources.specs.ConvertErrors.{from_read}
 use Rattle.dw_frame.proofs.ConvertLaws.{is_err}
-use Rattle.dw_frame.specs.declared.instruction.CallFrameInstruction.{CallFrameInstruction}
+use Rattle.dw_frame_instructions.specs.declared.instruction.CallFrameInstruction.{CallFrameInstruction}
 use Rattle.dw_frame.specs.ConvertPrograms.{Image}
 use Rattle.dw_frame.specs.ConvertViews.{cie_terms}
 use Rattle.dw_frame.proofs.ConvertSteps.{kept_more, by_terms, same_cie_head, passes_one, is_over, stands_first, stands_more, stands_last, stands_missing, stands_failing}

@@ -5,7 +5,7 @@ use Rattle.dw_read_frames.specs.declared.cie.CommonInformationEntry.{CommonInfor
 use Rattle.dw_sources.proofs.Progress.{fewer_left}
 use Rattle.dw_sources.specs.ConvertErrors.{from_read}
 use Rattle.dw_frame.proofs.ConvertLaws.{is_err}
-use Rattle.dw_frame.specs.declared.program.Step.{Step}
+use Rattle.dw_frame_instructions.specs.declared.program.Step.{Step}
 use Rattle.dw_frame.specs.ConvertInstructions.{in_u32}
 use Rattle.dw_frame.specs.ConvertPrograms.{Image, advance, behind, steps_at, kept_steps}
 use Rattle.dw_frame.specs.ConvertViews.{fde_terms}

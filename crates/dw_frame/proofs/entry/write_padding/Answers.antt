@@ -2,7 +2,7 @@ use Rattle.std.proofs.Common.{sym, ◌∙◌, ◌+◌, ap}
 use Rattle.dw_base.specs.Numbers.{is_width, word_of}
 use Rattle.dw_writer.specs.Texts.{zeros}
 use Rattle.dw_expr.specs.Causes.{width_fails}
-use Rattle.dw_frame.specs.Pieces.{bytes, missing}
+use Rattle.dw_frame_instructions.specs.Pieces.{bytes, missing}
 use Rattle.dw_frame.specs.Parts.{free, caused}
 use Rattle.dw_frame.specs.Entries.{padding}
 use Rattle.dw_frame.proofs.PartSteps.{Puts-if, Puts-bytes}

@@ -6,7 +6,7 @@ use Rattle.dw_frame.specs.declared.kind.FrameKind.TheVariants.{Debug}
 use Rattle.dw_frame.specs.Cies.{cie_number}
 use Rattle.dw_frame.specs.Fdes.{too_large}
 use Rattle.dw_frame.specs.Parts.{caused}
-use Rattle.dw_frame.specs.Pieces.{missing}
+use Rattle.dw_frame_instructions.specs.Pieces.{missing}
 use Rattle.dw_frame.specs.PointerParts.{frame_offset}
 use Rattle.dw_frame.proofs.PartSteps.{Puts-else}
 use Rattle.dw_frame.proofs.NumberSteps.{Puts-offset}

@@ -13,8 +13,8 @@ use Rattle.dw_base.specs.declared.address.Address.{Address}
 use Rattle.dw_base.specs.declared.common.Encoding.{Encoding}
 use Rattle.dw_base.specs.declared.common.Register.{Register}
 use Rattle.dw_base.specs.declared.constants.DwEhPe.{DwEhPe}
-use Rattle.dw_frame.specs.contracts.instruction.CallFrameInstructionPartialEq.TheImpl as instruction
-use Rattle.dw_frame.proofs.EqualSteps.{instruction_Decides}
+use Rattle.dw_frame_instructions.specs.contracts.instruction.CallFrameInstructionPartialEq.TheImpl as instruction
+use Rattle.dw_frame_instructions.proofs.EqualSteps.{instruction_Decides}
 use Rattle.dw_frame.proofs.cie.CommonInformationEntry.is_same.Goals as goal
 
 encoding_Decides : (a b : Encoding) → Decides (encoding.ghosts.eq a b) (a ≡ b)

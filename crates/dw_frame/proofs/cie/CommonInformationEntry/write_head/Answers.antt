@@ -1,9 +1,9 @@
 use Rattle.std.specs.Prelude.{Err}
 use Rattle.std.proofs.lemmas.Result.{err_from_is_err_and}
 use Rattle.dw_frame.specs.Parts.{free, in_turn}
-use Rattle.dw_frame.proofs.Steps.{bytes_written}
+use Rattle.dw_frame_instructions.proofs.Steps.{bytes_written}
 use Rattle.dw_frame.proofs.PartSteps.{Puts-then, Puts-first}
-use Rattle.dw_frame.specs.Pieces.{bytes}
+use Rattle.dw_frame_instructions.specs.Pieces.{bytes}
 use Rattle.dw_frame.specs.Cies.{cie_id, version_part, letters, sizes}
 use Rattle.dw_frame.proofs.cie.CommonInformationEntry.write_head.Goals as goal
 

@@ -1,8 +1,8 @@
 use Rattle.std.specs.Prelude.{[], ◌∷◌, is_some}
-use Rattle.dw_frame.specs.Pieces.{bytes, both}
-use Rattle.dw_frame.specs.Causes.{never}
+use Rattle.dw_frame_instructions.specs.Pieces.{bytes, both}
+use Rattle.dw_frame_instructions.specs.Causes.{never}
 use Rattle.dw_frame.specs.Cies.{byte_if, is_augmented, has_encoding}
-use Rattle.dw_frame.proofs.Steps.{Writes-then, Writes-bytes}
+use Rattle.dw_frame_instructions.proofs.Steps.{Writes-then, Writes-bytes}
 use Rattle.dw_frame.proofs.cie.CommonInformationEntry.write_letters.Goals as goal
 
 pub returns : goal.returns

@@ -1,9 +1,9 @@
 use Rattle.std.proofs.Common.{◌≡◌, rules, to_z, of_z, w8, w64}
 use Rattle.dw_base.specs.Leb128.{uleb, sleb}
 use Rattle.dw_frame.specs.Parts.{free, in_turn}
-use Rattle.dw_frame.proofs.Steps.{bytes_written}
+use Rattle.dw_frame_instructions.proofs.Steps.{bytes_written}
 use Rattle.dw_frame.proofs.PartSteps.{Puts-then}
-use Rattle.dw_frame.specs.Pieces.{bytes}
+use Rattle.dw_frame_instructions.specs.Pieces.{bytes}
 use Rattle.dw_frame.specs.Cies.{register_part}
 use Rattle.dw_frame.proofs.cie.CommonInformationEntry.write_measures.Goals as goal
 

@@ -1,8 +1,8 @@
 use Rattle.std.specs.Prelude.{[], ◌∷◌}
-use Rattle.dw_frame.specs.Pieces.{bytes}
+use Rattle.dw_frame_instructions.specs.Pieces.{bytes}
 use Rattle.dw_frame.specs.Parts.{free}
 use Rattle.dw_frame.specs.PointerParts.{pointer}
-use Rattle.dw_frame.proofs.Steps.{bytes_written}
+use Rattle.dw_frame_instructions.proofs.Steps.{bytes_written}
 use Rattle.dw_frame.proofs.PartSteps.{Puts-then, Puts-nothing}
 use Rattle.dw_frame.proofs.NumberSteps.{Puts-pointer}
 use Rattle.dw_frame.proofs.cie.CommonInformationEntry.write_personality.Goals as goal

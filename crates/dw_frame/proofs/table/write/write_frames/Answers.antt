@@ -7,7 +7,7 @@ use Rattle.dw_frame.specs.Places.{known, AreBefore}
 use Rattle.dw_frame.specs.Reading.{AreTold}
 use Rattle.dw_frame.specs.Tables.{frame, frames_from, with_place, place_at}
 use Rattle.dw_frame.proofs.PartSteps.{Puts-then, Puts-first, Puts-nothing}
-use Rattle.dw_frame.proofs.ProgramSteps.{drop_cons, drop_all}
+use Rattle.dw_frame_instructions.proofs.ProgramSteps.{drop_cons, drop_all}
 use Rattle.dw_frame.proofs.TableSteps.{none_before, has_cie}
 use Rattle.dw_frame.proofs.table.write.write_frames.Goals as goal
 
