@@ -15,8 +15,8 @@ use Rattle.dw_sources.specs.declared.convert_error.ConvertError.TheVariants as r
 use Rattle.dw_ends.specs.Reasons.{reason_text}
 use Rattle.dw_ends.specs.Sections.{sections_of}
 use Rattle.dw_ends.specs.declared.reason.Reason.{Reason}
-use Rattle.dw_listing.specs.Listed.{IsListed}
-use Rattle.dw_listing.specs.Readers.{ReadsSections, SectionSlice, slice_reading}
+use Rattle.dw_ends.specs.Listed.{IsListed}
+use Rattle.dw_ends.specs.Readers.{ReadsSections, SectionSlice, slice_reading}
 use Rattle.dw_ends.specs.declared.listing_reader.Listing.{Listing}
 use Rattle.dw_arange_table.specs.Sets.{RangeSet}
 use Rattle.dw_arange_table.specs.Bytes.{aranges_bytes}

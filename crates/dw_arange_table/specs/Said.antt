@@ -10,7 +10,7 @@ use Rattle.dw_sources.specs.declared.convert_error.ConvertError.{ConvertError}
 use Rattle.dw_sources.specs.declared.convert_error.ConvertError.TheVariants.{NoMemory}
 use Rattle.dw_ends.specs.Sections.{ListingValue, sections_of}
 use Rattle.dw_ends.specs.declared.reason.Reason.{Reason}
-use Rattle.dw_listing.specs.Readers.{ReadsSections, SectionSlice, slice_reading}
+use Rattle.dw_ends.specs.Readers.{ReadsSections, SectionSlice, slice_reading}
 use Rattle.dw_arange_table.specs.Sets.{RangeSet}
 use Rattle.dw_arange_table.specs.Bytes.{aranges_bytes}
 use Rattle.dw_arange_table.specs.Causes.{IsNone, sets_fail}

@@ -18,8 +18,10 @@ use crate::command::Command;
 use crate::status::Status;
 use crate::table::ArangeTable;
 use dw_base::{DebugInfoOffset, Error, RunTimeEndian, SectionId};
-use dw_ends::{EndError, INPUT_LIMIT, Listing, Reason, Source, push_section, read_all};
-use dw_listing::{ListingError, read_listing, read_sections};
+use dw_ends::{
+    EndError, INPUT_LIMIT, Listing, ListingError, Reason, Source, push_section, read_all,
+    read_listing, read_sections,
+};
 use dw_sources::ConvertError;
 use dw_writer::EndianVec;
 use itoa::Buffer;

@@ -37,5 +37,7 @@ fn words(rt: &HostRuntime) -> Result<Vec<String>, u8>
 fn main(rt: HostRuntime) -> ExitCode {
     let mut source = StdinSource::new(rt.reader());
     let mut sink = StdoutSink::new(io::writer(&rt));
-    end(rt.alloc(), words(&rt), &mut source, &mut sink)
+    let stderr = rt.stderr();
+    let mut errors = StdoutSink::new(io::writer(&stderr));
+    end(rt.alloc(), words(&rt), &mut source, &mut sink, &mut errors)
 }

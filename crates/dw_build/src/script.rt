@@ -15,6 +15,7 @@ use dw_script_units::{
 };
 use dw_unit::{LineProgram, Unit};
 use std::alloc::Global;
+use thiserror::Error as ThisError;
 
 /// The most bytes that a script may have.
 pub const SCRIPT_LIMIT: usize = 16_777_216;
@@ -42,7 +43,8 @@ pub struct Script {
 ///     println!(rt; "line {}: {}", refusal.line, refusal.reason.text())?;
 /// }
 /// ```
-#[derive(Clone, Copy, Debug, PartialEq, Eq)]
+#[derive(Clone, Copy, Debug, PartialEq, Eq, ThisError)]
+#[error("line {line}: {reason}")]
 pub struct Refusal {
     pub line: usize,
     pub reason: Reason,
@@ -54,9 +56,11 @@ pub struct Refusal {
 /// let answer = read_script(alloc, script);
 /// let without_memory = matches!(answer, Err(ScriptError::NoMemory));
 /// ```
-#[derive(Clone, Copy, Debug, PartialEq, Eq)]
+#[derive(Clone, Copy, Debug, PartialEq, Eq, ThisError)]
 pub enum ScriptError {
+    #[error("{0}")]
     Refused(Refusal),
+    #[error("memory ran out")]
     NoMemory,
 }
 

@@ -8,3 +8,7 @@ pub mod Fields
 pub mod Lines
 pub mod Sections
 pub mod Listing
+pub mod TextLines
+pub mod StatusLines
+pub mod Listed
+pub mod Readers

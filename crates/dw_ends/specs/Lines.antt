@@ -1,5 +1,5 @@
 -- What a line of a listing says, or why it is refused.
-use Rattle.std.specs.Prelude.{ℕ, ◌^◌, ◌<◌, List, [], ◌∷◌, Option, Ok, Err, ok_or, ◌==◌, if◌then◌else◌, bytes_eq, codes, position}
+use Rattle.std.specs.Prelude.{ℕ, ◌^◌, ◌<◌, List, [], ◌∷◌, Option, Ok, ok_or, ◌==◌, if◌then◌else◌, bytes_eq, codes, position}
 use Rattle.dw_base.specs.SectionName.{section_name}
 use Rattle.dw_base.specs.declared.section_id.SectionId.{SectionId}
 use Rattle.dw_base.specs.declared.section_id.SectionId.TheVariants.{DebugAbbrev, DebugStr, DebugLineStr, DebugLine, DebugRanges, DebugRngLists, DebugLoc, DebugLocLists, DebugInfo, DebugFrame, EhFrame, DebugAddr, DebugStrOffsets}

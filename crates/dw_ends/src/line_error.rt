@@ -5,13 +5,16 @@ ghost use Rattle.dw_ends.specs.declared.line_error.LineError.TheVariants.{NoMemo
 
 use crate::reason::Reason;
 use std::alloc::AllocError;
+use thiserror::Error as ThisError;
 
 /// Why a line wasn't taken.
-#[derive(Clone, Copy, Debug, PartialEq, Eq)]
+#[derive(Clone, Copy, Debug, PartialEq, Eq, ThisError)]
 pub enum LineError {
     /// It is refused, for this reason.
+    #[error("{0}")]
     Refused(Reason),
     /// Memory ran out.
+    #[error("memory ran out")]
     NoMemory,
 }
 

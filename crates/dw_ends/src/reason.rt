@@ -3,8 +3,15 @@
 ghost use Rattle.std.specs.Prelude.{◌≡◌};
 ghost use Rattle.dw_ends.specs.Reasons.{reason_text};
 
+use std::fmt;
+use thiserror::Error as ThisError;
+
 /// Why a line of a script or of a listing is refused.
-#[derive(Clone, Copy, Debug, PartialEq, Eq)]
+///
+/// ```
+/// println!(rt; "{}", Reason::BadHex)?; // bad hex
+/// ```
+#[derive(Clone, Copy, Debug, PartialEq, Eq, ThisError)]
 pub enum Reason {
     /// A byte is outside printable ASCII.
     BadByte,
@@ -87,5 +94,11 @@ impl Reason {
             Reason::AddressBack => "address back",
             Reason::BadSymbol => "bad symbol",
         }
+    }
+}
+
+impl fmt::Display for Reason {
+    fn fmt<W: fmt::Write>(&self, f: &mut fmt::Formatter<W>) -> fmt::Result {
+        f.write_str(self.text())
     }
 }

@@ -9,13 +9,16 @@ ghost use Rattle.dw_ends.specs.Ends.{Intake, with_after};
 use dw_base::{FaultPlan, one_fault_more};
 use std::alloc::{AllocError, Global};
 use std::io::Write;
+use thiserror::Error as ThisError;
 
 /// Why a sink took nothing.
-#[derive(Clone, Copy, Debug, PartialEq, Eq)]
+#[derive(Clone, Copy, Debug, PartialEq, Eq, ThisError)]
 pub enum SinkError {
     /// The write failed.
+    #[error("the write failed")]
     Failed,
     /// Memory ran out.
+    #[error("memory ran out")]
     NoMemory,
 }
 

@@ -7,9 +7,11 @@ ghost use Rattle.dw_base.specs.Faults.{HasRisen, one_higher, FailsNext, after_ca
 
 use dw_base::{FaultPlan, one_fault_more};
 use std::io::Read;
+use thiserror::Error as ThisError;
 
 /// A read that failed; its source's count of faults says so too.
-#[derive(Clone, Copy, Debug, PartialEq, Eq)]
+#[derive(Clone, Copy, Debug, PartialEq, Eq, ThisError)]
+#[error("a read failed")]
 pub struct Failed;
 
 /// A stream of bytes, read a buffer at a time.

@@ -8,6 +8,7 @@ ghost use Rattle.dw_ends.specs.Ends.{TakesPrefix, used_up, with_after};
 use crate::sink::{Sink, SinkError};
 use crate::source::{Failed, Source};
 use std::alloc::{AllocError, Global};
+use thiserror::Error as ThisError;
 
 /// The most bytes that an input may have.
 pub const INPUT_LIMIT: usize = 16_777_216;
@@ -16,13 +17,16 @@ pub const INPUT_LIMIT: usize = 16_777_216;
 const CHUNK: usize = 16 * 1024;
 
 /// Why an input could not be read whole.
-#[derive(Clone, Copy, Debug, PartialEq, Eq)]
+#[derive(Clone, Copy, Debug, PartialEq, Eq, ThisError)]
 pub enum EndError {
     /// A read failed.
+    #[error("a read failed")]
     Failed,
     /// There are more bytes than 16,777,216.
+    #[error("the input has more than 16,777,216 bytes")]
     TooLong,
     /// Memory ran out.
+    #[error("memory ran out")]
     NoMemory,
 }
 

@@ -17,7 +17,7 @@ use Rattle.dw_build.specs.declared.script.Refusal.{Refusal}
 use Rattle.dw_build.proofs.SetUnits.{sets_open}
 use Rattle.dw_program.specs.Answers.{DoRead, IsShort, Says, SaysAsked, SaysBuilt, SaysOf, SaysOfBytes, SaysOfInput, SaysOfSets, SaysRead, Prints, code_of, made_of}
 use Rattle.dw_program.specs.Commands.{reading_of}
-use Rattle.dw_listing.specs.Readers.{slice_reading}
+use Rattle.dw_ends.specs.Readers.{slice_reading}
 use Rattle.dw_dwarf_laws.proofs.Conversions.{AreSameDwarfs, converted_alike}
 use Rattle.dw_dwarf_laws.proofs.Validity.{valid_alike}
 use Rattle.dw_program.specs.Converted.{Becomes, BecomesNone, constant_answers, SaysOfListing, listing_read, with_refusal}

@@ -8,6 +8,7 @@ use Rattle.dw_base.specs.declared.endianity.RunTimeEndian.{RunTimeEndian}
 use Rattle.dw_read.specs.Reading.{Reading}
 use Rattle.dw_read_units.specs.declared.dwarf.Dwarf.{Dwarf}
 use Rattle.dw_sources.specs.declared.convert_error.ConvertError.{ConvertError}
+use Rattle.dw_entry_ids.specs.KeptRows.{all_kept}
 use Rattle.dw_entry_ids.specs.declared.ids.EntryIds.{EntryIds}
 use Rattle.dw_entry_ids.specs.declared.units.NumberedUnit.{NumberedUnit}
 use Rattle.dw_convert_lines.specs.EntryNames.{Tables}
@@ -17,7 +18,7 @@ use Rattle.dw_dwarf.specs.ConvertedUnits.{UnitsBecome}
 use Rattle.dw_dwarf.specs.DwarfValue.{DwarfValue}
 use Rattle.dw_dwarf.specs.Valid.{IsUnwritten, AreUnwritten}
 use Rattle.dw_ends.specs.Sections.{ListingValue, sections_of}
-use Rattle.dw_listing.specs.Readers.{ReadsSections, SectionSlice, slice_reading}
+use Rattle.dw_ends.specs.Readers.{ReadsSections, SectionSlice, slice_reading}
 use Rattle.dw_program.specs.Answers.{SaysBuilt}
 use Rattle.dw_program.specs.Converted.{SaysOfListing, constant_answers, listing_read, with_refusal}
 use Rattle.dw_program.specs.Listed.{SaysOfDwarf}
@@ -28,7 +29,7 @@ use Rattle.dw_program.specs.declared.status.Status.TheVariants.{Listed, Usage, S
 
 module _ {R E : Type 0} (reading : R → Reading) (answers : ℕ → Option Address → Type 0) (d : Dwarf R E) where
   -- what units become was not written before
-  become_unwritten : (ids : EntryIds) (first k : ℕ) (xs : List (NumberedUnit R E)) (old : Tables) (us : List UnitValue) (new : Tables) → UnitsBecome reading answers d ids first k xs old us new → All IsUnwritten us
+  become_unwritten : (ids : EntryIds) (first k : ℕ) (xs : List (NumberedUnit R E)) (old : Tables) (us : List UnitValue) (new : Tables) → UnitsBecome all_kept reading answers d ids first k xs old us new → All IsUnwritten us
   become_unwritten ids first k [] old [] new h = All-nil IsUnwritten
   become_unwritten ids first k [] old (u ∷ us) new h = absurd h
   become_unwritten ids first k (x ∷ xs) old [] new h = absurd h

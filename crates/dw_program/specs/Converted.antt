@@ -10,7 +10,7 @@ use Rattle.dw_dwarf.specs.ConvertedDwarf.{IsConverted, CannotConvert}
 use Rattle.dw_dwarf.specs.DwarfValue.{DwarfValue}
 use Rattle.dw_ends.specs.Sections.{ListingValue, sections_of}
 use Rattle.dw_ends.specs.declared.reason.Reason.{Reason}
-use Rattle.dw_listing.specs.Readers.{ReadsSections, SectionSlice, slice_reading}
+use Rattle.dw_ends.specs.Readers.{ReadsSections, SectionSlice, slice_reading}
 use Rattle.dw_build.specs.declared.script.Refusal.{Refusal}
 use Rattle.dw_program.specs.Listed.{ListsDwarf, IsWriteRefusal}
 use Rattle.dw_program.specs.Texts.{convert_refused_text}

@@ -13,8 +13,7 @@ use crate::status::Status;
 use dw_base::Address;
 use dw_build::{Refusal, SCRIPT_LIMIT};
 use dw_dwarf::{ConvertError, Dwarf};
-use dw_ends::Listing;
-use dw_listing::{ListingError, read_listing, read_sections};
+use dw_ends::{Listing, ListingError, read_listing, read_sections};
 use std::alloc::{AllocError, Global};
 
 // Reads the sections of a listing, converts them and writes what they become.

@@ -1,12 +1,14 @@
 //! The program over any words, source and sink.
 
-ghost use Rattle.std.specs.Prelude.{◌≡◌, ◌≤◌, map, string_bytes, MatchResult};
+ghost use Rattle.std.specs.Prelude.{◌≡◌, ◌≤◌, map, string_bytes, IfOk, MatchResult};
 ghost use Rattle.std.specs.Process.{exit_status};
+ghost use Rattle.dw_ends.specs.Ends.{TakesPrefix};
+ghost use Rattle.dw_ends.specs.StatusLines.{status_line};
 ghost use Rattle.dw_program.specs.Answers.{ConvertsValid, LeavesUnread, LinksValid, ListsValid, MakesNumbers, RunAnswers, Prints};
 
 use crate::answer::{Answer, Stop, answer_to};
 use crate::status::Status;
-use dw_ends::{Sink, SinkError, Source, write_all};
+use dw_ends::{Sink, SinkError, Source, tell_status, write_all};
 use std::alloc::Global;
 use std::process::ExitCode;
 
@@ -57,21 +59,43 @@ pub fn run<S: Source, K: Sink>(
 }
 
 /// Runs the program over the words, and ends it with the exit status that `run` answers; where the
-/// words couldn't be had, with the status that stands in their place.
-pub fn end<S: Source, K: Sink>(
+/// words couldn't be had, with the status that stands in their place. Where no text tells why, as
+/// where a read fails, a line says so to `errors`.
+pub fn end<S: Source, K: Sink, E: Sink>(
     alloc: Global,
     words: Result<Vec<String>, u8>,
     source: &mut S,
     sink: &mut K,
+    errors: &mut E,
 ) -> ExitCode
     ensures answers { MatchResult words
         (λ ws. RunAnswers (map string_bytes ws.items)
         (S.input source.old) (S.input source.new) (K.intake sink.old) (K.intake sink.new)
         (exit_status result))
         (λ status. exit_status result ≡ status) }
+    ensures complete { IfOk words (λ ws. ListsValid (map string_bytes ws.items)
+        (S.input source.old) (S.input source.new) (K.intake sink.old) (K.intake sink.new)
+        (exit_status result)) }
+    ensures converts { IfOk words (λ ws. ConvertsValid (map string_bytes ws.items)
+        (S.input source.old) (S.input source.new) (K.intake sink.old) (K.intake sink.new)
+        (exit_status result)) }
+    ensures links { IfOk words (λ ws. LinksValid (map string_bytes ws.items)
+        (S.input source.old) (S.input source.new) (K.intake sink.old) (K.intake sink.new)
+        (exit_status result)) }
+    ensures makes { IfOk words (λ ws. MakesNumbers (map string_bytes ws.items)
+        (K.intake sink.old) (K.intake sink.new) (exit_status result)) }
+    ensures unread { IfOk words (λ ws.
+        LeavesUnread (map string_bytes ws.items) source.old source.new) }
+    ensures source_faults { (S.input source.old).faults ≤ (S.input source.new).faults }
+    ensures sink_faults { (K.intake sink.old).faults ≤ (K.intake sink.new).faults }
+    ensures told { TakesPrefix (E.intake errors.old).taken (E.intake errors.new).taken
+        (status_line (exit_status result)) }
 {
-    match words {
-        Ok(words) => ExitCode::from(run(alloc, &words, source, sink)),
-        Err(status) => ExitCode::from(status),
-    }
+    let status = match words {
+        Ok(words) => run(alloc, &words, source, sink),
+        Err(status) => status,
+    };
+    // What can't be told there can't be told at all.
+    let _ = tell_status(status, errors);
+    ExitCode::from(status)
 }

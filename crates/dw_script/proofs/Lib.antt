@@ -1,4 +1,3 @@
-pub mod Cuts
 mod Worked
 mod WorkedLinePrograms
 mod WorkedExpressions

@@ -2,6 +2,5 @@ pub mod Words
 pub mod LinePrograms
 pub mod Lists
 pub mod Lines
-pub mod Scripts
 pub mod LinkWords
 pub mod LinkLines

@@ -10,13 +10,12 @@ mod line_program;
 mod link_command;
 mod link_line;
 mod link_word;
-mod script;
 mod unit_list;
 mod word;
 
 pub use change::Change;
 pub use command::Command;
-pub use dw_ends::{HexBytes, Reason, number as parse_u64};
+pub use dw_ends::{HexBytes, Reason, TextLines, lines, number as parse_u64};
 pub use dw_script_fields::{
     ExpressionFields, ExpressionStep, ExpressionSteps, LocationFields, LocationItems, RangeFields,
     RangeItems, ScriptLocation, ScriptOperation, ScriptRange, Value, parse_u8, parse_u16,
@@ -25,4 +24,3 @@ pub use line::parse_line;
 pub use line_change::{LineChange, LineText};
 pub use link_command::LinkCommand;
 pub use link_line::parse_link_line;
-pub use script::{ScriptLines, lines};

@@ -3,15 +3,18 @@
 ghost use Rattle.std.specs.Prelude.{◌≡◌, ◌<◌, ◌≤◌, IfOk, IfErr};
 
 use dw_script::Reason;
+use thiserror::Error as ThisError;
 
 /// Why a command wasn't carried out: it is refused, or memory ran out.
 ///
 /// ```
 /// let index = index_below(unit, units.count(), Reason::NoSuchUnit)?;
 /// ```
-#[derive(Clone, Copy, Debug, PartialEq, Eq)]
+#[derive(Clone, Copy, Debug, PartialEq, Eq, ThisError)]
 pub enum CommandError {
+    #[error("{0}")]
     Refused(Reason),
+    #[error("memory ran out")]
     NoMemory,
 }
 

@@ -35,18 +35,16 @@ fn with_entry<R: Reader>(counts: Counts, attributes: &[Attribute<R>]) -> Counts 
     }
 }
 
-/// The counts with those of a unit. A row takes a byte at least.
-fn with_unit<R: Reader>(
+/// The counts with those of the rows of a unit. A row takes a byte at least.
+fn with_rows<R: Reader>(
     alloc: Global,
-    dwarf: &Dwarf<R>,
-    header: UnitHeader<R>,
+    unit: UnitRef<'_, R>,
     entry: &mut DebuggingInformationEntry<R>,
     before: Counts,
 ) -> ReadResult<Counts> {
-    let unit = dwarf.unit(alloc, header)?;
-    let mut rows = UnitRef { dwarf, unit: &unit }.entries_raw(alloc, None)?;
+    let mut rows = unit.entries_raw(alloc, None)?;
     let mut counts = before;
-    for _ in 0..dwarf.debug_info.len() {
+    for _ in 0..unit.dwarf.debug_info.len() {
         if rows.is_empty() {
             break;
         }
@@ -55,6 +53,18 @@ fn with_unit<R: Reader>(
         }
     }
     Ok(counts)
+}
+
+/// The counts with those of the unit of a header.
+fn with_unit<R: Reader>(
+    alloc: Global,
+    dwarf: &Dwarf<R>,
+    header: UnitHeader<R>,
+    entry: &mut DebuggingInformationEntry<R>,
+    before: Counts,
+) -> ReadResult<Counts> {
+    let unit = dwarf.unit(alloc, header)?;
+    with_rows(alloc, UnitRef { dwarf, unit: &unit }, entry, before)
 }
 
 /// The counts of all units.

@@ -6,6 +6,7 @@ use std::alloc::AllocError;
 use std::fmt::Write;
 
 /// What a value holds.
+#[derive(Clone, Copy)]
 pub enum Held<'a> {
     Number(u128),
     Signed(i64),
@@ -46,20 +47,27 @@ fn push_attribute<R: Reader>(
     text: &mut String,
     attribute: &Attribute<R>,
 ) -> Result<(), AllocError> {
-    let name = attribute.name().0;
     let value = attribute.value();
     let (kind, held) = held_by(&value);
+    push_held(text, attribute.name().0, kind, held)
+}
+
+/// Appends the name of an attribute, the kind of its value, and what the value holds.
+fn push_held(text: &mut String, name: u16, kind: &str, held: Held<'_>) -> Result<(), AllocError> {
+    write!(text, "    {name:#x} {kind} ")?;
     match held {
-        Held::Number(number) => write!(text, "    {name:#x} {kind} {number}\n"),
-        Held::Signed(number) => write!(text, "    {name:#x} {kind} {number}\n"),
-        Held::Bytes(bytes) => {
-            write!(text, "    {name:#x} {kind} ")?;
-            for byte in bytes {
-                write!(text, "{byte:02x}")?;
-            }
-            write!(text, "\n")
-        }
+        Held::Number(number) => write!(text, "{number}\n"),
+        Held::Signed(number) => write!(text, "{number}\n"),
+        Held::Bytes(bytes) => push_bytes(text, bytes),
     }
+}
+
+/// Appends bytes in hex.
+fn push_bytes(text: &mut String, bytes: &[u8]) -> Result<(), AllocError> {
+    for byte in bytes {
+        write!(text, "{byte:02x}")?;
+    }
+    write!(text, "\n")
 }
 
 /// The kind of a value, and what it holds.

@@ -1,5 +1,5 @@
 use Rattle.std.proofs.Common.{◌∙◌, sym, ap, subst, ◌+◌, length, arith}
-use Rattle.dw_script.specs.Scripts.{lines_left}
+use Rattle.dw_ends.specs.TextLines.{lines_left}
 use Rattle.dw_build.specs.Script.{script, after_lines, AreOpen}
 use Rattle.dw_build.specs.ScriptValue.{empty_script, script_in}
 use Rattle.dw_build.proofs.Lines.{after_lines-ok}

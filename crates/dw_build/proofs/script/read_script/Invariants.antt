@@ -1,5 +1,5 @@
 use Rattle.std.proofs.Common.{◌≡◌, ◌+◌, ◌≤◌, length}
-use Rattle.dw_script.specs.Scripts.{lines_left}
+use Rattle.dw_ends.specs.TextLines.{lines_left}
 use Rattle.dw_build.specs.Script.{script, after_lines, AreOpen}
 use Rattle.dw_build.specs.ScriptValue.{script_in}
 use Rattle.dw_build.proofs.script.read_script.Given as goal

@@ -1,6 +1,6 @@
 use Rattle.std.proofs.Common.{◌≡◌, ◌+◌, ◌≤◌, length}
 use Rattle.dw_ends.specs.Pieces.{newline, pieces}
-use Rattle.dw_script.specs.Scripts.{lines_left}
+use Rattle.dw_ends.specs.TextLines.{lines_left}
 use Rattle.dw_build.specs.Script.{after_each}
 use Rattle.dw_build.specs.Sets.{after_link_line}
 use Rattle.dw_build.specs.SetsValue.{begun_in, empty_begun}

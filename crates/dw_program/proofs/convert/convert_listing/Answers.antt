@@ -1,6 +1,6 @@
 use Rattle.std.proofs.Common.{subst}
 use Rattle.dw_ends.specs.Sections.{sections_of}
-use Rattle.dw_listing.specs.Listed.{RefusedWhole}
+use Rattle.dw_ends.specs.Listed.{RefusedWhole}
 use Rattle.dw_program.proofs.Converted.{says_listing_refused, says_of_listing}
 use Rattle.dw_program.proofs.Outcomes.{IfOk-map}
 use Rattle.dw_program.proofs.convert.convert_listing.Goals as goal

@@ -1,9 +1,9 @@
 use Rattle.std.proofs.Common.{◌∙◌, sym, ap, ◌+◌, length, arith}
 use Rattle.std.proofs.lemmas.Result.{err_from_is_err_and}
-use Rattle.dw_script.specs.Scripts.{lines_left}
+use Rattle.dw_ends.specs.TextLines.{lines_left}
 use Rattle.dw_ends.specs.Sections.{after_lines, empty_listing, sections_of}
-use Rattle.dw_listing.proofs.Lines.{after_lines-ok, listing_refused}
-use Rattle.dw_listing.proofs.listing.read_listing.Goals as goal
+use Rattle.dw_ends.proofs.ListedLines.{after_lines-ok, listing_refused}
+use Rattle.dw_ends.proofs.whole_listing.read_listing.Goals as goal
 
 pub loop-line-init : goal.loop-line-init
 unfolding sections_of

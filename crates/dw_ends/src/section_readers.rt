@@ -3,10 +3,10 @@
 ghost use Rattle.std.specs.Prelude.{◌≡◌, ◌<◌, [], length, get_or};
 ghost use Rattle.dw_base.specs.Order.{is_big_of};
 ghost use Rattle.dw_read.specs.Reading.{whole};
-ghost use Rattle.dw_listing.specs.Readers.{ReadsSections, slice_reading};
+ghost use Rattle.dw_ends.specs.Readers.{ReadsSections, slice_reading};
 
+use crate::listing_reader::Listing;
 use dw_base::RunTimeEndian;
-use dw_ends::Listing;
 use dw_read::EndianSlice;
 use dw_read_units::Dwarf;
 

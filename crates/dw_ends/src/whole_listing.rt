@@ -2,11 +2,15 @@
 
 ghost use Rattle.std.specs.Prelude.{◌≡◌, ◌≤◌, length, Ok, OnOk, IfOk, IfErr};
 ghost use Rattle.dw_ends.specs.Sections.{after_line, empty_listing, sections_of};
-ghost use Rattle.dw_listing.specs.Listed.{IsListed, RefusedAt, RefusedWhole, refused_as};
+ghost use Rattle.dw_ends.specs.Listed.{IsListed, RefusedAt, RefusedWhole, refused_as};
 
-use dw_ends::{INPUT_LIMIT, LineError, Listing, ListingReader, Reason};
-use dw_script::lines;
+use crate::line_error::LineError;
+use crate::listing_reader::{Listing, ListingReader};
+use crate::reason::Reason;
+use crate::text_lines::lines;
+use crate::transfer::INPUT_LIMIT;
 use std::alloc::Global;
+use thiserror::Error as ThisError;
 
 /// Why a listing wasn't read.
 ///
@@ -15,11 +19,13 @@ use std::alloc::Global;
 ///     println!(rt; "line {line}: {}", reason.text())?; // line 1: wrong length
 /// }
 /// ```
-#[derive(Clone, Copy, Debug, PartialEq, Eq)]
+#[derive(Clone, Copy, Debug, PartialEq, Eq, ThisError)]
 pub enum ListingError {
     /// The first line that is refused, counted from 1, and why.
+    #[error("line {line}: {reason}")]
     Refused { line: usize, reason: Reason },
     /// Memory ran out.
+    #[error("memory ran out")]
     NoMemory,
 }
 

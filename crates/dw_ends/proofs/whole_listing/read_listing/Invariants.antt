@@ -1,7 +1,7 @@
 use Rattle.std.proofs.Common.{◌≡◌, ◌+◌, ◌≤◌, length}
-use Rattle.dw_script.specs.Scripts.{lines_left}
+use Rattle.dw_ends.specs.TextLines.{lines_left}
 use Rattle.dw_ends.specs.Sections.{after_lines, sections_of}
-use Rattle.dw_listing.proofs.listing.read_listing.Given as goal
+use Rattle.dw_ends.proofs.whole_listing.read_listing.Given as goal
 
 abbrev pub invariant-loop-line : goal.invariant-loop-line
 invariant-loop-line l = record {

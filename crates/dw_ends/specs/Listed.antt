@@ -6,8 +6,8 @@ use Rattle.dw_ends.specs.declared.line_error.LineError.{LineError}
 use Rattle.dw_ends.specs.declared.line_error.LineError.TheVariants as line
 use Rattle.dw_ends.specs.declared.listing_reader.Listing.{Listing}
 use Rattle.dw_ends.specs.declared.reason.Reason.{Reason}
-use Rattle.dw_listing.specs.declared.listing.ListingError.{ListingError}
-use Rattle.dw_listing.specs.declared.listing.ListingError.TheVariants.{Refused, NoMemory}
+use Rattle.dw_ends.specs.declared.whole_listing.ListingError.{ListingError}
+use Rattle.dw_ends.specs.declared.whole_listing.ListingError.TheVariants.{Refused, NoMemory}
 
 -- a listing has the byte order and the sections that its bytes say
 pub record IsListed (bytes : List ℕ) (l : Listing) : Type 0 where

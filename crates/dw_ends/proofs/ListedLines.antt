@@ -4,9 +4,9 @@ use Rattle.std.specs.Prelude.{Result, Ok, Err}
 use Rattle.dw_ends.specs.Fields.{Outcome}
 use Rattle.dw_ends.specs.Sections.{ListingValue, after_line, after_lines, sections_of}
 use Rattle.dw_ends.specs.declared.reason.Reason.{Reason}
-use Rattle.dw_listing.specs.Listed.{RefusedAt, RefusedWhole}
-use Rattle.dw_listing.specs.declared.listing.ListingError.{ListingError}
-use Rattle.dw_listing.specs.declared.listing.ListingError.TheVariants.{Refused, NoMemory}
+use Rattle.dw_ends.specs.Listed.{RefusedAt, RefusedWhole}
+use Rattle.dw_ends.specs.declared.whole_listing.ListingError.{ListingError}
+use Rattle.dw_ends.specs.declared.whole_listing.ListingError.TheVariants.{Refused, NoMemory}
 
 -- what is left to do after line n
 after_outcome : ℕ → List (List ℕ) → Outcome ListingValue → Result ListingValue (ℕ × Reason)

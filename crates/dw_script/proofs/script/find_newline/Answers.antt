@@ -1,7 +1,0 @@
-use Rattle.std.proofs.Common.{◌==◌}
-use Rattle.dw_ends.specs.Pieces.{newline}
-use Rattle.dw_script.proofs.Cuts.{first_byte}
-use Rattle.dw_script.proofs.script.find_newline.Goals as goal
-
-pub returns-clause-place : goal.returns-clause-place
-returns-clause-place c = first_byte (λ b. b == newline) c.args.script.now c.memchr.result c.memchr.ensures
