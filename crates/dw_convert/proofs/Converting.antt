@@ -11,9 +11,10 @@ use Rattle.dw_entries.specs.declared.value.AttributeValue.{AttributeValue}
 use Rattle.dw_read.specs.Reading.{Reading}
 use Rattle.dw_read.specs.declared.attribute.Attribute.{Attribute}
 use Rattle.dw_read_units.specs.declared.unit_ref.UnitRef.{UnitRef}
+use Rattle.dw_sources.specs.Dropped.{is_dropped}
 use Rattle.dw_sources.specs.declared.convert_error.ConvertError.{ConvertError}
 use Rattle.dw_convert.specs.Attributes.{Seen, seen, IsImage, IsRefused}
-use Rattle.dw_convert.specs.AttributeLists.{is_dropped, kept, once, AreImages, AreConverted, RefusesAttribute}
+use Rattle.dw_convert.specs.AttributeLists.{kept, once, AreImages, AreConverted, RefusesAttribute}
 use Rattle.dw_convert.specs.Tables.{Tables}
 
 -- a list around one of its elements

@@ -28,6 +28,10 @@ pub err_then : {A B : Type 0} (r : Result A B) (N P Q : B → Type 0) → ((e : 
 err_then (Ok x) N P Q f h = h
 err_then (Err e) N P Q f h = ⊎_elim (λ (n : N e). inl n) (λ (p : P e). inr (f e p)) h
 
+pub ok_both : {A B : Type 0} (r : Result A B) (P Q S : A → Type 0) → ((x : A) → P x → Q x → S x) → IfOk r P → IfOk r Q → IfOk r S
+ok_both (Ok x) P Q S f h k = f x h k
+ok_both (Err e) P Q S f h k = h
+
 pub formed : (R E : Type 0) (reading : R → Reading) (answers : ℕ → Option Address → Type 0) (entries : ℕ → Option UnitEntryId) (infos : ℕ → Option DebugInfoRef) (u : UnitRef R E) (files : List FileId) (a : Seen) (order : Option Bool) (name : ℕ) (v : Value) (r : Result Image ConvertError)
     → (a.1.form ≡ DW_FORM_flag_present.0 → ⊥) → declared_in a ≡ None → name ≡ a.1.name → v ≡ named_value a.1.name (raw_of a) → order ≡ a.2
     → ValueOutcome reading answers entries infos u files (order_or_little order) name v r → AttributeOutcome reading answers entries infos u files a r

@@ -8,7 +8,6 @@ mod Nesting
 mod LocationSteps
 mod WrittenItems
 mod WrittenWalks
-mod Dropped
 mod Lookups
 mod Made
 mod Defaults

@@ -5,11 +5,13 @@ use Rattle.dw_base.specs.declared.address.Address.{Address}
 use Rattle.dw_base.specs.declared.address.DebugInfoRef.{DebugInfoRef}
 use Rattle.dw_base.specs.declared.ids.UnitEntryId.{UnitEntryId}
 use Rattle.dw_entries.specs.declared.value.AttributeValue.{AttributeValue}
+use Rattle.dw_lists.specs.declared.range.Range.{Range}
 use Rattle.dw_read.specs.Reading.{Reading}
 use Rattle.dw_read_units.specs.declared.unit_ref.UnitRef.{UnitRef}
 use Rattle.dw_sources.specs.declared.convert_error.ConvertError.{ConvertError}
 use Rattle.dw_convert.specs.Images.{Image}
-use Rattle.dw_convert.specs.Outcomes.{After}
+use Rattle.dw_convert.specs.Outcomes.{After, Then}
+use Rattle.dw_convert.specs.Ranges.{with_address}
 use Rattle.dw_convert.specs.SourceImages.{RangesFound, IndexedRangesFound, LocationsFound, IndexedLocationsFound}
 use Rattle.dw_convert.specs.Sources.{ranges_of, locations_of}
 use Rattle.dw_convert.specs.Values.{MadeOf, Made, RangesOutcome, LocationsOutcome}
@@ -79,3 +81,8 @@ module _ (R E : Type 0) (reading : R → Reading) (answers : ℕ → Option Addr
 
   pub indexed_locations_made : (i : ℕ) (r : Result Image ConvertError) → IndexedLocationsFound reading answers entries infos u i r → After (locations_of reading u i) (λ p. Made (LocationsOutcome reading answers entries infos u p) image.Locations) r
   indexed_locations_made i r h = after_weaker (locations_of reading u i) (LocationsFound reading answers entries infos u) (λ p. Made (LocationsOutcome reading answers entries infos u p) image.Locations) r (λ p k. locations_made p r k) h
+
+-- what comes of an outcome
+pub made_of : (P : Result Address ConvertError → Type 0) (make : Address → Result Range ConvertError) (rest : Address → Result Range ConvertError → Type 0) → ((a : Address) → rest a (make a)) → (x : Result Address ConvertError) → P x → Then P rest (with_address make x)
+made_of P make rest f (Ok a) h = (Ok a, h, f a)
+made_of P make rest f (Err e) h = (Err e, h, refl)

@@ -1,4 +1,4 @@
--- Worked rows: numbers of files, constants of declarations, values that stay, names that are dropped, and doubled names.
+-- Worked rows: numbers of files, constants of declarations, values that stay, and doubled names.
 use Rattle.std.proofs.Common.{◌≡◌, List, [], ◌∷◌, Some, None, Ok, Err, true, false, refl}
 use Rattle.std.specs.Prelude.{◌-◌, ◌^◌, pos, negsuc}
 use Rattle.dw_base.specs.declared.ids.FileId.{FileId}
@@ -8,7 +8,7 @@ use Rattle.dw_sources.specs.declared.convert_error.ConvertError.TheVariants.{Inv
 use Rattle.dw_convert.specs.Constants.{same_value}
 use Rattle.dw_convert.specs.Exprlocs.{is_index}
 use Rattle.dw_convert.specs.Files.{file_image, declared_image}
-use Rattle.dw_convert.specs.AttributeLists.{is_dropped, once}
+use Rattle.dw_convert.specs.AttributeLists.{once}
 use Rattle.dw_convert.specs.Values.{program_image}
 
 -- the files of the numbers 0 to 2, of which the last is kept before the first
@@ -61,31 +61,6 @@ size = refl
 -- the largest constant is 2 to the 63rd less 1, and the number of this id is one more in version 4
 too_large : declared_image 4 (record { 0 = 0 } ∷ record { 0 = 2 ^ 63 - 1 } ∷ []) 0x3a (pos 1) ≡ Err IntegerOverflow
 too_large = refl
-
--- DWARF 5, table 7.5, and the GNU names behind it
-sibling : is_dropped 0x01 ≡ true
-unfolding is_dropped
-sibling = refl
-
-string_base : is_dropped 0x72 ≡ true
-unfolding is_dropped
-string_base = refl
-
-split_id : is_dropped 0x2131 ≡ true
-unfolding is_dropped
-split_id = refl
-
-views : is_dropped 0x2137 ≡ true
-unfolding is_dropped
-views = refl
-
-location : is_dropped 0x02 ≡ false
-unfolding is_dropped
-location = refl
-
-line_program : is_dropped 0x10 ≡ false
-unfolding is_dropped
-line_program = refl
 
 -- DW_AT_name twice around DW_AT_byte_size: the last value at the first place
 doubled : once ((record { 0 = 0x03 }, built.Data1 1) ∷ (record { 0 = 0x0b }, built.Data1 8) ∷ (record { 0 = 0x03 }, built.Data1 2) ∷ [])

@@ -3,24 +3,16 @@ use Rattle.std.specs.Prelude.{◌≡◌, ℕ, ◌==◌, Bool, not, List, [], ◌
 use Rattle.dw_base.specs.declared.address.Address.{Address}
 use Rattle.dw_base.specs.declared.address.DebugInfoRef.{DebugInfoRef}
 use Rattle.dw_base.specs.declared.constants.DwAt.{DwAt}
-use Rattle.dw_base.specs.declared.constants.TheConstants.{DW_AT_sibling, DW_AT_str_offsets_base, DW_AT_addr_base, DW_AT_rnglists_base, DW_AT_loclists_base, DW_AT_dwo_name, DW_AT_GNU_addr_base, DW_AT_GNU_ranges_base, DW_AT_GNU_dwo_name, DW_AT_GNU_dwo_id, DW_AT_GNU_locviews}
 use Rattle.dw_base.specs.declared.ids.FileId.{FileId}
 use Rattle.dw_base.specs.declared.ids.UnitEntryId.{UnitEntryId}
 use Rattle.dw_entries.specs.declared.value.AttributeValue.{AttributeValue}
 use Rattle.dw_read.specs.Reading.{Reading}
 use Rattle.dw_read.specs.Values.{is_among}
 use Rattle.dw_read_units.specs.declared.unit_ref.UnitRef.{UnitRef}
+use Rattle.dw_sources.specs.Dropped.{is_dropped}
 use Rattle.dw_sources.specs.declared.convert_error.ConvertError.{ConvertError}
 use Rattle.dw_convert.specs.Attributes.{Seen, IsImage, IsRefused}
 use Rattle.dw_convert.specs.Tables.{Tables}
-
--- What is written has siblings, bases and split files of its own, and no views of locations. Zero is the name of no attribute.
-abbrev pub dropped_names : List ℕ
-dropped_names =
-    0 ∷ DW_AT_sibling.0 ∷ DW_AT_str_offsets_base.0 ∷ DW_AT_addr_base.0 ∷ DW_AT_rnglists_base.0 ∷ DW_AT_loclists_base.0 ∷ DW_AT_dwo_name.0 ∷ DW_AT_GNU_addr_base.0 ∷ DW_AT_GNU_ranges_base.0 ∷ DW_AT_GNU_dwo_name.0 ∷ DW_AT_GNU_dwo_id.0 ∷ DW_AT_GNU_locviews.0 ∷ []
-
-unfoldable pub is_dropped : ℕ → Bool
-is_dropped name = is_among name dropped_names
 
 -- attributes less those of these names
 abbrev pub kept : List Seen → List Seen

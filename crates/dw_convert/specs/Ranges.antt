@@ -21,6 +21,11 @@ abbrev pub pair : Bool → Address → Address → Result Range ConvertError
 pair true a b = offsets a b
 pair false a b = Ok (built.StartEnd a b)
 
+-- what is made of an address that is known
+abbrev pub with_address : (Address → Result Range ConvertError) → Result Address ConvertError → Result Range ConvertError
+with_address make (Ok a) = make a
+with_address make (Err e) = Err e
+
 module _ (answers : ℕ → Option Address → Type 0) (addresses : ℕ → Result ℕ ConvertError) where
   abbrev pub address : ℕ → Result Address ConvertError → Type 0
   address n = AddressOutcome answers n

@@ -34,8 +34,7 @@ pub(crate) fn indexed<R: Reader, F: Fn(u64) -> Option<Address>>(
         result }
 {
     let address = unit.address(index)?;
-    let converted = converted(address, convert_address)?;
-    Ok(converted)
+    converted(address, convert_address)
 }
 
 /// The address of an index, which only a unit has.

@@ -67,8 +67,7 @@ pub fn convert_attribute_value<R: Reader, C: ConvertDebugInfoRef, F: Fn(u64) -> 
         ≡ tables strings.old line_strings.old ranges.old locations.old) }
 {
     let image = convert_attribute(alloc, unit, files, attribute, convert_address, refs)?;
-    let value = store(image, strings, line_strings, ranges, locations)?;
-    Ok(value)
+    store(image, strings, line_strings, ranges, locations)
 }
 
 /// What an attribute becomes before strings and lists have their ids.

@@ -3,35 +3,20 @@
 ghost use Rattle.std.specs.Prelude.{◌≡◌, ◌⊎◌, IfOk, IfErr, map};
 ghost use Rattle.dw_sources.specs.declared.convert_error.ConvertError.TheVariants.{NoMemory};
 ghost use Rattle.dw_convert.specs.Attributes.{seen};
-ghost use Rattle.dw_convert.specs.AttributeLists.{is_dropped, AreConverted, RefusesAttribute};
+ghost use Rattle.dw_convert.specs.AttributeLists.{AreConverted, RefusesAttribute};
 ghost use Rattle.dw_convert.specs.Tables.{tables};
 
 use crate::attribute::convert_attribute_value;
 use crate::once::once;
 use crate::references::ConvertDebugInfoRef;
-use dw_base::constants::*;
 use dw_base::{Address, DwAt, FileId};
 use dw_entries::AttributeValue;
 use dw_lists::{LocationListTable, RangeListTable};
 use dw_read::{Attribute, Reader};
 use dw_read_units::UnitRef;
-use dw_sources::ConvertResult;
+use dw_sources::{ConvertResult, is_dropped};
 use dw_strings::{LineStringTable, StringTable};
 use std::alloc::Global;
-
-/// Whether an attribute of a name isn't converted: what is written anew has bases, siblings and
-/// split files of its own. Zero is the name of none.
-pub fn is_dropped(name: DwAt) -> bool
-    ensures { result ≡ is_dropped name.0 }
-{
-    match name {
-        DwAt(0) | DW_AT_sibling | DW_AT_str_offsets_base | DW_AT_addr_base => true,
-        DW_AT_rnglists_base | DW_AT_loclists_base | DW_AT_dwo_name | DW_AT_GNU_addr_base => true,
-        DW_AT_GNU_ranges_base | DW_AT_GNU_dwo_name | DW_AT_GNU_dwo_id => true,
-        DW_AT_GNU_locviews => true,
-        _ => false,
-    }
-}
 
 /// Converts the attributes of an entry of a unit that is read, in their order, each as
 /// `convert_attribute_value` does. Those of dropped names are left out, and of several of one name

@@ -21,7 +21,7 @@ mod source;
 mod value;
 
 pub use attribute::convert_attribute_value;
-pub use attributes::{convert_attributes, is_dropped};
+pub use attributes::convert_attributes;
 pub use expressions::expression;
 pub use file::convert_file_index;
 pub use locations::location_list;

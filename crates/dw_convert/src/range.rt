@@ -1,9 +1,10 @@
 //! The items of range lists, and the addresses of the items of location lists.
 
-ghost use Rattle.std.specs.Prelude.{◌≡◌};
+ghost use Rattle.std.specs.Prelude.{◌≡◌, Ok};
+ghost use Rattle.dw_lists.specs.declared.range.Range.TheVariants.{BaseAddress, StartEnd, StartLength};
 ghost use Rattle.dw_sources.specs.RawListViews.{span_of};
 ghost use Rattle.dw_convert.specs.Lookups.{address_of};
-ghost use Rattle.dw_convert.specs.Ranges.{RangeOutcome, pair, is_base, is_empty};
+ghost use Rattle.dw_convert.specs.Ranges.{RangeOutcome, pair, with_address, is_base, is_empty};
 
 use crate::address::{converted, indexed};
 use dw_base::Address;
@@ -25,37 +26,75 @@ pub(crate) fn convert_range<R: Reader, F: Fn(u64) -> Option<Address>>(
 {
     match item {
         RawRngListEntry::AddressOrOffsetPair { begin, end } => {
-            let begin = converted(begin, convert_address)?;
-            let end = converted(end, convert_address)?;
-            pair(begin, end, has_base)
+            let begin = converted(begin, convert_address);
+            let end = converted(end, convert_address);
+            paired(begin, end, has_base)
         }
-        RawRngListEntry::BaseAddress { addr } => {
-            let address = converted(addr, convert_address)?;
-            Ok(Range::BaseAddress { address })
-        }
-        RawRngListEntry::BaseAddressx { addr } => {
-            let address = indexed(unit, addr, convert_address)?;
-            Ok(Range::BaseAddress { address })
-        }
+        RawRngListEntry::BaseAddress { addr } => based(converted(addr, convert_address)),
+        RawRngListEntry::BaseAddressx { addr } => based(indexed(unit, addr, convert_address)),
         RawRngListEntry::StartxEndx { begin, end } => {
-            let begin = indexed(unit, begin, convert_address)?;
-            let end = indexed(unit, end, convert_address)?;
-            Ok(Range::StartEnd { begin, end })
+            let begin = indexed(unit, begin, convert_address);
+            let end = indexed(unit, end, convert_address);
+            spanned(begin, end)
         }
         RawRngListEntry::StartxLength { begin, length } => {
-            let begin = indexed(unit, begin, convert_address)?;
-            Ok(Range::StartLength { begin, length })
+            counted(indexed(unit, begin, convert_address), length)
         }
         RawRngListEntry::OffsetPair { begin, end } => Ok(Range::OffsetPair { begin, end }),
         RawRngListEntry::StartEnd { begin, end } => {
-            let begin = converted(begin, convert_address)?;
-            let end = converted(end, convert_address)?;
-            Ok(Range::StartEnd { begin, end })
+            let begin = converted(begin, convert_address);
+            let end = converted(end, convert_address);
+            spanned(begin, end)
         }
         RawRngListEntry::StartLength { begin, length } => {
-            let begin = converted(begin, convert_address)?;
-            Ok(Range::StartLength { begin, length })
+            counted(converted(begin, convert_address), length)
         }
+    }
+}
+
+/// A base, if its address is known.
+fn based(address: ConvertResult<Address>) -> ConvertResult<Range>
+    ensures { result ≡ with_address (λ a. Ok (BaseAddress a)) address }
+{
+    match address {
+        Ok(address) => Ok(Range::BaseAddress { address }),
+        Err(why) => Err(why),
+    }
+}
+
+/// A begin and a length, if the begin is known.
+fn counted(begin: ConvertResult<Address>, length: u64) -> ConvertResult<Range>
+    ensures { result ≡ with_address (λ a. Ok (StartLength a length)) begin }
+{
+    match begin {
+        Ok(begin) => Ok(Range::StartLength { begin, length }),
+        Err(why) => Err(why),
+    }
+}
+
+/// A begin and an end, if both are known.
+fn spanned(begin: ConvertResult<Address>, end: ConvertResult<Address>) -> ConvertResult<Range>
+    ensures { result ≡ with_address (λ a. with_address (λ b. Ok (StartEnd a b)) end) begin }
+{
+    match (begin, end) {
+        (Ok(begin), Ok(end)) => Ok(Range::StartEnd { begin, end }),
+        (Err(why), _) => Err(why),
+        (Ok(_), Err(why)) => Err(why),
+    }
+}
+
+/// What two numbers are up to version 4, if both are known.
+fn paired(
+    begin: ConvertResult<Address>,
+    end: ConvertResult<Address>,
+    has_base: bool,
+) -> ConvertResult<Range>
+    ensures { result ≡ with_address (λ a. with_address (pair has_base a) end) begin }
+{
+    match (begin, end) {
+        (Ok(begin), Ok(end)) => pair(begin, end, has_base),
+        (Err(why), _) => Err(why),
+        (Ok(_), Err(why)) => Err(why),
     }
 }
 

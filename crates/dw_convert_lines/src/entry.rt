@@ -14,6 +14,7 @@ ghost use Rattle.dw_convert_lines.specs.Views.{texts_of, tables, converting, IsT
 
 use crate::name::{convert_listed, convert_name};
 use crate::number::{convert_checksum, convert_number};
+use crate::owned::drop;
 use dw_base::{DirectoryId, FileId};
 use dw_line::{FileInfo, LineProgram, LineString};
 use dw_read::{AttributeValue, Reader};
@@ -44,7 +45,50 @@ pub(crate) fn convert_directory<R: Reader>(
         (texts_of R.reading dwarf.now) (entry_of R.reading entry)
         (converting program.old ids.old.items strings.old line_strings.old) ≡ Err e) }
 {
-    let name = directory_name(alloc, dwarf, version, entry, line_strings, strings)?;
+    let added = add_directory(
+        alloc,
+        dwarf,
+        version,
+        &entry,
+        program,
+        ids,
+        line_strings,
+        strings,
+    );
+    drop(entry);
+    added
+}
+
+/// Adds a directory to the program by what was read of it, and its id to those of the directories
+/// before it.
+fn add_directory<R: Reader>(
+    alloc: Global,
+    dwarf: &Dwarf<R>,
+    version: u16,
+    entry: &FileEntry<R>,
+    program: &mut LineProgram,
+    ids: &mut Vec<DirectoryId>,
+    line_strings: &mut LineStringTable,
+    strings: &mut StringTable,
+) -> ConvertResult<()>
+    requires { IsTarget version ids.old.items program.old }
+    ensures ok { OnOk result (directory_image (nat_le 5 version) (texts_of R.reading dwarf.now)
+        (entry_of R.reading entry.now)
+        (converting program.old ids.old.items strings.old line_strings.old)
+        ≡ Ok (converting program.new ids.new.items strings.new line_strings.new)) }
+    ensures target { OnOk result (IsTarget version ids.new.items program.new) }
+    ensures err { IfErr result (λ e. (e ≡ NoMemory) ⊎ directory_image (nat_le 5 version)
+        (texts_of R.reading dwarf.now) (entry_of R.reading entry.now)
+        (converting program.old ids.old.items strings.old line_strings.old) ≡ Err e) }
+{
+    let name = convert_listed(
+        alloc,
+        dwarf,
+        version,
+        &entry.path_name,
+        line_strings,
+        strings,
+    )?;
     match program.add_directory(name) {
         Ok(id) => {
             ids.push(id)?;
@@ -52,28 +96,6 @@ pub(crate) fn convert_directory<R: Reader>(
         }
         Err(_) => Err(ConvertError::NoMemory),
     }
-}
-
-/// The name of a directory.
-fn directory_name<R: Reader>(
-    alloc: Global,
-    dwarf: &Dwarf<R>,
-    version: u16,
-    entry: FileEntry<R>,
-    line_strings: &mut LineStringTable,
-    strings: &mut StringTable,
-) -> ConvertResult<LineString>
-    ensures ok { IfOk result (λ s. listed_image (nat_le 5 version) (texts_of R.reading dwarf.now)
-        (tables strings.old line_strings.old) (entry_of R.reading entry).path
-        ≡ Ok (s, tables strings.new line_strings.new)) }
-    ensures text { IfOk result IsName }
-    ensures full { IfOk result (λ s. version ≤ 4 → s ≢ String []) }
-    ensures err { IfErr result (λ e. (e ≡ NoMemory) ⊎ listed_image (nat_le 5 version)
-        (texts_of R.reading dwarf.now) (tables strings.old line_strings.old)
-        (entry_of R.reading entry).path ≡ Err e) }
-{
-    let path = path_of(entry);
-    convert_listed(alloc, dwarf, version, &path, line_strings, strings)
 }
 
 /// Adds a file to the program, and its id to those of the files before it.
@@ -99,7 +121,7 @@ pub(crate) fn convert_file<R: Reader>(
         is_big (nat_le 5 version) directories.now (entry_of R.reading entry)
         (converting program.old ids.old.items strings.old line_strings.old) ≡ Err e) }
 {
-    add_file(
+    let added = add_file(
         alloc,
         dwarf,
         version,
@@ -110,7 +132,9 @@ pub(crate) fn convert_file<R: Reader>(
         ids,
         line_strings,
         strings,
-    )
+    );
+    drop(entry);
+    added
 }
 
 /// Adds a file to the program by what was read of it, and its id to those of the files before it.
@@ -154,13 +178,6 @@ fn add_file<R: Reader>(
         }
         Err(_) => Err(ConvertError::NoMemory),
     }
-}
-
-/// The name of a directory or a file.
-pub(crate) fn path_of<R: Reader>(entry: FileEntry<R>) -> Option<AttributeValue<R>>
-    ensures { result ≡ entry.path_name }
-{
-    entry.path_name
 }
 
 /// The directory of a number.

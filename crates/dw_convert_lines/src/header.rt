@@ -13,9 +13,9 @@ ghost use Rattle.dw_convert_lines.specs.HeaderLists.{AreOfHeader, FilesMade, Ent
 ghost use Rattle.dw_convert_lines.specs.Views.{texts_of, tables, converting, IsTarget};
 
 use crate::entries::{convert_directories, convert_files};
-use crate::entry::path_of;
 use crate::format_list::is_convertible;
 use crate::name::{convert_name, inline};
+use crate::owned::drop;
 use dw_base::{DirectoryId, Encoding, Endianity, FileId, LineEncoding};
 use dw_line::{LineProgram, LineString};
 use dw_read::Reader;
@@ -141,14 +141,16 @@ fn working_directory<R: Reader>(
         let Some(entry) = entries.next()? else {
             return Err(ConvertError::InvalidDirectoryIndex);
         };
-        return convert_name(
+        let name = convert_name(
             alloc,
             dwarf,
             version,
-            &path_of(entry),
+            &entry.path_name,
             line_strings,
             strings,
         );
+        drop(entry);
+        return name;
     }
     inline(alloc, b"")
 }

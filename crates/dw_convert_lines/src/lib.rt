@@ -9,6 +9,7 @@ mod header;
 mod machine;
 mod name;
 mod number;
+mod owned;
 mod program;
 mod registers;
 mod row;

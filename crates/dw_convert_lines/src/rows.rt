@@ -11,6 +11,7 @@ ghost use Rattle.dw_convert_lines.specs.RowImages.{AreFiles};
 ghost use Rattle.dw_convert_lines.specs.RowOutcomes.{AddsSequences, RefusesSequences, IsFresh, Changes, Refuses};
 
 use crate::machine::{Machine, convert_instruction};
+use crate::owned::drop;
 use crate::registers::Registers;
 use dw_base::constants::DW_LNE_define_file;
 use dw_base::{Address, FileId};
@@ -59,14 +60,16 @@ pub(crate) fn convert_rows<R: Reader, F: Fn(u64) -> Option<Address>>(
         if defines_file(&instruction) {
             return Err(ConvertError::UnsupportedLineProgram);
         }
-        machine = convert_instruction(
+        let followed = convert_instruction(
             header,
             files,
             &instruction,
             machine,
             program,
             convert_address,
-        )?;
+        );
+        drop(instruction);
+        machine = followed?;
     }
     if program.in_sequence() {
         return Err(ConvertError::UnsupportedLineProgram);

@@ -6,5 +6,6 @@ mod LocationLaws
 mod PlainLaws
 mod ReadLaws
 mod TableLaws
+mod DroppedNames
 mod Worked
 mod WorkedLists

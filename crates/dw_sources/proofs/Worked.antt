@@ -1,4 +1,5 @@
--- Rows that compute: bytes of operations, and what they are read as. The bytes behind an operation are left.
+-- Rows that compute: bytes of operations, and what they are read as, where the bytes behind an operation are left; and names of
+-- attributes that are dropped.
 use Rattle.std.proofs.Common.{◌≡◌, [], ◌∷◌, Some, None, Err, true, false, refl}
 use Rattle.std.specs.Prelude.{pos, negsuc}
 use Rattle.dw_base.specs.Numbers.{bytes_at, number_at}
@@ -7,6 +8,7 @@ use Rattle.dw_base.specs.declared.common.Encoding.{Encoding}
 use Rattle.dw_base.specs.declared.common.Format.TheVariants.{Dwarf32}
 use Rattle.dw_read.specs.Reasons.{bytes_read, number_read, uleb_read, uleb16_read, sleb_read, address_read}
 use Rattle.dw_read.specs.declared.error.ReadError.TheVariants.{UnexpectedEof, BadLeb128, UnsupportedAddressSize, InvalidExpression, InvalidPiece}
+use Rattle.dw_sources.specs.Dropped.{is_dropped, is_left_out}
 use Rattle.dw_sources.specs.Operations.{Simple, Address, UnsignedConstant, SignedConstant, ConstantType, RegisterOffset, Pick, Skip, CallRef, Convert, EntryValue, Register, ImplicitPointer, WasmGlobal}
 use Rattle.dw_sources.specs.Operands.{signed_read, base_read, block_read, short_block_read, info_place_read}
 use Rattle.dw_sources.specs.OperationTable.{is_simple, plain_of, wasm_read, literals, stack_operations, entry_operations, typed_operations, location_rows, locations, behind, operation_read, operation_at}
@@ -107,3 +109,37 @@ no_address = refl
 large_piece : operation_read false five (0x93 ∷ 0x80 ∷ 0x80 ∷ 0x80 ∷ 0x80 ∷ 0x80 ∷ 0x80 ∷ 0x80 ∷ 0x80 ∷ 0x20 ∷ []) ≡ Err InvalidPiece
 unfolding operation_read behind plain_of is_simple literals stack_operations entry_operations typed_operations locations location_rows uleb_read groups_at number_read number_at bytes_at
 large_piece = refl
+
+-- DWARF 5, table 7.5, and the GNU names behind it
+sibling : is_dropped 0x01 ≡ true
+unfolding is_dropped
+sibling = refl
+
+string_base : is_dropped 0x72 ≡ true
+unfolding is_dropped
+string_base = refl
+
+split_id : is_dropped 0x2131 ≡ true
+unfolding is_dropped
+split_id = refl
+
+views : is_dropped 0x2137 ≡ true
+unfolding is_dropped
+views = refl
+
+location : is_dropped 0x02 ≡ false
+unfolding is_dropped
+location = refl
+
+line_program : is_dropped 0x10 ≡ false
+unfolding is_dropped
+line_program = refl
+
+-- views of locations are left to those who convert
+kept_views : is_left_out 0x2137 ≡ false
+unfolding is_dropped
+kept_views = refl
+
+left_out_sibling : is_left_out 0x01 ≡ true
+unfolding is_dropped
+left_out_sibling = refl

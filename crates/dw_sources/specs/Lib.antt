@@ -8,3 +8,4 @@ pub mod ConvertErrors
 pub mod RawLists
 pub mod RawListViews
 pub mod RawListIters
+pub mod Dropped

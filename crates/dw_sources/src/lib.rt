@@ -2,6 +2,7 @@
 #![tactic(auto)]
 
 mod convert_error;
+mod dropped;
 mod literals;
 mod location_item;
 mod locations;
@@ -17,6 +18,7 @@ mod stack;
 mod typed;
 
 pub use convert_error::{ConvertError, ConvertResult};
+pub use dropped::{is_dropped, is_left_out};
 pub use location_item::RawLocListEntry;
 pub use operation::Operation;
 pub use operation_iter::OperationIter;

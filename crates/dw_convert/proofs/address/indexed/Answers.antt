@@ -8,10 +8,5 @@ returns-in_err-address g c =
     let e : c.from_residual.result ≡ Err (from_read c.in_err-address.field-0.0) = is_err _ _ c.from_residual.ensures in
     rw (missing _ _ _ _ _ c.in_err-address.ensures.err) e
 
-pub returns-in_err-converted : goal.returns-in_err-converted
-returns-in_err-converted g c =
-    let e : c.from_residual-in_err-converted.result ≡ Err c.in_err-converted.field-0.0 = is_err _ _ c.from_residual-in_err-converted.ensures in
-    rw (found _ _ _ _ _ c.in_ok-address.ensures.ok, e) c.in_err-converted.ensures
-
 pub returns : goal.returns
-returns g c = rw (found _ _ _ _ _ c.in_ok-address.ensures.ok) c.in_ok-converted.ensures
+returns g c = rw (found _ _ _ _ _ c.in_ok-address.ensures.ok) c.converted.ensures

@@ -1,5 +1,7 @@
 use Rattle.std.proofs.Common.{refl, inl}
+use Rattle.std.proofs.lemmas.Result.{IfErr-weaker}
 use Rattle.dw_convert.proofs.Addresses.{is_err}
+use Rattle.dw_convert.proofs.Formed.{ok_both}
 use Rattle.dw_convert.specs.Images.{image_of}
 use Rattle.dw_convert.proofs.attribute.convert_attribute_value.Goals as goal
 
@@ -12,25 +14,11 @@ returns-in_err-image-clause-err g c = rw (is_err _ _ c.from_residual.ensures) c.
 pub returns-in_err-image-clause-kept : goal.returns-in_err-image-clause-kept
 returns-in_err-image-clause-kept g c = rw (is_err _ _ c.from_residual.ensures) refl
 
-pub returns-in_err-value-clause-ok : goal.returns-in_err-value-clause-ok
-returns-in_err-value-clause-ok g c = rw (is_err _ _ c.from_residual-in_err-value.ensures) tt
-
-pub returns-in_err-value-clause-err : goal.returns-in_err-value-clause-err
-returns-in_err-value-clause-err g c = rw (is_err _ _ c.from_residual-in_err-value.ensures) (inl c.in_err-value.ensures.err)
-
-pub returns-in_err-value-clause-kept : goal.returns-in_err-value-clause-kept
-returns-in_err-value-clause-kept g c = rw (is_err _ _ c.from_residual-in_err-value.ensures) c.in_err-value.ensures.kept
-
 pub returns-clause-ok : goal.returns-clause-ok
-returns-clause-ok g c = record {
-  meant = image_of g.R.Reader.reading c.in_ok-image.image;
-  becomes = c.in_ok-image.ensures.ok;
-  is_stored = c.in_ok-value.ensures.ok;
-  named = c.in_ok-value.ensures.named;
-}
+returns-clause-ok g c = ok_both c.store.result _ _ _ (λ v is named. record { meant = image_of g.R.Reader.reading c.in_ok-image.image; becomes = c.in_ok-image.ensures.ok; is_stored = is; named = named }) c.store.ensures.ok c.store.ensures.named
 
 pub returns-clause-err : goal.returns-clause-err
-returns-clause-err g c = tt
+returns-clause-err g c = IfErr-weaker c.store.result _ _ (λ e n. inl n) c.store.ensures.err
 
 pub returns-clause-kept : goal.returns-clause-kept
-returns-clause-kept g c = tt
+returns-clause-kept g c = c.store.ensures.kept

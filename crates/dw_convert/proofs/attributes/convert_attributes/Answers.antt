@@ -1,7 +1,7 @@
 use Rattle.std.proofs.Common.{◌∙◌, sym, ap, [], ◌∷◌, ◌++◌, ⊎_elim, inl, inr, refl}
 use Rattle.std.proofs.lemmas.Result.{IfOk-weaker, IfErr-weaker}
 use Rattle.dw_base.specs.declared.constants.DwAt.{DwAt}
-use Rattle.dw_convert.specs.AttributeLists.{is_dropped}
+use Rattle.dw_sources.specs.Dropped.{is_dropped}
 use Rattle.dw_convert.specs.Tables.{tables}
 use Rattle.dw_convert.proofs.Addresses.{is_err}
 use Rattle.dw_convert.proofs.Converting.{none_yet, passed, one_more, one_refused, all_done}

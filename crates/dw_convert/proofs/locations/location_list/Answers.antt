@@ -7,6 +7,7 @@ use Rattle.dw_sources.specs.RawListIters.{encoding_in, locations_section}
 use Rattle.dw_convert.specs.LocationLists.{ItemOutcome}
 use Rattle.dw_convert.specs.Locations.{is_base_item, kept_locations}
 use Rattle.dw_convert.specs.RangeLists.{has_base}
+use Rattle.dw_sources.proofs.Progress.{fewer_left}
 use Rattle.dw_convert.proofs.Addresses.{is_err}
 use Rattle.dw_convert.proofs.Growing.{begun_more, based_more}
 use Rattle.dw_convert.proofs.WrittenWalks.{locations_written}
@@ -73,6 +74,13 @@ items-preserved g c =
       encoding = p.encoding ∙ i.encoding;
       open_yet = p.went_on.1;
     }
+
+pub items-smaller : goal.items-smaller
+items-smaller g c =
+    let reading = g.R.Reader.reading in
+    let is = g.met.R.Reader.is_reading in
+    let p = passes _ _ reading _ _ _ _ c.in_ok-item.ensures c.in-Some.is in
+    fewer_left _ _ (reading c.items.items.input) (reading c.next.new.self.input) _ (is c.items.items.input) (is c.next.new.self.input) p.item p.progress
 
 pub returns-clause-ok : goal.returns-clause-ok
 returns-clause-ok g c =

@@ -3,6 +3,7 @@ use Rattle.std.proofs.lemmas.List.Elements.{filter-append}
 use Rattle.dw_read.specs.Reading.{left}
 use Rattle.dw_read.proofs.Lefts.{left_passed, same_order}
 use Rattle.dw_sources.specs.RawListViews.{span_of}
+use Rattle.dw_sources.proofs.Progress.{fewer_left}
 use Rattle.dw_convert.specs.Lookups.{address_of}
 use Rattle.dw_convert.specs.Ranges.{RangeOutcome, is_base, kept}
 use Rattle.dw_convert.specs.RangeLists.{has_base}
@@ -58,6 +59,13 @@ items-preserved g c =
       encoding = p.encoding ∙ i.encoding;
       open_yet = p.went_on.1;
     }
+
+pub items-smaller : goal.items-smaller
+items-smaller g c =
+    let reading = g.R.Reader.reading in
+    let is = g.met.R.Reader.is_reading in
+    let p = passes _ _ reading _ _ _ _ c.in_ok-item.ensures c.in-Some.is in
+    fewer_left _ _ (reading c.items.items.input) (reading c.next.new.self.input) _ (is c.items.items.input) (is c.next.new.self.input) p.item p.progress
 
 pub returns-clause-ok : goal.returns-clause-ok
 returns-clause-ok g c =

@@ -10,7 +10,7 @@ use Rattle.dw_convert_lines.specs.EntryImages.{Converting}
 use Rattle.dw_convert_lines.specs.EntryNames.{Tables}
 use Rattle.dw_convert_lines.specs.Views.{texts_of, tables, converting}
 use Rattle.dw_convert_lines.proofs.FileSteps.{name_refused, number_refused, directory_refused, info_refused, file_made}
-use Rattle.dw_convert_lines.proofs.FileTargets.{target_kept}
+use Rattle.dw_convert_lines.proofs.FileTargets.{target_kept, found_within}
 use Rattle.dw_convert_lines.proofs.Reasons.{is_err}
 use Rattle.dw_convert_lines.proofs.entry.add_file.Goals as goal
 
@@ -91,6 +91,9 @@ add_file-requires-clause-text g c = c.in_ok-name.ensures.text
 
 pub add_file-requires-clause-named : goal.add_file-requires-clause-named
 add_file-requires-clause-named g c = λ old. c.in_ok-name.ensures.full (subst (λ (v : ℕ). v ≤ 4) c.requires.encoded old)
+
+pub add_file-requires-clause-directory : goal.add_file-requires-clause-directory
+add_file-requires-clause-directory g c = found_within c.args.directories.now _ c.in_ok-number.number c.in_ok-directory.directory c.requires.within c.in_ok-directory.ensures
 
 pub add_file-requires-clause-source : goal.add_file-requires-clause-source
 add_file-requires-clause-source g c = c.in_ok-info.ensures.text

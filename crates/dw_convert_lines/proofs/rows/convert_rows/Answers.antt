@@ -56,60 +56,8 @@ instructions-preserved g c =
       open_yet = p.went_on.1;
     }
 
-pub instructions-preserved-in_ok-machine : goal.instructions-preserved-in_ok-machine
-instructions-preserved-in_ok-machine g c =
-    let reading = g.R.Reader.reading in
-    let big = (reading c.args.header.now.program).is_big in
-    let h = machine_of reading big c.args.header.now.parameters in
-    let i = c.instructions.invariant in
-    let p = passed _ _ reading c.args.header.now c.instructions.instructions c.next_instruction.new.self _ c.in-Some.instruction c.in_ok-instruction.ensures c.in-Some.is in
-    let n = is_next _ _ reading c.args.header.now c.instructions.instructions c.next_instruction.new.self big i.order c.in-Some.instruction (g.met.R.Reader.is_reading c.instructions.instructions.input) (g.met.R.Reader.is_reading c.next_instruction.new.self.input) p (not_known _ _ c.defines_file.ensures c.if-defines_file.false) in
-    let ch = c.in_ok-machine.ensures.ok big in
-    record {
-      before = i.before;
-      was = i.was;
-      closed = i.closed;
-      empty = i.empty;
-      after = ch.after;
-      is = ch.is;
-      reached = next_reached h c.args.header.now.encoding.encoding.version c.args.files.now (goal.F-post g c.args.convert_address.now) _ _ _ _ _ _ _ i.reached i.is _ _ _ _ _ n ch;
-      order = order_kept _ _ reading c.args.header.now c.instructions.instructions c.next_instruction.new.self big i.order c.in-Some.instruction p;
-      open_yet = p.went_on.1;
-    }
-
-pub instructions-preserved-in_ok-machine-2 : goal.instructions-preserved-in_ok-machine-2
-instructions-preserved-in_ok-machine-2 g c =
-    let reading = g.R.Reader.reading in
-    let big = (reading c.args.header.now.program).is_big in
-    let h = machine_of reading big c.args.header.now.parameters in
-    let i = c.instructions.invariant in
-    let p = passed _ _ reading c.args.header.now c.instructions.instructions c.next_instruction.new.self _ c.in-Some.instruction c.in_ok-instruction.ensures c.in-Some.is in
-    let n = is_next _ _ reading c.args.header.now c.instructions.instructions c.next_instruction.new.self big i.order c.in-Some.instruction (g.met.R.Reader.is_reading c.instructions.instructions.input) (g.met.R.Reader.is_reading c.next_instruction.new.self.input) p (not_known _ _ c.defines_file.ensures c.if-defines_file.false) in
-    let ch = c.in_ok-machine.ensures.ok big in
-    record {
-      before = i.before;
-      was = i.was;
-      closed = i.closed;
-      empty = i.empty;
-      after = ch.after;
-      is = ch.is;
-      reached = next_reached h c.args.header.now.encoding.encoding.version c.args.files.now (goal.F-post g c.args.convert_address.now) _ _ _ _ _ _ _ i.reached i.is _ _ _ _ _ n ch;
-      order = order_kept _ _ reading c.args.header.now c.instructions.instructions c.next_instruction.new.self big i.order c.in-Some.instruction p;
-      open_yet = p.went_on.1;
-    }
-
-pub instructions-smaller-in_ok-machine : goal.instructions-smaller-in_ok-machine
-instructions-smaller-in_ok-machine g c =
-    let reading = g.R.Reader.reading in
-    let big = (reading c.args.header.now.program).is_big in
-    let h = machine_of reading big c.args.header.now.parameters in
-    let i = c.instructions.invariant in
-    let p = passed _ _ reading c.args.header.now c.instructions.instructions c.next_instruction.new.self _ c.in-Some.instruction c.in_ok-instruction.ensures c.in-Some.is in
-    let n = is_next _ _ reading c.args.header.now c.instructions.instructions c.next_instruction.new.self big i.order c.in-Some.instruction (g.met.R.Reader.is_reading c.instructions.instructions.input) (g.met.R.Reader.is_reading c.next_instruction.new.self.input) p (not_known _ _ c.defines_file.ensures c.if-defines_file.false) in
-    n.shorter
-
-pub instructions-smaller-in_ok-machine-2 : goal.instructions-smaller-in_ok-machine-2
-instructions-smaller-in_ok-machine-2 g c =
+pub instructions-smaller : goal.instructions-smaller
+instructions-smaller g c =
     let reading = g.R.Reader.reading in
     let big = (reading c.args.header.now.program).is_big in
     let h = machine_of reading big c.args.header.now.parameters in

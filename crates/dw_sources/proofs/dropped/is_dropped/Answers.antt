@@ -1,8 +1,8 @@
 use Rattle.std.proofs.Common.{sym, refl, arith}
 use Rattle.std.proofs.lemmas.Bool.{ne_eqb}
-use Rattle.dw_convert.specs.AttributeLists.{is_dropped}
-use Rattle.dw_convert.proofs.Dropped.{dropped_is}
-use Rattle.dw_convert.proofs.attributes.is_dropped.Goals as goal
+use Rattle.dw_sources.specs.Dropped.{is_dropped}
+use Rattle.dw_sources.proofs.DroppedNames.{dropped_is}
+use Rattle.dw_sources.proofs.dropped.is_dropped.Goals as goal
 
 pub returns-in-0 : goal.returns-in-0
 returns-in-0 c = dropped_is _ 0 _ (omega arith) refl
