@@ -40,13 +40,17 @@ places_append : (from : ℕ) (rows : List Row) (r : Row) → places_among from (
 places_append from [] r = append-nil (mark_places (from + r.from) r.mark)
 places_append from (x ∷ rows) r = ap (λ l. mark_places (from + x.from) x.mark ++ l) (places_append from rows r) ∙ sym (append_assoc (mark_places (from + x.from) x.mark) (places_among from rows) (mark_places (from + r.from) r.mark))
 
-places_count : (from : ℕ) (rows : List Row) → length (places_among from rows) ≡ entry_count rows
+pub places_count : (from : ℕ) (rows : List Row) → length (places_among from rows) ≡ entry_count rows
 places_count from [] = refl
 places_count from (r ∷ rows) = length-append (mark_places (from + r.from) r.mark) (places_among from rows) ∙ ap₂ ◌+◌ (mark_count (from + r.from) r.mark) (places_count from rows)
 
 module _ (from : ℕ) where
   pub found_none : (bound : ℕ) → AreFound from [] bound
   found_none bound = record { found = λ j p h. absurd (let x : None ≡ Some p = h in cc); within = λ j p h. absurd (let x : None ≡ Some p = h in cc) }
+
+  -- those before a place are before a later one
+  pub found_later : (rows : List Row) (bound next : ℕ) → AreFound from rows bound → bound < next → AreFound from rows next
+  found_later rows bound next w more = record { found = w.found; within = λ j p h. let b = w.within j p h in (b.0, let l : p < bound = b.1 in omega (arith, more, l)) }
 
   pub found_more : (rows : List Row) (r : Row) (bound next : ℕ) → AreFound from rows bound → from + r.from ≡ bound → from ≤ bound → bound < next → AreFound from (rows ++ r ∷ []) next
   found_more rows r bound next w at above more = by r.mark refl

@@ -3,8 +3,12 @@ use Rattle.std.proofs.Common.{◌≡◌, ◌∙◌, sym, ap, ℕ, ◌+◌, ◌==
 use Rattle.dw_base.specs.Entries.{ReadEntry, Mark, Open, Null, Row}
 use Rattle.dw_base.specs.Info.{ReadUnit}
 use Rattle.dw_base.specs.declared.ids.UnitId.{UnitId}
-use Rattle.dw_entry_ids.specs.Ids.{Id, later_or, is_entry, entry_count, mark_number, number_among, number_in, with_unit, id_among}
-use Rattle.dw_entry_ids.specs.Units.{mark_id}
+use Rattle.dw_entry_ids.specs.Ids.{Id, later_or, begins_at, is_entry, entry_count, mark_number, number_among, number_in, with_unit, id_among}
+
+-- what a row at a place adds to what is kept
+abbrev pub mark_id : ℕ → Id → Mark ReadEntry → ℕ → Option Id
+mark_id place id (Open e) p = begins_at place id p
+mark_id place id Null p = None
 
 pub chosen : {A : Type 0} (b : Bool) (x : A) (o : Option A) → (if b then Some x else o) ≡ later_or (if b then Some x else None) o
 chosen true x o = refl

@@ -1,5 +1,11 @@
 pub mod Ids
 pub mod Units
 pub mod Plans
+pub mod RowsUntil
 pub mod UnitCursor
 pub mod UnitWalk
+pub mod AnyUnit
+pub mod KeptRows
+pub mod KeptUnits
+pub mod KeptWalk
+pub mod FirstUnits

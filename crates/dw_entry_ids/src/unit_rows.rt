@@ -1,11 +1,14 @@
 //! A walk over the entries of a unit.
 
-ghost use Rattle.std.specs.Prelude.{◌≡◌, ◌↔◌, ◌≤◌, ◌++◌, ◌∷◌, List, [], map, true, false, Ok, None, if◌then◌else◌, IfErr, IsTrue, OnOk};
+ghost use Rattle.std.specs.Prelude.{◌≡◌, ◌↔◌, ◌≤◌, ◌++◌, ◌∷◌, List, Option, [], map, true, false, Ok, None, if◌then◌else◌, IfErr, IsTrue, OnOk};
 ghost use Rattle.dw_base.specs.Entries.{Row};
 ghost use Rattle.dw_read_units.specs.Passes.{rows_reading};
 ghost use Rattle.dw_read_units.specs.declared.dwarf.Unit.{Unit as UnitFields};
+ghost use Rattle.dw_read.specs.declared.error.ReadError.{ReadError};
 ghost use Rattle.dw_read.specs.declared.error.ReadError.TheVariants.{NoMemory};
 ghost use Rattle.dw_entry_ids.specs.Plans.{last_or_root};
+ghost use Rattle.dw_entry_ids.specs.AnyUnit.{StandsAmong, WalksAmong};
+ghost use Rattle.dw_entry_ids.specs.RowsUntil.{unit_rows_until};
 ghost use Rattle.dw_entry_ids.specs.UnitCursor.{StandsBetween};
 ghost use Rattle.dw_entry_ids.specs.UnitWalk.{WalksOn};
 
@@ -38,10 +41,13 @@ pub struct UnitRows<'a, R: Reader> {
 impl<'a, R: Reader> UnitRows<'a, R> {
     /// The rows of a unit, from the first on.
     pub fn new(alloc: Global, unit: &'a Unit<R>) -> UnitRows<'a, R>
-        ensures { (all : List Row) →
+        ensures between { (all : List Row) →
             rows_reading R.reading unit.now.header unit.now.abbreviations ≡ Ok all →
             unit.now.header.offset.0 ≤ (R.reading unit.now.header.body).place →
             StandsBetween R.reading unit.now result [] all }
+        ensures among { unit.now.header.offset.0 ≤ (R.reading unit.now.header.body).place →
+            StandsAmong R.reading unit.now result [] (unit_rows_until R.reading unit.now).rows
+            (unit_rows_until R.reading unit.now).fault }
     {
         UnitRows {
             rows: EntriesRaw::new(&unit.header, &unit.abbreviations),
@@ -60,12 +66,15 @@ impl<'a, R: Reader> UnitRows<'a, R> {
 
     /// Reads the next entry, and answers its id and that of its parent, both numbered in the order
     /// of reading, the root as 0; the root's parent is the root. Null entries are passed. None
-    /// tells that no entry is left. Where all rows of the unit can be read it is refused as
-    /// `NoMemory` alone.
+    /// tells that no entry is left. Where a row of the unit can't be read, the entries before it
+    /// come first, and then the reason why it can't. Else it is refused as `NoMemory` alone.
     pub fn next(
         &mut self,
         entry: &mut DebuggingInformationEntry<R>,
     ) -> ReadResult<Option<(UnitEntryId, UnitEntryId)>>
+        ensures reads { (u : UnitFields R R.Endian) (front rest : List Row)
+            (fault : Option ReadError) → StandsAmong R.reading u self.old front rest fault →
+            WalksAmong R.reading u front rest fault self.new entry.new result }
         ensures walks { (u : UnitFields R R.Endian) (front rest : List Row) →
             StandsBetween R.reading u self.old front rest →
             WalksOn R.reading u front rest self.new entry.new result }

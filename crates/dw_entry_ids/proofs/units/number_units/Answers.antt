@@ -4,6 +4,8 @@ use Rattle.dw_read.specs.Reading.{left}
 use Rattle.dw_read.specs.UnitHeaders.{PassesUnit}
 use Rattle.dw_read_units.proofs.UnitParts.{misses_rows, misses_unit}
 use Rattle.dw_read_units.proofs.UnitWalk.{header_refused, unit_refused, unit_shorter}
+use Rattle.dw_entry_ids.specs.KeptRows.{keep_of}
+use Rattle.dw_entry_ids.specs.Units.{NumbersRows}
 use Rattle.dw_entry_ids.proofs.UnitSteps.{Numbered, numbered_none, numbered_more, numbered_end}
 use Rattle.dw_entry_ids.proofs.units.number_units.Goals as goal
 
@@ -46,7 +48,8 @@ units-preserved g c =
     let reading = g.R.Reader.reading in
     let u : PassesUnit reading c.units.headers c.next.new.self c.in-Some.header = rw c.in-Some.is at c.in_ok-header.ensures in
     subst (λ xs. Numbered reading c.args.dwarf.now c.next.new.self xs c.number_entries.new.ids) (sym c.in_ok-push.ensures.items)
-    (numbered_more reading c.args.dwarf.now c.in-Some.header c.in_ok-unit.unit c.new-id.result c.units.ids c.number_entries.new.ids c.in_ok-entries.entries c.in_ok-unit.ensures.ok c.in_ok-entries.ensures.ok
+    (numbered_more reading c.args.dwarf.now c.in-Some.header c.in_ok-unit.unit c.new-id.result c.units.ids c.number_entries.new.ids c.in_ok-entries.entries c.in_ok-unit.ensures.ok
+    (subst (λ kept. NumbersRows (keep_of kept) reading c.in_ok-unit.unit.header c.in_ok-unit.unit.abbreviations c.new-id.result c.units.ids c.number_entries.new.ids c.in_ok-entries.entries) c.all-all.ensures c.in_ok-entries.ensures.ok)
     c.units.headers c.next.new.self c.units.units.items
     (g.met.R.Reader.is_reading c.units.headers.input) (g.met.R.Reader.is_reading c.next.new.self.input) (g.met.R.Reader.is_reading c.in-Some.header.body) c.units.invariant u (c.new-id.ensures ∙ c.len.ensures ∙ c.units.units.ok.0))
 
