@@ -13,8 +13,10 @@ use Rattle.dw_sources.specs.OperationTable.{plain_of, is_simple, literals, behin
 use Rattle.dw_sources.specs.RawLists.{pair_read, range_row, range_behind, range_read}
 use Rattle.dw_entry_ranges.specs.Bounds.{low_high}
 use Rattle.dw_entry_ranges.specs.Lists.{ranges_from}
+use Rattle.dw_entry_ranges.specs.Live.{meets}
 use Rattle.dw_entry_ranges.specs.Locations.{first_address, location_address}
 use Rattle.dw_entry_ranges.specs.Ranges.{from_to}
+use Rattle.dw_entry_ranges.specs.declared.live.LiveRange.{LiveRange}
 use Rattle.dw_entry_ranges.specs.declared.range.CodeAddresses.TheVariants.{Single, Contiguous}
 
 abbrev four : Encoding
@@ -95,3 +97,29 @@ address_index = refl
 other : location_address no_address false five ((2, Exprloc (record { 0 = 0x30 ∷ 3 ∷ 0 ∷ 0x10 ∷ [] })) ∷ []) ≡ Ok None
 unfolding location_address first_address last_value operation_at operation_read behind plain_of number_read number_at bytes_at
 other = refl
+
+-- live ranges: one that overlaps, one that touches at each end, one within, one around, and what has no address
+abbrev live : ℕ → ℕ → LiveRange
+live m n = record { begin = m; end = n }
+
+overlaps : meets (live 1 2 ∷ live 0x100f 0x1011 ∷ []) (from_to 0x1000 0x1010) ≡ true
+overlaps = refl
+
+touches : meets (live 0xf00 0x1000 ∷ live 0x1010 0x1020 ∷ []) (from_to 0x1000 0x1010) ≡ false
+touches = refl
+
+within : meets (live 0x1008 0x1009 ∷ []) (from_to 0x1000 0x1010) ≡ true
+within = refl
+
+around : meets (live 0 0xffff_ffff_ffff_ffff ∷ []) (from_to 0x1000 0x1010) ≡ true
+around = refl
+
+without : meets (live 0x1008 0x1008 ∷ live 0x100a 0x1002 ∷ []) (from_to 0x1000 0x1010) ≡ false
+without = refl
+
+empty : meets (live 0 0x2000 ∷ []) (from_to 0x1000 0x1000) ≡ false
+empty = refl
+
+-- the last address has a whole number behind it
+last : meets (live 0 0xffff_ffff_ffff_ffff ∷ []) (from_to 0xffff_ffff_ffff_ffff 0x1_0000_0000_0000_0000) ≡ false
+last = refl

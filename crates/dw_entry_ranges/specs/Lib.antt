@@ -6,3 +6,6 @@ pub mod Items
 pub mod Lists
 pub mod Locations
 pub mod Entries
+pub mod Live
+pub mod Required
+pub mod RequiredRows

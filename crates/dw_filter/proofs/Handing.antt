@@ -1,5 +1,5 @@
 -- What a `?` hands on.
-use Rattle.std.proofs.Common.{◌≡◌, sym, subst, Result, Ok, Err, IfErr}
+use Rattle.std.proofs.Common.{◌≡◌, ap, sym, subst, Result, Ok, Err, IfErr}
 use Rattle.std.specs.Prelude.{IsErr}
 use Rattle.std.specs.Result.{IsErrAnd}
 use Rattle.dw_sources.specs.declared.convert_error.ConvertError.{ConvertError}
@@ -8,3 +8,7 @@ use Rattle.dw_sources.specs.declared.convert_error.ConvertError.{ConvertError}
 pub handed_on : {A : Type 0} (r : Result A ConvertError) (e : ConvertError) (P : ConvertError → Type 0) → IsErr r × IsErrAnd r (λ x. x ≡ e) → P e → IfErr r P
 handed_on (Ok x) e P h p = tt
 handed_on (Err x) e P h p = subst P (sym h.1) p
+
+pub is_err : {A : Type 0} (r : Result A ConvertError) (e : ConvertError) → IsErr r × IsErrAnd r (λ x. x ≡ e) → r ≡ Err e
+is_err (Ok x) e h = absurd h.1
+is_err (Err x) e h = ap Err h.1

@@ -9,5 +9,14 @@ mod Worked
 mod Pending
 mod ListSteps
 mod WorkedChildren
+mod WorkedGraph
 mod AttributeSteps
 mod Handing
+mod FilterSteps
+mod SectionSteps
+mod Growing
+mod LinkSteps
+mod Naming
+mod UnitReading
+mod FileSteps
+mod Closing

@@ -5,3 +5,9 @@ pub mod PlaceViews
 pub mod Places
 pub mod AttributePlaces
 pub mod Children
+pub mod FilterEntries
+pub mod FilterUnits
+pub mod FilterSections
+pub mod UnitGraph
+pub mod FileGraph
+pub mod Links

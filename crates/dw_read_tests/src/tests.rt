@@ -1,9 +1,12 @@
 mod abbreviations;
+mod filters;
 mod frames;
 mod input;
 mod joined;
+mod kept;
 mod lines;
 mod lists;
+mod live;
 mod lookups;
 mod named;
 mod numbers;

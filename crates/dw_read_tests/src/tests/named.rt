@@ -60,7 +60,7 @@ fn add_named(
 }
 
 /// Tells whether places are these.
-fn are(places: &[UnitSectionOffset], wanted: &[usize]) -> bool {
+pub(crate) fn are(places: &[UnitSectionOffset], wanted: &[usize]) -> bool {
     places.len() == wanted.len()
         && places
             .iter()

@@ -1,4 +1,4 @@
-use Rattle.std.proofs.Common.{◌≡◌, ◌∙◌, sym, ap, Bool, true, false, refl, rules, tests}
+use Rattle.std.proofs.Common.{◌≡◌, ◌∙◌, sym, ap, Bool, false, refl, rules, tests}
 use Rattle.std.specs.Prelude.{◌==◌, ◌&&◌, not}
 use Rattle.dw_base.specs.declared.constants.TheConstants.{DW_TAG_namespace}
 use Rattle.dw_filter.proofs.children.leads_to_child.Goals as goal

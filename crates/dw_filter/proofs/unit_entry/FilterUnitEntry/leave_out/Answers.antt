@@ -1,0 +1,13 @@
+use Rattle.std.proofs.Common.{not, refl, rules}
+use Rattle.std.proofs.lemmas.List.Elements.{filter_from_retain}
+use Rattle.dw_sources.specs.Dropped.{is_left_out}
+use Rattle.dw_filter.proofs.unit_entry.FilterUnitEntry.leave_out.Goals as goal
+
+pub returns-clause-less : goal.returns-clause-less
+returns-clause-less g c = record {
+  offset = refl;
+  depth = refl;
+  tag = refl;
+  has_children = refl;
+  attributes = filter_from_retain _ (λ a. not (is_left_out a.name.0)) (λ p x b q r. search rules) _ _ _ c.retain.ensures.filtered;
+}
