@@ -16,7 +16,8 @@ use Rattle.dw_read.specs.Values.{is_among}
 use Rattle.dw_read_units.specs.declared.unit_ref.UnitRef.{UnitRef}
 use Rattle.dw_tree.specs.UnitValue.{UnitValue, IsReserved, with_entry}
 use Rattle.dw_convert.specs.Attributes.{Seen}
-use Rattle.dw_convert.specs.AttributeLists.{is_dropped, kept, last_or, once_but, AreImages, AreConverted}
+use Rattle.dw_sources.specs.Dropped.{is_dropped}
+use Rattle.dw_convert.specs.AttributeLists.{kept, last_or, once_but, AreImages, AreConverted}
 use Rattle.dw_convert.specs.Tables.{Tables}
 use Rattle.dw_dwarf.specs.ConvertedEntries.{Values, attribute_of}
 use Rattle.dw_dwarf.specs.Placed.{unconverted, with_placed, with_contents, with_converted}

@@ -9,6 +9,7 @@ pub mod OneUnit
 pub mod RestSections
 pub mod Left
 mod Setting
+mod Filtering
 mod Becoming
 mod Growing
 mod AttributesSeen

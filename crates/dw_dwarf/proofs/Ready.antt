@@ -9,6 +9,8 @@ use Rattle.dw_base.specs.Info.{ReadUnit}
 use Rattle.dw_base.specs.Leb128.{uleb_at, uleb16_at}
 use Rattle.dw_base.specs.Numbers.{◌>>=◌, when}
 use Rattle.dw_entries.specs.Entries.{new_root}
+use Rattle.dw_entry_ids.specs.Ids.{entry_count}
+use Rattle.dw_entry_ids.specs.KeptRows.{IsClosed, kept_rows}
 use Rattle.dw_entry_ids.specs.Units.{IsNumbered}
 use Rattle.dw_entry_ids.specs.declared.units.NumberedUnit.{NumberedUnit}
 use Rattle.dw_read.specs.Reading.{Reading}
@@ -83,13 +85,14 @@ unfolding table_at
 table_tagged bytes rest table h = declarations_tagged (length bytes) bytes rest table h
 
 -- a unit whose entries are numbered can be converted into one that has its root alone and as many ids
-pub can_convert : {R E : Type 0} (reading : R → Reading) (d : Dwarf R E) (held : NumberedUnit R E) (r : ReadUnit) (u : UnitRef R E) (w : UnitValue) → IsNumbered reading d held r → u.unit.now ≡ held.unit → w.reserved ≡ held.entries → w.entries ≡ new_root ∷ [] → w.is_freed ≡ false → CanConvert reading u w
-can_convert {R} {E} reading d held r u w n same reserved alone kept = record {
+pub can_convert : {R E : Type 0} (keep : ℕ → Bool) (reading : R → Reading) (d : Dwarf R E) (held : NumberedUnit R E) (r : ReadUnit) (u : UnitRef R E) (w : UnitValue) → IsNumbered keep reading d held r → IsClosed keep r.from r.rows → u.unit.now ≡ held.unit → w.reserved ≡ held.entries → w.entries ≡ new_root ∷ [] → w.is_freed ≡ false → CanConvert keep reading u w
+can_convert {R} {E} keep reading d held r u w n closed same reserved alone kept = record {
   rows = r.rows;
   are = ap (λ (x : UnitFields R E). rows_reading reading x.header x.abbreviations) same ∙ n.rows;
   behind = subst (λ (x : UnitFields R E). x.header.offset.0 ≤ (reading x.header.body).place) (sym same) n.behind;
   tagged = subst (λ (x : UnitFields R E). All (λ (t : Declaration). t.shape.tag ≢ 0) x.abbreviations) (sym same) (table_tagged _ _ held.unit.abbreviations n.unit.table.is);
-  reserved = reserved ∙ n.count;
+  closed = subst (λ (x : UnitFields R E). IsClosed keep x.header.offset.0 r.rows) (sym same) (subst (λ (m : ℕ). IsClosed keep m r.rows) n.from closed);
+  reserved = reserved ∙ n.count ∙ ap (λ (m : ℕ). entry_count (kept_rows keep m r.rows)) n.from ∙ ap (λ (x : UnitFields R E). entry_count (kept_rows keep x.header.offset.0 r.rows)) (sym same);
   entries = alone;
   kept = kept;
 }

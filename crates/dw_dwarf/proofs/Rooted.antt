@@ -1,5 +1,5 @@
 -- A unit that is read begins with its root.
-use Rattle.std.proofs.Common.{◌≡◌, sym, ap, subst, ℕ, zero, suc, ◌+◌, ◌<◌, ◌≤◌, List, [], ◌∷◌, length, Bool, Result, Ok, arith}
+use Rattle.std.proofs.Common.{◌≡◌, sym, ap, subst, ℕ, zero, suc, ◌+◌, ◌<◌, ◌≤◌, List, [], ◌∷◌, length, Bool, Result, Ok, refl, arith}
 use Rattle.dw_base.specs.Abbreviations.{Declaration}
 use Rattle.dw_base.specs.Entries.{ReadEntry, Mark, Open, Row, mark_at, next_depth}
 use Rattle.dw_base.specs.Info.{ReadUnit}
@@ -14,6 +14,7 @@ use Rattle.dw_read.proofs.Shorter.{mark_shorter}
 use Rattle.dw_read_units.specs.Walks.{rows_read}
 use Rattle.dw_read_units.specs.declared.dwarf.Dwarf.{Dwarf}
 use Rattle.dw_entry_ids.specs.Ids.{entry_count}
+use Rattle.dw_entry_ids.proofs.KeptLaws.{some_kept}
 use Rattle.dw_entry_ids.specs.Units.{IsNumbered}
 use Rattle.dw_entry_ids.specs.declared.units.NumberedUnit.{NumberedUnit}
 
@@ -33,10 +34,11 @@ rows_rooted (suc fuel) big e table from depth (b ∷ bs) rest root rows m r =
     let q : x.0 ≡ (Open root, rest) = cc in
     first_counted _ more.0 rows root (ap (λ (y : Mark ReadEntry × List ℕ). y.0) q) more.2
 
-module _ {R E : Type 0} (reading : R → Reading) (d : Dwarf R E) (held : NumberedUnit R E) (u : ReadUnit) (n : IsNumbered reading d held u) where
+module _ {R E : Type 0} (keep : ℕ → Bool) (reading : R → Reading) (d : Dwarf R E) (held : NumberedUnit R E) (u : ReadUnit) (n : IsNumbered keep reading d held u) where
   pub rooted : 1 ≤ held.entries
   rooted =
       let h = held.unit.header in
       let bytes = left (reading h.body) in
       let m = read_is (Mark ReadEntry) (mark_at (reading h.body).is_big h.fields.encoding held.unit.abbreviations) (mark_read (reading h.body).is_big h.fields.encoding held.unit.abbreviations) bytes (Open n.unit.root, n.unit.rest) (mark_law (reading h.body).is_big h.fields.encoding held.unit.abbreviations) n.unit.row in
-      subst (λ k. 1 ≤ k) (sym n.count) (rows_rooted (length bytes) (reading h.body).is_big h.fields.encoding held.unit.abbreviations _ 0 bytes n.unit.rest n.unit.root u.rows m n.rows)
+      let some : 1 ≤ entry_count u.rows = rows_rooted (length bytes) (reading h.body).is_big h.fields.encoding held.unit.abbreviations _ 0 bytes n.unit.rest n.unit.root u.rows m n.rows in
+      subst (λ k. 1 ≤ k) (sym n.count) (some_kept keep u.from 0 u.rows refl some)

@@ -1,16 +1,17 @@
 -- The entries of a unit, as one more is converted.
-use Rattle.std.proofs.Common.{◌≡◌, ◌∙◌, sym, ap, subst, ℕ, zero, suc, ◌+◌, ◌-◌, ◌<◌, ◌≤◌, List, [], ◌∷◌, ◌++◌, length, map, get_or, Bool, if◌then◌else◌, Option, Result, Ok, ◌⊎◌, inl, inr, refl, arith, append-nil, length-append}
+use Rattle.std.proofs.Common.{◌≡◌, ◌∙◌, sym, ap, subst, ℕ, zero, suc, ◌+◌, ◌-◌, ◌^◌, ◌<◌, ◌≤◌, List, [], ◌∷◌, ◌++◌, length, map, get_or, Bool, if◌then◌else◌, Option, Some, None, Result, Ok, ◌⊎◌, inl, inr, refl, arith, append-nil, length-append}
 use Rattle.dw_base.specs.Entries.{ReadEntry, Mark, Open, Null, Row}
 use Rattle.dw_base.specs.declared.address.Address.{Address}
 use Rattle.dw_base.specs.declared.address.DebugInfoRef.{DebugInfoRef}
 use Rattle.dw_base.specs.declared.common.Encoding.{Encoding}
 use Rattle.dw_base.specs.declared.ids.FileId.{FileId}
 use Rattle.dw_base.specs.declared.ids.UnitEntryId.{UnitEntryId}
+use Rattle.dw_base.specs.declared.offsets.UnitSectionOffset.{UnitSectionOffset}
 use Rattle.dw_entries.proofs.Filled.{filled_up-same}
 use Rattle.dw_entries.specs.Entries.{EntryValue, blank_entry, entry_at, filled_from, filled_up, new_root}
 use Rattle.dw_entry_ids.proofs.Steps.{count_one}
 use Rattle.dw_entry_ids.specs.Ids.{entry_count, is_entry}
-use Rattle.dw_read.specs.Reading.{Reading}
+use Rattle.dw_read.specs.Reading.{Reading, IsReading}
 use Rattle.dw_read.specs.Rows.{entry_of}
 use Rattle.dw_read.specs.Attributes.{attribute_of}
 use Rattle.dw_read.specs.declared.entry.DebuggingInformationEntry.{DebuggingInformationEntry}
@@ -28,8 +29,12 @@ use Rattle.dw_dwarf.specs.ConvertedEntries.{Values, built_entries, seen_in, Entr
 use Rattle.dw_dwarf.specs.Placed.{unconverted, with_converted}
 use Rattle.dw_entry_ids.specs.Plans.{Plan, parent_behind, plan_of, plans_of, plans_behind}
 use Rattle.dw_dwarf.specs.ConvertSteps.{CanConvert, BecomesEntry, ConvertsEntries, RefusesEntry}
-use Rattle.dw_entry_ids.specs.UnitCursor.{StandsBetween, HandsOutRow, HandsOutNone}
-use Rattle.dw_entry_ids.specs.declared.unit_rows.UnitRows.{UnitRows}
+use Rattle.dw_entry_ids.specs.KeptRows.{keep_of, kept_behind, kept_rows}
+use Rattle.dw_entry_ids.specs.KeptWalk.{StandsKept, HandsOutKept}
+use Rattle.dw_entry_ids.specs.UnitCursor.{HandsOutNone, HandsOutRow}
+use Rattle.dw_entry_ids.specs.declared.kept_rows.KeptRows.{KeptRows}
+use Rattle.dw_entry_ids.proofs.KeptLaws.{kept_append, kept_nil, kept_past}
+use Rattle.dw_entry_ids.proofs.KeptNext.{next_left_out, next_number, next_parent, next_stays}
 
 -- ---- lists
 same_rows : (xs ys : List Row) → ◌≡◌ {A = Result (List Row) ReadError} (Ok xs) (Ok ys) → xs ≡ ys
@@ -63,27 +68,43 @@ no_plans front (r ∷ rows) h = go r.mark h (no_plans (front ++ r ∷ []) rows)
 plans_past : (front nulls : List Row) → entry_count nulls ≡ 0 → plans_of (front ++ nulls) ≡ plans_of front
 plans_past front nulls h = plans_more front nulls ∙ ap (λ (ps : List Plan). plans_of front ++ ps) (no_plans front nulls h) ∙ append-nil (plans_of front)
 
+-- fewer entries are left to be counted
+pub one_less : {R E : Type 0} (kept : Option (List UnitSectionOffset)) (reading : R → Reading) (u : UnitRef R E) (now new : KeptRows R E) (front rest : List Row) (read : DebuggingInformationEntry R E) (id : Option UnitEntryId) (parent : ℕ) → StandsKept reading u.unit.now kept now front rest → HandsOutKept reading u.unit.now kept front rest new read id parent → IsReading (reading new.rows.rows.input) → 2 ^ 64 - new.rows.count < 2 ^ 64 - now.rows.count
+one_less kept reading u now new front rest read id parent w hands i =
+    let s = hands.row in
+    let counted : new.rows.count ≡ entry_count ((front ++ s.nulls) ++ s.row ∷ []) = s.stands.counted in
+    let one : entry_count ((front ++ s.nulls) ++ s.row ∷ []) ≡ entry_count (front ++ s.nulls) + 1 = count_one (front ++ s.nulls) s.row ∙ ap (λ (m : Mark ReadEntry). entry_count (front ++ s.nulls) + (if is_entry m then 1 else 0)) s.mark in
+    let both : entry_count (front ++ s.nulls) ≡ entry_count front + entry_count s.nulls = count_more front s.nulls in
+    let few : new.rows.count ≤ (reading new.rows.rows.input).place = s.stands.few in
+    let place : (reading new.rows.rows.input).place ≤ (reading new.rows.rows.input).end = i.place in
+    let small : (reading new.rows.rows.input).end < 2 ^ 64 = i.small in
+    omega (arith, counted, one, both, s.none, w.rows.counted, few, place, small)
+
 -- ---- the rows of a unit
-module _ {R E : Type 0} (reading : R → Reading) (answers : ℕ → Option Address → Type 0) (entries : ℕ → Option UnitEntryId) (infos : ℕ → Option DebugInfoRef) (u : UnitRef R E) (files : List FileId) (before : UnitValue) (old : Tables) where
-  -- the entries of the rows up to here are converted
-  pub record Converted (c : UnitRows R E) (unit : UnitValue) (t : Tables) : Type 0 where
+module _ {R E : Type 0} (kept : Option (List UnitSectionOffset)) (reading : R → Reading) (answers : ℕ → Option Address → Type 0) (entries : ℕ → Option UnitEntryId) (infos : ℕ → Option DebugInfoRef) (u : UnitRef R E) (files : List FileId) (before : UnitValue) (old : Tables) where
+  -- those of rows that stay
+  abbrev stay : List Row → List Row
+  stay rows = kept_rows (keep_of kept) u.unit.now.header.offset.0 rows
+
+  -- the entries of the rows up to here that are kept are converted
+  pub record Converted (c : KeptRows R E) (unit : UnitValue) (t : Tables) : Type 0 where
     pub front : List Row
     pub rest : List Row
-    pub stands : StandsBetween reading u.unit.now c front rest
+    pub stands : StandsKept reading u.unit.now kept c front rest
     pub rooted : 0 < before.reserved
     pub count : ℕ
-    pub counted : count ≡ entry_count front
-    pub many : count ≡ length (plans_of front)
-    pub numbered : AreNumbered 0 (plans_of front)
-    pub below : AreBelow count (plans_of front)
+    pub counted : count ≡ entry_count (stay front)
+    pub many : count ≡ length (plans_of (stay front))
+    pub numbered : AreNumbered 0 (plans_of (stay front))
+    pub below : AreBelow count (plans_of (stay front))
     pub values : List Values
-    pub valued : length (plans_of front) ≡ length values
-    pub images : EntriesConvert reading answers entries infos u files (reading u.unit.now.header.body).is_big u.unit.now.header.fields.encoding (plans_of front) old values t
-    pub grown : filled_up before.reserved unit.entries ≡ built_entries (plans_of front) (plans_of front) values ++ unconverted_from count (before.reserved - count)
+    pub valued : length (plans_of (stay front)) ≡ length values
+    pub images : EntriesConvert reading answers entries infos u files (reading u.unit.now.header.body).is_big u.unit.now.header.fields.encoding (plans_of (stay front)) old values t
+    pub grown : filled_up before.reserved unit.entries ≡ built_entries (plans_of (stay front)) (plans_of (stay front)) values ++ unconverted_from count (before.reserved - count)
     pub lengths : (count < 2 × (length unit.entries ≡ 1)) ⊎ (length unit.entries ≡ before.reserved)
     pub is : unit ≡ record before { entries = unit.entries; ranges = t.ranges; locations = t.locations }
 
-  module _ (c : UnitRows R E) (unit : UnitValue) (t : Tables) (w : Converted c unit t) where
+  module _ (c : KeptRows R E) (unit : UnitValue) (t : Tables) (w : Converted c unit t) where
     -- no more than is reserved
     pub within : length unit.entries ≤ before.reserved
     within = go w.lengths
@@ -99,35 +120,41 @@ module _ {R E : Type 0} (reading : R → Reading) (answers : ℕ → Option Addr
         go (inl h) = omega (arith, h.1)
         go (inr h) = omega (arith, h, w.rooted)
 
-module _ {R E : Type 0} (reading : R → Reading) (answers : ℕ → Option Address → Type 0) (entries : ℕ → Option UnitEntryId) (infos : ℕ → Option DebugInfoRef) (u : UnitRef R E) (files : List FileId) (before : UnitValue) (old : Tables) (can : CanConvert reading u before) where
+module _ {R E : Type 0} (kept : Option (List UnitSectionOffset)) (reading : R → Reading) (answers : ℕ → Option Address → Type 0) (entries : ℕ → Option UnitEntryId) (infos : ℕ → Option DebugInfoRef) (u : UnitRef R E) (files : List FileId) (before : UnitValue) (old : Tables) (can : CanConvert (keep_of kept) reading u before) where
+  abbrev staying : List Row → List Row
+  staying rows = kept_rows (keep_of kept) u.unit.now.header.offset.0 rows
+
   abbrev order_here : Bool
   order_here = (reading u.unit.now.header.body).is_big
 
   abbrev encoding_here : Encoding
   encoding_here = u.unit.now.header.fields.encoding
 
-  abbrev ConvertedHere : UnitRows R E → UnitValue → Tables → Type 0
-  ConvertedHere c unit t = Converted reading answers entries infos u files before old c unit t
+  abbrev ConvertedHere : KeptRows R E → UnitValue → Tables → Type 0
+  ConvertedHere c unit t = Converted kept reading answers entries infos u files before old c unit t
 
-  pub converted_none : (c : UnitRows R E) (unit : UnitValue) → StandsBetween reading u.unit.now c [] can.rows → 0 < before.reserved → unit ≡ before → old.ranges ≡ before.ranges → old.locations ≡ before.locations → ConvertedHere c unit old
+  none_yet : plans_of (staying []) ≡ []
+  none_yet = ap plans_of (kept_nil (keep_of kept) u.unit.now.header.offset.0 0) ∙ plans_none
+
+  pub converted_none : (c : KeptRows R E) (unit : UnitValue) → StandsKept reading u.unit.now kept c [] can.rows → 0 < before.reserved → unit ≡ before → old.ranges ≡ before.ranges → old.locations ≡ before.locations → ConvertedHere c unit old
   converted_none c unit stands some same ranges locations = record {
     front = [];
     rest = can.rows;
     stands = stands;
     rooted = some;
     count = 0;
-    counted = refl;
-    many = sym (ap (λ (ps : List Plan). length ps) plans_none);
-    numbered = subst (AreNumbered 0) (sym plans_none) tt;
-    below = subst (AreBelow 0) (sym plans_none) tt;
+    counted = sym (ap entry_count (kept_nil (keep_of kept) u.unit.now.header.offset.0 0));
+    many = sym (ap (λ (ps : List Plan). length ps) none_yet);
+    numbered = subst (AreNumbered 0) (sym none_yet) tt;
+    below = subst (AreBelow 0) (sym none_yet) tt;
     values = [];
-    valued = ap (λ (ps : List Plan). length ps) plans_none;
-    images = subst (λ (ps : List Plan). EntriesConvert reading answers entries infos u files order_here encoding_here ps old [] old) (sym plans_none) refl;
+    valued = ap (λ (ps : List Plan). length ps) none_yet;
+    images = subst (λ (ps : List Plan). EntriesConvert reading answers entries infos u files order_here encoding_here ps old [] old) (sym none_yet) refl;
     grown =
         ap (filled_up before.reserved) (ap (λ (x : UnitValue). x.entries) same ∙ can.entries)
         ∙ root_filled before.reserved some
         ∙ ap (unconverted_from 0) (let e : before.reserved ≡ before.reserved - 0 = omega arith in e)
-        ∙ ap (λ (ps : List Plan). built_entries ps ps [] ++ unconverted_from 0 (before.reserved - 0)) (sym plans_none);
+        ∙ ap (λ (ps : List Plan). built_entries ps ps [] ++ unconverted_from 0 (before.reserved - 0)) (sym none_yet);
     lengths = inl (omega arith, ap (λ (x : UnitValue). length x.entries) same ∙ ap (λ (es : List EntryValue). length es) can.entries);
     is = same
         ∙ ap (λ (es : List EntryValue). record before { entries = es }) (sym (ap (λ (x : UnitValue). x.entries) same))
@@ -142,37 +169,58 @@ module _ {R E : Type 0} (reading : R → Reading) (answers : ℕ → Option Addr
   images_more (q ∷ ps) t (x ∷ vs) m p v end h c = (h.0, h.1, images_more ps h.0 vs m p v end h.2 c)
 
   -- the next entry, behind null entries
-  module _ (now new : UnitRows R E) (unit : UnitValue) (t : Tables) (read : DebuggingInformationEntry R E) (id parent : ℕ) (w : ConvertedHere now unit t) (s : HandsOutRow reading u.unit.now w.front w.rest new read id parent) where
+  module _ (now new : KeptRows R E) (unit : UnitValue) (t : Tables) (read : DebuggingInformationEntry R E) (own : UnitEntryId) (parent : ℕ) (w : ConvertedHere now unit t) (hands : HandsOutKept reading u.unit.now kept w.front w.rest new read (Some own) parent) where
+    abbrev id : ℕ
+    id = own.0
+
+    abbrev s : HandsOutRow reading u.unit.now w.front w.rest new.rows read hands.number hands.above
+    s = hands.row
+
     abbrev entry : ReadEntry
     entry = entry_of reading s.code read
 
     abbrev front_next : List Row
     front_next = (w.front ++ s.nulls) ++ s.row ∷ []
 
-    count_is : id ≡ w.count
-    count_is = s.id_is ∙ sym w.counted
+    -- the rows that stay, up to the entry's and behind it
+    abbrev front_kept : List Row
+    front_kept = staying w.front ++ s.nulls
 
-    before_row : entry_count (w.front ++ s.nulls) ≡ w.count
+    abbrev next_kept : List Row
+    next_kept = front_kept ++ s.row ∷ []
+
+    abbrev back_kept : List Row
+    back_kept = kept_behind (keep_of kept) u.unit.now.header.offset.0 (entry_count front_next + 0) s.back
+
+    next_is : staying front_next ≡ next_kept
+    next_is = next_stays reading u.unit.now kept w.front w.rest new read (Some own) parent hands own refl
+
+    count_is : id ≡ w.count
+    count_is = next_number reading u.unit.now kept w.front w.rest new read (Some own) parent hands own refl ∙ sym w.counted
+
+    before_row : entry_count front_kept ≡ w.count
     before_row =
-        let both : entry_count (w.front ++ s.nulls) ≡ entry_count w.front + entry_count s.nulls = count_more w.front s.nulls in
+        let both : entry_count front_kept ≡ entry_count (staying w.front) + entry_count s.nulls = count_more (staying w.front) s.nulls in
         omega (arith, both, s.none, w.counted)
 
-    one_more : entry_count front_next ≡ w.count + 1
+    one_more : entry_count next_kept ≡ w.count + 1
     one_more =
-        let one : entry_count front_next ≡ entry_count (w.front ++ s.nulls) + 1 = count_one (w.front ++ s.nulls) s.row ∙ ap (λ (m : Mark ReadEntry). entry_count (w.front ++ s.nulls) + (if is_entry m then 1 else 0)) s.mark in
+        let one : entry_count next_kept ≡ entry_count front_kept + 1 = count_one front_kept s.row ∙ ap (λ (m : Mark ReadEntry). entry_count front_kept + (if is_entry m then 1 else 0)) s.mark in
         omega (arith, one, before_row)
 
-    all_rows : can.rows ≡ front_next ++ s.back
-    all_rows = same_rows can.rows (front_next ++ s.back) (sym can.are ∙ s.stands.all)
+    all_there : can.rows ≡ front_next ++ s.back
+    all_there = same_rows can.rows (front_next ++ s.back) (sym can.are ∙ s.stands.all)
+
+    all_rows : staying can.rows ≡ next_kept ++ back_kept
+    all_rows = ap staying all_there ∙ kept_append (keep_of kept) u.unit.now.header.offset.0 0 front_next s.back ∙ ap (λ (rows : List Row). rows ++ back_kept) next_is
+
+    above_is : parent ≡ parent_behind front_kept s.row.depth
+    above_is = next_parent reading u.unit.now kept w.front w.rest new read (Some own) parent hands own can.rows refl can.closed all_there
 
     has_room : w.count < before.reserved
     has_room =
-        let all : entry_count can.rows ≡ entry_count front_next + entry_count s.back = ap entry_count all_rows ∙ count_more front_next s.back in
+        let all : entry_count (staying can.rows) ≡ entry_count next_kept + entry_count back_kept = ap entry_count all_rows ∙ count_more next_kept back_kept in
         omega (arith, all, one_more, can.reserved)
-
-    -- fewer ids are left
-    pub one_less : before.reserved - new.count < before.reserved - now.count
-    one_less = omega (arith, has_room, one_more, w.counted, w.stands.counted, s.stands.counted)
 
     reserved_is : unit.reserved ≡ before.reserved
     reserved_is = ap (λ (x : UnitValue). x.reserved) w.is
@@ -183,7 +231,7 @@ module _ {R E : Type 0} (reading : R → Reading) (answers : ℕ → Option Addr
 
     pub not_yet : entry_at (filled_up unit.reserved unit.entries) id ≡ unconverted id
     not_yet =
-        let plans : List Plan = plans_of w.front in
+        let plans : List Plan = plans_of (staying w.front) in
         let rest : List EntryValue = unconverted_from (suc w.count) (before.reserved - (w.count + 1)) in
         let there : before.reserved - w.count ≡ suc (before.reserved - (w.count + 1)) = omega (arith, has_room) in
         let here : entry_at (filled_up unit.reserved unit.entries) w.count ≡ unconverted w.count =
@@ -196,17 +244,17 @@ module _ {R E : Type 0} (reading : R → Reading) (answers : ℕ → Option Addr
     seen_as = attributes_seen reading order_here encoding_here read.attrs.items s.encoded s.in_order
 
     -- an attribute of the entry becomes nothing
-    pub converted_refused : (y : ConvertError) → RefusesAttribute reading answers entries infos u files (map (seen reading) read.attrs.items) t y → RefusesEntry reading answers entries infos u files old y
+    pub converted_refused : (y : ConvertError) → RefusesAttribute reading answers entries infos u files (map (seen reading) read.attrs.items) t y → RefusesEntry (keep_of kept) reading answers entries infos u files old y
     converted_refused y r = record {
       rows = can.rows;
       are = can.are;
-      front = plans_of (w.front ++ s.nulls);
-      plan = record { number = entry_count (w.front ++ s.nulls); parent = parent_behind (w.front ++ s.nulls) s.row.depth; entry = entry };
-      back = plans_behind front_next s.back;
-      is = ap plans_of all_rows ∙ plans_around (w.front ++ s.nulls) s.back s.row entry s.mark;
+      front = plans_of front_kept;
+      plan = record { number = entry_count front_kept; parent = parent_behind front_kept s.row.depth; entry = entry };
+      back = plans_behind next_kept back_kept;
+      is = ap plans_of all_rows ∙ plans_around front_kept back_kept s.row entry s.mark;
       values = w.values;
       tables = t;
-      before = subst (λ (ps : List Plan). EntriesConvert reading answers entries infos u files order_here encoding_here ps old w.values t) (sym (plans_past w.front s.nulls s.none)) w.images;
+      before = subst (λ (ps : List Plan). EntriesConvert reading answers entries infos u files order_here encoding_here ps old w.values t) (sym (plans_past (staying w.front) s.nulls s.none)) w.images;
       refused = subst (λ (xs : List Seen). RefusesAttribute reading answers entries infos u files xs t y) seen_as r;
     }
 
@@ -215,8 +263,8 @@ module _ {R E : Type 0} (reading : R → Reading) (answers : ℕ → Option Addr
 
     plan_below : (parent ≡ 0) ⊎ (parent < w.count)
     plan_below =
-        let q : ℕ = parent_behind (w.front ++ s.nulls) s.row.depth in
-        subst (λ (p : ℕ). (p ≡ 0) ⊎ (p < w.count)) (sym s.parent_is) (subst (λ (n : ℕ). (q ≡ 0) ⊎ (q < n)) before_row (parent_below (w.front ++ s.nulls) s.row.depth))
+        let q : ℕ = parent_behind front_kept s.row.depth in
+        subst (λ (p : ℕ). (p ≡ 0) ⊎ (p < w.count)) (sym above_is) (subst (λ (n : ℕ). (q ≡ 0) ⊎ (q < n)) before_row (parent_below front_kept s.row.depth))
 
     pub parent_in : parent < unit.reserved
     parent_in = go plan_below
@@ -225,20 +273,21 @@ module _ {R E : Type 0} (reading : R → Reading) (answers : ℕ → Option Addr
         go (inl z) = omega (arith, z, has_room, reserved_is)
         go (inr l) = omega (arith, l, has_room, reserved_is)
 
-    plans_next : plans_of front_next ≡ plans_of w.front ++ plan ∷ []
+    plans_next : plans_of (staying front_next) ≡ plans_of (staying w.front) ++ plan ∷ []
     plans_next =
-        plans_one (w.front ++ s.nulls) s.row
-        ∙ ap (λ (m : Mark ReadEntry). plans_of (w.front ++ s.nulls) ++ plan_of (entry_count (w.front ++ s.nulls)) (parent_behind (w.front ++ s.nulls) s.row.depth) m) s.mark
-        ∙ ap (λ (ps : List Plan). ps ++ record { number = entry_count (w.front ++ s.nulls); parent = parent_behind (w.front ++ s.nulls) s.row.depth; entry = entry } ∷ []) (plans_past w.front s.nulls s.none)
-        ∙ ap (λ (n : ℕ). plans_of w.front ++ record { number = n; parent = parent_behind (w.front ++ s.nulls) s.row.depth; entry = entry } ∷ []) before_row
-        ∙ ap (λ (q : ℕ). plans_of w.front ++ record { number = w.count; parent = q; entry = entry } ∷ []) (sym s.parent_is)
+        ap plans_of next_is
+        ∙ plans_one front_kept s.row
+        ∙ ap (λ (m : Mark ReadEntry). plans_of front_kept ++ plan_of (entry_count front_kept) (parent_behind front_kept s.row.depth) m) s.mark
+        ∙ ap (λ (ps : List Plan). ps ++ record { number = entry_count front_kept; parent = parent_behind front_kept s.row.depth; entry = entry } ∷ []) (plans_past (staying w.front) s.nulls s.none)
+        ∙ ap (λ (n : ℕ). plans_of (staying w.front) ++ record { number = n; parent = parent_behind front_kept s.row.depth; entry = entry } ∷ []) before_row
+        ∙ ap (λ (q : ℕ). plans_of (staying w.front) ++ record { number = w.count; parent = q; entry = entry } ∷ []) (sym above_is)
 
     -- an entry is converted
     pub converted_more : (after : UnitValue) (end : Tables) → BecomesEntry reading answers entries infos u files (map (seen reading) read.attrs.items) (record { number = id; parent = parent; entry = entry }) unit t after end → ConvertedHere new after end
     converted_more after end begun =
         let b = subst (λ (n : ℕ). BecomesEntry reading answers entries infos u files (map (seen reading) read.attrs.items) (record { number = n; parent = parent; entry = entry }) unit t after end) count_is begun in
         let n : ℕ = before.reserved in
-        let plans : List Plan = plans_of w.front in
+        let plans : List Plan = plans_of (staying w.front) in
         let many : w.count ≡ length plans = w.many in
         let longer : length (plans ++ plan ∷ []) ≡ length plans + 1 = length-append plans (plan ∷ []) in
         let valued : length plans ≡ length w.values = w.valued in
@@ -246,14 +295,14 @@ module _ {R E : Type 0} (reading : R → Reading) (answers : ℕ → Option Addr
         let as_many : length (plans ++ plan ∷ []) ≡ length (w.values ++ b.values ∷ []) = omega (arith, longer, valued, more_values) in
         let counts : w.count + 1 ≡ length (plans ++ plan ∷ []) = omega (arith, longer, many) in
         let entries_are : after.entries ≡ with_converted n plan b.values unit.entries = ap (λ (x : UnitValue). x.entries) b.is ∙ ap (λ (m : ℕ). with_converted m plan b.values unit.entries) reserved_is in
-        let inside : length unit.entries ≤ n = within reading answers entries infos u files before old now unit t w in
+        let inside : length unit.entries ≤ n = within kept reading answers entries infos u files before old now unit t w in
         record {
           front = front_next;
           rest = s.back;
-          stands = s.stands;
+          stands = hands.stands;
           rooted = w.rooted;
           count = w.count + 1;
-          counted = sym one_more;
+          counted = sym (ap entry_count next_is ∙ one_more);
           many = counts ∙ ap (λ (ps : List Plan). length ps) (sym plans_next);
           numbered = subst (AreNumbered 0) (sym plans_next) (numbered_more 0 plans plan w.numbered (omega (arith, many)));
           below = subst (AreBelow (w.count + 1)) (sym plans_next) (below_more w.count plans plan w.below plan_below);
@@ -263,7 +312,7 @@ module _ {R E : Type 0} (reading : R → Reading) (answers : ℕ → Option Addr
               (images_more plans old w.values t plan b.values end w.images (subst (λ (xs : List Seen). AreConverted reading answers entries infos u files xs t b.values end) seen_as b.images));
           grown =
               ap (filled_up n) entries_are
-              ∙ entries_grown n parent entry b.values unit.entries w.count plans w.values w.many w.valued w.numbered w.below plan_below has_room (some reading answers entries infos u files before old now unit t w) inside w.grown
+              ∙ entries_grown n parent entry b.values unit.entries w.count plans w.values w.many w.valued w.numbered w.below plan_below has_room (some kept reading answers entries infos u files before old now unit t w) inside w.grown
               ∙ ap (λ (ps : List Plan). built_entries ps ps (w.values ++ b.values ∷ []) ++ unconverted_from (w.count + 1) (n - (w.count + 1))) (sym plans_next);
           lengths = subst (λ (es : List EntryValue). (w.count + 1 < 2 × (length es ≡ 1)) ⊎ (length es ≡ n)) (sym entries_are) (grown_count n parent entry b.values unit.entries w.count inside w.lengths);
           is = b.is
@@ -271,22 +320,50 @@ module _ {R E : Type 0} (reading : R → Reading) (answers : ℕ → Option Addr
               ∙ ap (λ (es : List EntryValue). record before { entries = es; ranges = end.ranges; locations = end.locations }) (sym (ap (λ (x : UnitValue). x.entries) b.is));
         }
 
+  -- one that is left out is passed
+  pub converted_past : (now new : KeptRows R E) (unit : UnitValue) (t : Tables) (read : DebuggingInformationEntry R E) (parent : ℕ) (w : ConvertedHere now unit t) → HandsOutKept reading u.unit.now kept w.front w.rest new read None parent → ConvertedHere new unit t
+  converted_past now new unit t read parent w hands =
+      let s = hands.row in
+      let front_next : List Row = (w.front ++ s.nulls) ++ s.row ∷ [] in
+      let stays : staying front_next ≡ staying w.front ++ s.nulls = next_left_out reading u.unit.now kept w.front w.rest new read None parent hands refl in
+      let both : entry_count (staying w.front ++ s.nulls) ≡ entry_count (staying w.front) + entry_count s.nulls = count_more (staying w.front) s.nulls in
+      let none : entry_count s.nulls ≡ 0 = s.none in
+      let plans : plans_of (staying w.front) ≡ plans_of (staying front_next) = sym (ap plans_of stays ∙ plans_past (staying w.front) s.nulls s.none) in
+      record {
+        front = front_next;
+        rest = s.back;
+        stands = hands.stands;
+        rooted = w.rooted;
+        count = w.count;
+        counted = w.counted ∙ (let z : entry_count (staying w.front) ≡ entry_count (staying w.front ++ s.nulls) = omega (arith, both, none) in z) ∙ sym (ap entry_count stays);
+        many = w.many ∙ ap (λ (ps : List Plan). length ps) plans;
+        numbered = subst (AreNumbered 0) plans w.numbered;
+        below = subst (AreBelow w.count) plans w.below;
+        values = w.values;
+        valued = sym (ap (λ (ps : List Plan). length ps) plans) ∙ w.valued;
+        images = subst (λ (ps : List Plan). EntriesConvert reading answers entries infos u files order_here encoding_here ps old w.values t) plans w.images;
+        grown = w.grown ∙ ap (λ (ps : List Plan). built_entries ps ps w.values ++ unconverted_from w.count (before.reserved - w.count)) plans;
+        lengths = w.lengths;
+        is = w.is;
+      }
+
   -- all entries are converted
-  pub converted_end : (now new : UnitRows R E) (unit : UnitValue) (t : Tables) (w : ConvertedHere now unit t) → HandsOutNone reading u.unit.now w.front w.rest new → ConvertsEntries reading answers entries infos u files before old unit t
+  pub converted_end : (now new : KeptRows R E) (unit : UnitValue) (t : Tables) (w : ConvertedHere now unit t) → HandsOutNone reading u.unit.now w.front w.rest new.rows → ConvertsEntries (keep_of kept) reading answers entries infos u files before old unit t
   converted_end now new unit t w h =
-      let past : plans_of (w.front ++ w.rest) ≡ plans_of w.front = plans_past w.front w.rest h.none in
-      let all : w.front ++ w.rest ≡ can.rows = same_rows (w.front ++ w.rest) can.rows (sym w.stands.all ∙ can.are) in
-      let both : entry_count (w.front ++ w.rest) ≡ entry_count w.front + entry_count w.rest = count_more w.front w.rest in
-      let reserved : before.reserved ≡ entry_count (w.front ++ w.rest) = can.reserved ∙ ap entry_count (sym all) in
+      let stays : staying (w.front ++ w.rest) ≡ staying w.front ++ w.rest = kept_past (keep_of kept) u.unit.now.header.offset.0 w.front w.rest h.none in
+      let past : plans_of (staying (w.front ++ w.rest)) ≡ plans_of (staying w.front) = ap plans_of stays ∙ plans_past (staying w.front) w.rest h.none in
+      let all : w.front ++ w.rest ≡ can.rows = same_rows (w.front ++ w.rest) can.rows (sym w.stands.rows.all ∙ can.are) in
+      let both : entry_count (staying w.front ++ w.rest) ≡ entry_count (staying w.front) + entry_count w.rest = count_more (staying w.front) w.rest in
+      let reserved : before.reserved ≡ entry_count (staying w.front ++ w.rest) = can.reserved ∙ ap (λ (rows : List Row). entry_count (staying rows)) (sym all) ∙ ap entry_count stays in
       let counts : w.count ≡ before.reserved = omega (arith, both, h.none, reserved, w.counted) in
-      let plans : List Plan = plans_of w.front in
+      let plans : List Plan = plans_of (staying w.front) in
       let none : before.reserved - w.count ≡ 0 = omega (arith, counts) in
       let whole : before.reserved ≡ length unit.entries = go w.lengths counts in
       let entries_are : unit.entries ≡ built_entries plans plans w.values =
       sym (filled_up-same before.reserved unit.entries whole) ∙ w.grown ∙ ap (λ (n : ℕ). built_entries plans plans w.values ++ unconverted_from w.count n) none ∙ append-nil (built_entries plans plans w.values) in
       record {
         rows = w.front ++ w.rest;
-        are = w.stands.all;
+        are = w.stands.rows.all;
         values = w.values;
         images = subst (λ (ps : List Plan). EntriesConvert reading answers entries infos u files order_here encoding_here ps old w.values t) (sym past) w.images;
         is = w.is ∙ ap (λ (es : List EntryValue). record before { entries = es; ranges = t.ranges; locations = t.locations }) (entries_are ∙ ap (λ (ps : List Plan). built_entries ps ps w.values) (sym past));

@@ -1,5 +1,5 @@
 -- What a unit becomes: its line program, and its entries, which name the program's files.
-use Rattle.std.specs.Prelude.{◌≡◌, ◌⊎◌, ℕ, List, Option}
+use Rattle.std.specs.Prelude.{◌≡◌, ◌⊎◌, ℕ, List, Option, Bool}
 use Rattle.dw_base.specs.declared.address.Address.{Address}
 use Rattle.dw_base.specs.declared.address.DebugInfoRef.{DebugInfoRef}
 use Rattle.dw_base.specs.declared.ids.FileId.{FileId}
@@ -16,13 +16,13 @@ use Rattle.dw_dwarf.specs.ConvertSteps.{tables_in, ConvertsEntries, RefusesEntry
 abbrev pub with_program : LineProgramValue → UnitValue → UnitValue
 with_program p u = record u { line_program = p }
 
-module _ {R E : Type 0} (reading : R → Reading) (answers : ℕ → Option Address → Type 0) (entries : ℕ → Option UnitEntryId) (infos : ℕ → Option DebugInfoRef) (u : UnitRef R E) where
+module _ {R E : Type 0} (keep : ℕ → Bool) (reading : R → Reading) (answers : ℕ → Option Address → Type 0) (entries : ℕ → Option UnitEntryId) (infos : ℕ → Option DebugInfoRef) (u : UnitRef R E) where
   pub record ConvertsUnit (before : UnitValue) (old : Tables) (after : UnitValue) (new : Tables) : Type 0 where
     pub program : LineProgramValue
     pub files : List FileId
     pub between : Tables
     pub program_is : ConvertsProgram reading answers u old program files between
-    pub tree : ConvertsEntries reading answers entries infos u files (with_program program before) (tables_in between.strings between.line_strings before) after (tables_in new.strings new.line_strings after)
+    pub tree : ConvertsEntries keep reading answers entries infos u files (with_program program before) (tables_in between.strings between.line_strings before) after (tables_in new.strings new.line_strings after)
 
   -- so it does, and these are the ids of its files by the numbers that were read
   pub record ConvertsWithFiles (before : UnitValue) (old : Tables) (after : UnitValue) (new : Tables) (ids : List FileId) : Type 0 where
@@ -35,7 +35,7 @@ module _ {R E : Type 0} (reading : R → Reading) (answers : ℕ → Option Addr
     pub files : List FileId
     pub between : Tables
     pub program_is : ConvertsProgram reading answers u old program files between
-    pub refused : RefusesEntry reading answers entries infos u files (tables_in between.strings between.line_strings before) e
+    pub refused : RefusesEntry keep reading answers entries infos u files (tables_in between.strings between.line_strings before) e
 
   abbrev pub RefusesUnit : UnitValue → Tables → ConvertError → Type 0
   RefusesUnit before old e = RefusesProgram reading answers u old e ⊎ RefusesEntries before old e

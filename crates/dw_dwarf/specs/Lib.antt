@@ -13,6 +13,7 @@ pub mod EntryRefs
 pub mod NewUnits
 pub mod ConvertedUnits
 pub mod ConvertedDwarf
+pub mod FilteredDwarf
 pub mod Readable
 pub mod FoundUnits
 pub mod UnitEntries

@@ -1,6 +1,5 @@
 -- Entries that are handed out while a unit is converted.
-use Rattle.std.specs.Prelude.{◌≡◌, ◌⊎◌, ℕ, ◌==◌, filter, Bool, not, ◌&&◌, None, Ok, Err, false}
-use Rattle.dw_base.specs.declared.constants.TheConstants.{DW_AT_GNU_locviews}
+use Rattle.std.specs.Prelude.{◌≡◌, ◌⊎◌, ℕ, filter, not, None, Ok, Err, false}
 use Rattle.dw_read.specs.Reading.{Reading}
 use Rattle.dw_read.specs.Rows.{BeginsIn, IsOutside, ReadsRow, PassesEntry, entry_of}
 use Rattle.dw_read.specs.declared.attribute.Attribute.{Attribute}
@@ -9,15 +8,11 @@ use Rattle.dw_read.specs.declared.entry.DebuggingInformationEntry.{DebuggingInfo
 use Rattle.dw_read.specs.declared.error.ReadError.{ReadError}
 use Rattle.dw_read.specs.declared.error.ReadError.TheVariants.{NoEntryAtGivenOffset}
 use Rattle.dw_read_units.specs.declared.unit_ref.UnitRef.{UnitRef}
+use Rattle.dw_sources.specs.Dropped.{is_left_out}
 use Rattle.dw_sources.specs.ConvertErrors.{from_read}
 use Rattle.dw_sources.specs.declared.convert_error.ConvertError.{ConvertError}
-use Rattle.dw_convert.specs.AttributeLists.{is_dropped}
 use Rattle.dw_entry_ids.specs.Plans.{names_sibling}
 use Rattle.dw_dwarf.specs.declared.convert.unit_entry.ConvertUnitEntry.{ConvertUnitEntry}
-
--- what is written has these attributes of its own; views of locations are left to those who convert
-abbrev pub is_left_out : ℕ → Bool
-is_left_out name = not (name == DW_AT_GNU_locviews.0) && is_dropped name
 
 module _ {R E : Type 0} (reading : R → Reading) where
   -- an entry less these attributes, with the flag that tells of a sibling

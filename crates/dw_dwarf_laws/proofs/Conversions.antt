@@ -1,5 +1,5 @@
 -- What a file becomes is one thing, but for what is left of the last sequences of line programs.
-use Rattle.std.proofs.Common.{◌≡◌, ◌∙◌, sym, ap, ap₂, subst, ℕ, ◌+◌, List, [], ◌∷◌, length, map, Option, Some, None, refl}
+use Rattle.std.proofs.Common.{Bool, ◌≡◌, ◌∙◌, sym, ap, ap₂, subst, ℕ, ◌+◌, List, [], ◌∷◌, length, map, Option, Some, None, refl}
 use Rattle.dw_base.specs.Info.{ReadUnit}
 use Rattle.dw_base.specs.declared.address.Address.{Address}
 use Rattle.dw_base.specs.declared.address.DebugInfoRef.{DebugInfoRef}
@@ -9,6 +9,7 @@ use Rattle.dw_read_units.specs.Passes.{units_there}
 use Rattle.dw_read_units.specs.Walks.{units_in}
 use Rattle.dw_read_units.specs.declared.dwarf.Dwarf.{Dwarf}
 use Rattle.dw_entry_ids.specs.Ids.{ids_at, id_among}
+use Rattle.dw_entry_ids.specs.KeptRows.{all_kept}
 use Rattle.dw_entry_ids.specs.Units.{IsNumbered, AreNumbered}
 use Rattle.dw_entry_ids.specs.declared.ids.EntryIds.{EntryIds}
 use Rattle.dw_entry_ids.specs.declared.units.NumberedUnit.{NumberedUnit}
@@ -58,25 +59,25 @@ module _ (one two : EntryIds) (same : (p : ℕ) → ids_at one p ≡ ids_at two 
   infos_same : (first : ℕ) → info_for one first ≡ info_for two first
   infos_same first = λ i p. ap (entry_from first) (same p) i
 
-module _ {R E : Type 0} (reading : R → Reading) (answers : ℕ → Option Address → Type 0) (functional : AnswersOnce answers) (d e : Dwarf R E) (sections : AreSameSections reading d e) where
-  module _ (entries : ℕ → Option UnitEntryId) (infos : ℕ → Option DebugInfoRef) (x y : NumberedUnit R E) (r : ReadUnit) (m : IsNumbered reading d x r) (n : IsNumbered reading e y r) where
-    unit_of_once : (old : Tables) (a b : UnitValue) (new new_too : Tables) → UnitBecomes reading answers d entries infos x old a new → UnitBecomes reading answers e entries infos y old b new_too → AreBuiltAlike a b new new_too
+module _ {R E : Type 0} (keep : ℕ → Bool) (reading : R → Reading) (answers : ℕ → Option Address → Type 0) (functional : AnswersOnce answers) (d e : Dwarf R E) (sections : AreSameSections reading d e) where
+  module _ (entries : ℕ → Option UnitEntryId) (infos : ℕ → Option DebugInfoRef) (x y : NumberedUnit R E) (r : ReadUnit) (m : IsNumbered keep reading d x r) (n : IsNumbered keep reading e y r) where
+    unit_of_once : (old : Tables) (a b : UnitValue) (new new_too : Tables) → UnitBecomes keep reading answers d entries infos x old a new → UnitBecomes keep reading answers e entries infos y old b new_too → AreBuiltAlike a b new new_too
     unit_of_once old a b new new_too h k =
         let u = h.read in
         let v = k.read in
         let same : AreSameSections reading u.dwarf.now v.dwarf.now = subst (λ f. AreSameSections reading f v.dwarf.now) (sym h.of.file) (subst (λ f. AreSameSections reading d f) (sym k.of.file) sections) in
-        let mine : IsNumbered reading u.dwarf.now x r = subst (λ f. IsNumbered reading f x r) (sym h.of.file) m in
-        let other : IsNumbered reading v.dwarf.now y r = subst (λ f. IsNumbered reading f y r) (sym k.of.file) n in
+        let mine : IsNumbered keep reading u.dwarf.now x r = subst (λ f. IsNumbered keep reading f x r) (sym h.of.file) m in
+        let other : IsNumbered keep reading v.dwarf.now y r = subst (λ f. IsNumbered keep reading f y r) (sym k.of.file) n in
         let order = m.order ∙ ap (λ (i : Reading). i.is_big) sections.debug_info ∙ sym n.order in
-        let alike = numbered_alike reading u v same x y h.of.unit k.of.unit r mine other order in
-        let encoding = numbered_encoding reading u v same x y h.of.unit k.of.unit r mine other order in
+        let alike = numbered_alike keep reading u v same x y h.of.unit k.of.unit r mine other order in
+        let encoding = numbered_encoding keep reading u v same x y h.of.unit k.of.unit r mine other order in
         let count : x.entries ≡ y.entries = m.count ∙ sym n.count in
         let fresh : unit_for y ≡ unit_for x = λ i. unit_with (sym encoding i) (sym count i) in
-        unit_once reading answers functional entries infos u v alike (unit_for x) a b old new new_too h.becomes (subst (λ w. ConvertsUnit reading answers entries infos v w old b new_too) fresh k.becomes)
+        unit_once keep reading answers functional entries infos u v alike (unit_for x) a b old new new_too h.becomes (subst (λ w. ConvertsUnit keep reading answers entries infos v w old b new_too) fresh k.becomes)
 
   module _ (one two : EntryIds) (found : (p : ℕ) → ids_at one p ≡ ids_at two p) (first : ℕ) where
-    units_once : (k : ℕ) (xs ys : List (NumberedUnit R E)) (rs : List ReadUnit) (t : Tables) (us vs : List UnitValue) (new new_too : Tables) → AreNumbered reading d xs rs → AreNumbered reading e ys rs
-        → UnitsBecome reading answers d one first k xs t us new → UnitsBecome reading answers e two first k ys t vs new_too → AreAllAlike us vs new new_too
+    pub units_once : (k : ℕ) (xs ys : List (NumberedUnit R E)) (rs : List ReadUnit) (t : Tables) (us vs : List UnitValue) (new new_too : Tables) → AreNumbered keep reading d xs rs → AreNumbered keep reading e ys rs
+        → UnitsBecome keep reading answers d one first k xs t us new → UnitsBecome keep reading answers e two first k ys t vs new_too → AreAllAlike us vs new new_too
     units_once k [] [] [] t [] [] new new_too m n a b = record { closed = tt; closed_too = tt; units = refl; tables = a ∙ sym b }
     units_once k [] [] [] t (u ∷ us) vs new new_too m n a b = absurd a
     units_once k [] [] [] t [] (v ∷ vs) new new_too m n a b = absurd b
@@ -88,11 +89,11 @@ module _ {R E : Type 0} (reading : R → Reading) (answers : ℕ → Option Addr
     units_once k (x ∷ xs) (y ∷ ys) (r ∷ rs) t (u ∷ us) [] new new_too m n a b = absurd b
     units_once k (x ∷ xs) (y ∷ ys) (r ∷ rs) t (u ∷ us) (v ∷ vs) new new_too m n a b =
         let offset : x.unit.header.offset.0 ≡ y.unit.header.offset.0 = sym m.0.from ∙ n.0.from in
-        let moved : UnitBecomes reading answers e (entry_for one k x.unit.header.offset.0) (info_for one first) y t v b.0 =
-        subst (λ f. UnitBecomes reading answers e f (info_for one first) y t v b.0) (sym (entries_same one two found k x.unit.header.offset.0 y.unit.header.offset.0 offset))
-        (subst (λ g. UnitBecomes reading answers e (entry_for two k y.unit.header.offset.0) g y t v b.0) (sym (infos_same one two found first)) b.1) in
+        let moved : UnitBecomes keep reading answers e (entry_for one k x.unit.header.offset.0) (info_for one first) y t v b.0 =
+        subst (λ f. UnitBecomes keep reading answers e f (info_for one first) y t v b.0) (sym (entries_same one two found k x.unit.header.offset.0 y.unit.header.offset.0 offset))
+        (subst (λ g. UnitBecomes keep reading answers e (entry_for two k y.unit.header.offset.0) g y t v b.0) (sym (infos_same one two found first)) b.1) in
         let s = unit_of_once (entry_for one k x.unit.header.offset.0) (info_for one first) x y r m.0 n.0 t u v a.0 b.0 a.1 moved in
-        let more = units_once (k + 1) xs ys rs b.0 us vs new new_too m.1 n.1 (subst (λ z. UnitsBecome reading answers d one first (k + 1) xs z us new) s.tables a.2) b.2 in
+        let more = units_once (k + 1) xs ys rs b.0 us vs new new_too m.1 n.1 (subst (λ z. UnitsBecome keep reading answers d one first (k + 1) xs z us new) s.tables a.2) b.2 in
         record {
           closed = (s.closed, more.closed);
           closed_too = (s.closed_too, more.closed_too);
@@ -100,6 +101,7 @@ module _ {R E : Type 0} (reading : R → Reading) (answers : ℕ → Option Addr
           tables = more.tables;
         }
 
+module _ {R E : Type 0} (reading : R → Reading) (answers : ℕ → Option Address → Type 0) (functional : AnswersOnce answers) (d e : Dwarf R E) (sections : AreSameSections reading d e) where
   -- Readers of the same sections convert them to the same Dwarf.
   pub converted_alike : (one two : DwarfValue) → IsConverted reading answers d one → IsConverted reading answers e two → AreSameDwarfs one two
   converted_alike one two h k =
@@ -107,8 +109,8 @@ module _ {R E : Type 0} (reading : R → Reading) (answers : ℕ → Option Addr
       let there : units_there reading d ≡ units_there reading e = λ i. units_in (length (left (info i))) (info i).is_big (left (sections.debug_abbrev i)) (info i).place (left (info i)) in
       let units : k.units.read.units ≡ h.units.read.units = same_some (units_there reading d) k.units.read.units h.units.read.units (there ∙ k.units.read.are) h.units.read.are in
       let found : (p : ℕ) → ids_at h.units.found.ids p ≡ ids_at k.units.found.ids p = λ p. h.units.read.ids p ∙ ap (λ us. id_among 0 us p) (sym units) ∙ sym (k.units.read.ids p) in
-      let s = units_once h.units.found.ids k.units.found.ids found 0 0 h.units.found.units.items k.units.found.units.items h.units.read.units no_strings h.units.built k.units.built _ _ h.units.read.numbered
-      (subst (λ us. AreNumbered reading e k.units.found.units.items us) units k.units.read.numbered) h.units.become k.units.become in
+      let s = units_once all_kept reading answers functional d e sections h.units.found.ids k.units.found.ids found 0 0 h.units.found.units.items k.units.found.units.items h.units.read.units no_strings h.units.built k.units.built _ _ h.units.read.numbered
+      (subst (λ us. AreNumbered all_kept reading e k.units.found.units.items us) units k.units.read.numbered) h.units.become k.units.become in
       record {
         closed = subst AreClosed (sym h.units.added) s.closed;
         closed_too = subst AreClosed (sym k.units.added) s.closed_too;

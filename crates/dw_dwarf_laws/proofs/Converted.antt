@@ -24,6 +24,7 @@ use Rattle.dw_dwarf.specs.ConvertedEntries.{Values, built_entries, EntriesConver
 use Rattle.dw_dwarf.specs.ConvertedPrograms.{header_at, ProgramBecomes, ProgramConverts}
 use Rattle.dw_dwarf.specs.ConvertedUnit.{ConvertsUnit, with_program}
 use Rattle.dw_dwarf.specs.ConvertSteps.{tables_in, ConvertsEntries}
+use Rattle.dw_entry_ids.specs.KeptRows.{kept_rows}
 use Rattle.dw_entry_ids.specs.Plans.{Plan, plans_of}
 use Rattle.dw_dwarf_laws.proofs.Attributes.{Both, attributes_once}
 use Rattle.dw_dwarf_laws.proofs.ConvertedExpressions.{AnswersOnce}
@@ -72,25 +73,28 @@ module _ {R E : Type 0} (reading : R → Reading) (answers : ℕ → Option Addr
         λ i. ((s i).0 ∷ (more i).0, (more i).1)
 
     -- what the entries of a unit become, with the tables behind them
-    tree_once : (old : UnitTables) (before other after after_too : UnitValue) (m n : UnitTables) → settled_unit before ≡ settled_unit other → ConvertsEntries reading answers entries infos u files before old after m → ConvertsEntries reading answers entries infos v files other old after_too n
+    tree_once : (keep : ℕ → Bool) (old : UnitTables) (before other after after_too : UnitValue) (m n : UnitTables) → settled_unit before ≡ settled_unit other → ConvertsEntries keep reading answers entries infos u files before old after m → ConvertsEntries keep reading answers entries infos v files other old after_too n
         → (settled_unit after ≡ settled_unit after_too) × (m ≡ n)
-    tree_once old before other after after_too m n same h k =
+    tree_once keep old before other after after_too m n same h k =
         let rows : k.rows ≡ h.rows = same_ok (rows_reading reading u.unit.now.header u.unit.now.abbreviations) k.rows h.rows (alike.rows ∙ k.are) h.are in
+        let plans : ℕ → List Row → List Plan = λ from rs. plans_of (kept_rows keep from rs) in
+        let from = u.unit.now.header.offset.0 in
         let big = (reading u.unit.now.header.body).is_big in
         let e = encoding_in u in
-        let moved : EntriesConvert reading answers entries infos v files big e (plans_of h.rows) old k.values n =
-        subst (λ (b : Bool). EntriesConvert reading answers entries infos v files b e (plans_of h.rows) old k.values n) (sym alike.order)
-        (subst (λ (c : Encoding). EntriesConvert reading answers entries infos v files (reading v.unit.now.header.body).is_big c (plans_of h.rows) old k.values n) (sym alike.encoding)
-        (subst (λ (rs : List Row). EntriesConvert reading answers entries infos v files (reading v.unit.now.header.body).is_big (encoding_in v) (plans_of rs) old k.values n) rows k.images)) in
-        let s = entries_once big e (plans_of h.rows) old h.values k.values m n h.images moved in
-        let built : (rs : List Row) (z : Both (List Values)) (w : UnitValue) → UnitValue = λ (rs : List Row) (z : Both (List Values)) (w : UnitValue). record w { entries = built_entries (plans_of rs) (plans_of rs) z.0; ranges = z.1.ranges; locations = z.1.locations } in
-        let first : settled_unit after ≡ built h.rows (h.values, m) (settled_unit before) = ap settled_unit h.is in
-        let last : settled_unit after_too ≡ built k.rows (k.values, n) (settled_unit other) = ap settled_unit k.is in
-        let between : built h.rows (h.values, m) (settled_unit before) ≡ built k.rows (k.values, n) (settled_unit other) = λ i. built (sym rows i) (s i) (same i) in
+        let moved : EntriesConvert reading answers entries infos v files big e (plans from h.rows) old k.values n =
+        subst (λ (b : Bool). EntriesConvert reading answers entries infos v files b e (plans from h.rows) old k.values n) (sym alike.order)
+        (subst (λ (c : Encoding). EntriesConvert reading answers entries infos v files (reading v.unit.now.header.body).is_big c (plans from h.rows) old k.values n) (sym alike.encoding)
+        (subst (λ (m : ℕ). EntriesConvert reading answers entries infos v files (reading v.unit.now.header.body).is_big (encoding_in v) (plans m h.rows) old k.values n) (sym alike.offset)
+        (subst (λ (rs : List Row). EntriesConvert reading answers entries infos v files (reading v.unit.now.header.body).is_big (encoding_in v) (plans v.unit.now.header.offset.0 rs) old k.values n) rows k.images))) in
+        let s = entries_once big e (plans from h.rows) old h.values k.values m n h.images moved in
+        let built : (m : ℕ) (rs : List Row) (z : Both (List Values)) (w : UnitValue) → UnitValue = λ (m : ℕ) (rs : List Row) (z : Both (List Values)) (w : UnitValue). record w { entries = built_entries (plans m rs) (plans m rs) z.0; ranges = z.1.ranges; locations = z.1.locations } in
+        let first : settled_unit after ≡ built from h.rows (h.values, m) (settled_unit before) = ap settled_unit h.is in
+        let last : settled_unit after_too ≡ built v.unit.now.header.offset.0 k.rows (k.values, n) (settled_unit other) = ap settled_unit k.is in
+        let between : built from h.rows (h.values, m) (settled_unit before) ≡ built v.unit.now.header.offset.0 k.rows (k.values, n) (settled_unit other) = λ i. built (alike.offset i) (sym rows i) (s i) (same i) in
         (first ∙ between ∙ sym last, ap (λ (z : Both (List Values)). z.1) s)
 
-    tree_closed : (old : UnitTables) (before after : UnitValue) (m : UnitTables) → IsClosedUnit before → ConvertsEntries reading answers entries infos u files before old after m → IsClosedUnit after
-    tree_closed old before after m closed h = ap (λ (w : UnitValue). is_in_sequence w.line_program.program) h.is ∙ closed
+    tree_closed : (keep : ℕ → Bool) (old : UnitTables) (before after : UnitValue) (m : UnitTables) → IsClosedUnit before → ConvertsEntries keep reading answers entries infos u files before old after m → IsClosedUnit after
+    tree_closed keep old before after m closed h = ap (λ (w : UnitValue). is_in_sequence w.line_program.program) h.is ∙ closed
 
 -- two units that were built, with the strings behind them
 pub record AreBuiltAlike (after after_too : UnitValue) (new new_too : Tables) : Type 0 where
@@ -99,18 +103,18 @@ pub record AreBuiltAlike (after after_too : UnitValue) (new new_too : Tables) : 
   pub unit : settled_unit after ≡ settled_unit after_too
   pub tables : new ≡ new_too
 
-module _ {R E : Type 0} (reading : R → Reading) (answers : ℕ → Option Address → Type 0) (functional : AnswersOnce answers) (entries : ℕ → Option UnitEntryId) (infos : ℕ → Option DebugInfoRef) (u v : UnitRef R E) (alike : AreUnitsAlike reading u v) where
-  pub unit_once : (before after after_too : UnitValue) (old new new_too : Tables) → ConvertsUnit reading answers entries infos u before old after new → ConvertsUnit reading answers entries infos v before old after_too new_too → AreBuiltAlike after after_too new new_too
+module _ {R E : Type 0} (keep : ℕ → Bool) (reading : R → Reading) (answers : ℕ → Option Address → Type 0) (functional : AnswersOnce answers) (entries : ℕ → Option UnitEntryId) (infos : ℕ → Option DebugInfoRef) (u v : UnitRef R E) (alike : AreUnitsAlike reading u v) where
+  pub unit_once : (before after after_too : UnitValue) (old new new_too : Tables) → ConvertsUnit keep reading answers entries infos u before old after new → ConvertsUnit keep reading answers entries infos v before old after_too new_too → AreBuiltAlike after after_too new new_too
   unit_once before after after_too old new new_too h k =
       let p = program_once reading answers functional u v alike old (record { program = h.program; ids = h.files; tables = h.between }) (record { program = k.program; ids = k.files; tables = k.between }) h.program_is k.program_is in
-      let moved : ConvertsEntries reading answers entries infos v h.files (with_program k.program before) (tables_in h.between.strings h.between.line_strings before) after_too (tables_in new_too.strings new_too.line_strings after_too) =
-      subst (λ (fs : List FileId). ConvertsEntries reading answers entries infos v fs (with_program k.program before) (tables_in h.between.strings h.between.line_strings before) after_too (tables_in new_too.strings new_too.line_strings after_too)) (sym p.ids)
-      (subst (λ (t : Tables). ConvertsEntries reading answers entries infos v k.files (with_program k.program before) (tables_in t.strings t.line_strings before) after_too (tables_in new_too.strings new_too.line_strings after_too)) (sym p.tables) k.tree) in
+      let moved : ConvertsEntries keep reading answers entries infos v h.files (with_program k.program before) (tables_in h.between.strings h.between.line_strings before) after_too (tables_in new_too.strings new_too.line_strings after_too) =
+      subst (λ (fs : List FileId). ConvertsEntries keep reading answers entries infos v fs (with_program k.program before) (tables_in h.between.strings h.between.line_strings before) after_too (tables_in new_too.strings new_too.line_strings after_too)) (sym p.ids)
+      (subst (λ (t : Tables). ConvertsEntries keep reading answers entries infos v k.files (with_program k.program before) (tables_in t.strings t.line_strings before) after_too (tables_in new_too.strings new_too.line_strings after_too)) (sym p.tables) k.tree) in
       let same : settled_unit (with_program h.program before) ≡ settled_unit (with_program k.program before) = λ i. record before { line_program = p.program i } in
-      let t = tree_once reading answers functional u v alike entries infos h.files (tables_in h.between.strings h.between.line_strings before) (with_program h.program before) (with_program k.program before) after after_too
+      let t = tree_once reading answers functional u v alike entries infos h.files keep (tables_in h.between.strings h.between.line_strings before) (with_program h.program before) (with_program k.program before) after after_too
       (tables_in new.strings new.line_strings after) (tables_in new_too.strings new_too.line_strings after_too) same h.tree moved in
       record {
-        closed = tree_closed reading answers functional u v alike entries infos h.files _ (with_program h.program before) after _ p.closed h.tree;
+        closed = tree_closed reading answers functional u v alike entries infos h.files keep _ (with_program h.program before) after _ p.closed h.tree;
         closed_too = ap (λ (w : UnitValue). is_in_sequence w.line_program.program) k.tree.is ∙ p.closed_too;
         unit = t.0;
         tables = λ i. record { strings = (t.1 i).strings; line_strings = (t.1 i).line_strings };

@@ -51,6 +51,7 @@ pub record AreSameSections {R E : Type 0} (reading : R → Reading) (d e : Dwarf
 -- Two units that become the same: all that is looked at when they are converted.
 pub record AreUnitsAlike {R E : Type 0} (reading : R → Reading) (u v : UnitRef R E) : Type 0 where
   pub sections : AreSameSections reading u.dwarf.now v.dwarf.now
+  pub offset : u.unit.now.header.offset.0 ≡ v.unit.now.header.offset.0
   pub encoding : encoding_in u ≡ encoding_in v
   pub order : (reading u.unit.now.header.body).is_big ≡ (reading v.unit.now.header.body).is_big
   pub rows : rows_reading reading u.unit.now.header u.unit.now.abbreviations ≡ rows_reading reading v.unit.now.header v.unit.now.abbreviations
@@ -98,7 +99,7 @@ rows_marked (suc fuel) big e table from depth (b ∷ bs) rest root rows m r =
     let q : x.0 ≡ (Open root, rest) = cc in
     marked _ more.0 rows root (ap (λ (y : Mark ReadEntry × List ℕ). y.0) q) more.2
 
-module _ {R E : Type 0} (reading : R → Reading) (d : Dwarf R E) (held : NumberedUnit R E) (u : ReadUnit) (n : IsNumbered reading d held u) where
+module _ {R E : Type 0} (keep : ℕ → Bool) (reading : R → Reading) (d : Dwarf R E) (held : NumberedUnit R E) (u : ReadUnit) (n : IsNumbered keep reading d held u) where
   root_first : first_mark u.rows ≡ Some (Open n.unit.root)
   root_first =
       let h = held.unit.header in
@@ -142,11 +143,11 @@ bases_by split format xs = (
   base_of (first_part split format 12 20) DW_AT_rnglists_base.0 DW_AT_GNU_ranges_base.0 xs,
 )
 
-module _ {R E : Type 0} (reading : R → Reading) (u v : UnitRef R E) (sections : AreSameSections reading u.dwarf.now v.dwarf.now) (x y : NumberedUnit R E) (is_x : u.unit.now ≡ x.unit) (is_y : v.unit.now ≡ y.unit)
-    (t : ReadUnit) (m : IsNumbered reading u.dwarf.now x t) (n : IsNumbered reading v.dwarf.now y t) (order : (reading x.unit.header.body).is_big ≡ (reading y.unit.header.body).is_big) where
+module _ {R E : Type 0} (keep : ℕ → Bool) (reading : R → Reading) (u v : UnitRef R E) (sections : AreSameSections reading u.dwarf.now v.dwarf.now) (x y : NumberedUnit R E) (is_x : u.unit.now ≡ x.unit) (is_y : v.unit.now ≡ y.unit)
+    (t : ReadUnit) (m : IsNumbered keep reading u.dwarf.now x t) (n : IsNumbered keep reading v.dwarf.now y t) (order : (reading x.unit.header.body).is_big ≡ (reading y.unit.header.body).is_big) where
   same_root : m.unit.root ≡ n.unit.root
   same_root =
-      let o : Open m.unit.root ≡ Open n.unit.root = same_some (first_mark t.rows) (Open m.unit.root) (Open n.unit.root) (root_first reading u.dwarf.now x t m) (root_first reading v.dwarf.now y t n) in cc
+      let o : Open m.unit.root ≡ Open n.unit.root = same_some (first_mark t.rows) (Open m.unit.root) (Open n.unit.root) (root_first keep reading u.dwarf.now x t m) (root_first keep reading v.dwarf.now y t n) in cc
 
   same_encoding : x.unit.header.fields.encoding ≡ y.unit.header.fields.encoding
   same_encoding = ap (λ z. z.encoding) (sym m.header ∙ n.header)
@@ -178,6 +179,7 @@ module _ {R E : Type 0} (reading : R → Reading) (u v : UnitRef R E) (sections 
   pub numbered_alike : AreUnitsAlike reading u v
   numbered_alike = record {
     sections = sections;
+    offset = ap (λ z. z.header.offset.0) is_x ∙ sym m.from ∙ n.from ∙ sym (ap (λ z. z.header.offset.0) is_y);
     encoding = ap (λ z. z.header.fields.encoding) is_x ∙ same_encoding ∙ sym (ap (λ z. z.header.fields.encoding) is_y);
     order = ap (λ z. (reading z.header.body).is_big) is_x ∙ order ∙ sym (ap (λ z. (reading z.header.body).is_big) is_y);
     rows = ap (λ z. rows_reading reading z.header z.abbreviations) is_x ∙ m.rows ∙ sym n.rows ∙ sym (ap (λ z. rows_reading reading z.header z.abbreviations) is_y);

@@ -3,11 +3,13 @@
 
 use crate::building::{Call, How, Value};
 use crate::plans::{Told, add_unit};
+use crate::reading::Slice;
 use crate::writing::{Written, drop, refusal};
 use crate::{finding, reading};
 use dw_base::constants::{DW_AT_name, DW_AT_producer, DW_TAG_compile_unit, DW_TAG_subprogram};
 use dw_base::{DwAt, DwTag};
 use dw_dwarf::{Address, ConvertResult, Dwarf, Encoding, Format, Result, RunTimeEndian, StringId};
+use dw_filter::{FilterUnit, FilterUnitSection};
 use std::alloc::Global;
 
 /// Where a text is kept: in its entry, or in `.debug_str`.
@@ -135,6 +137,50 @@ fn come_back(alloc: Global, file: usize, sections: &Written) -> bool {
     }
 }
 
+/// Reads the next entry of a unit, and requires it.
+fn require_next(unit: &mut FilterUnit<'_, Slice<'_>>) -> ConvertResult<()> {
+    let read = unit.read_unit;
+    let mut entry = unit.null_entry();
+    let is_read = unit.read_entry(&mut entry)?;
+    if is_read && read.contains(entry.read_entry.offset) {
+        unit.require_entry(entry.read_entry.offset)?;
+    }
+    Ok(())
+}
+
+/// Requires each entry of the next unit of a file behind its root.
+fn require_unit(filter: &mut FilterUnitSection<'_, Slice<'_>>) -> ConvertResult<()> {
+    let Some(mut unit) = filter.read_unit()? else {
+        return Ok(());
+    };
+    for _ in FAMILY {
+        require_next(&mut unit)?;
+    }
+    Ok(())
+}
+
+/// What the sections of a file become where a filter keeps all their entries.
+fn filtered(alloc: Global, file: usize, sections: &Written) -> ConvertResult<Dwarf> {
+    let read = reading::read(sections, endian(file));
+    let mut filter = FilterUnitSection::new(alloc, &read)?;
+    for _ in unit_rows() {
+        require_unit(&mut filter)?;
+    }
+    Dwarf::from_filter(alloc, filter, &|address| Some(Address::Constant(address)))
+}
+
+/// Tells whether a filter that keeps all leads to what was built.
+fn are_kept(alloc: Global, file: usize, sections: &Written) -> bool {
+    match filtered(alloc, file, sections) {
+        Ok(dwarf) => {
+            let is_found = finding::are_found(file, &dwarf);
+            drop(dwarf);
+            is_found
+        }
+        Err(_) => false,
+    }
+}
+
 /// Tells whether the sections of a file are read as what was built.
 fn are_read(alloc: Global, file: usize, sections: &Written) -> bool {
     let dwarf = reading::read(sections, endian(file));
@@ -152,6 +198,6 @@ pub(crate) fn write_file(
     let is_read = are_read(alloc, file, sections);
     Ok((
         refused,
-        is_built && is_read && come_back(alloc, file, sections),
+        is_built && is_read && come_back(alloc, file, sections) && are_kept(alloc, file, sections),
     ))
 }

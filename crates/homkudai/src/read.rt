@@ -1,8 +1,12 @@
 //! Sections, their units and what units lead to, read.
 
-pub use dw_entry_ids::{EntryIds, NumberedUnit, NumberedUnits, UnitRows, number_units};
+pub use dw_entry_ids::{
+    EntryIds, Kept, KeptRows, NumberedUnit, NumberedUnits, UnitRows, first_units, number_kept,
+    number_units,
+};
 pub use dw_entry_ranges::{
-    AddressRange, CodeAddresses, entry_ranges, list_ranges, location_address, low_high, ranges_at,
+    AddressRange, CodeAddresses, LiveRange, LiveRanges, entry_ranges, list_ranges,
+    location_address, low_high, ranges_at, required_entries,
 };
 pub use dw_read::{
     Abbreviation, Abbreviations, Attribute, AttributeSpecification, AttributeValue,

@@ -2,12 +2,13 @@
 
 ghost use Rattle.std.specs.Prelude.{◌≡◌, ◌⊎◌, IfErr, OnOk};
 ghost use Rattle.dw_sources.specs.declared.convert_error.ConvertError.TheVariants.{NoMemory};
+ghost use Rattle.dw_entry_ids.specs.KeptRows.{keep_of};
 ghost use Rattle.dw_dwarf.specs.ConvertSteps.{tables_in, CanConvert, ConvertsEntries, RefusesEntry};
 
 use crate::convert::entry::convert_entry;
 use dw_base::{Address, FileId};
 use dw_convert::ConvertDebugInfoRef;
-use dw_entry_ids::UnitRows;
+use dw_entry_ids::{Kept, KeptRows};
 use dw_read::{DebuggingInformationEntry, Reader};
 use dw_read_units::UnitRef;
 use dw_sources::ConvertResult;
@@ -15,12 +16,13 @@ use dw_strings::{LineStringTable, StringTable};
 use dw_unit::Unit;
 use std::alloc::Global;
 
-/// Converts the entries of a unit that is read, in their order, into a unit that has its root alone
-/// and an id reserved for each other entry. Each entry is added under the image of its own parent,
-/// with its tag and with the attributes that `convert_attributes` makes of its own; the root stays
-/// a `DW_TAG_compile_unit`. An entry other than the root that names the place past its children
-/// (`DW_AT_sibling`) is to name that again. `files` has the ids of the files of the unit's line
-/// program by the numbers that were read.
+/// Converts the entries of a unit that are kept, in their order, into a unit that has its root
+/// alone and an id reserved for each other of them. The parent of an entry that is kept is kept,
+/// too. Each entry is added under the image of its own parent, with its tag and with the attributes
+/// that `convert_attributes` makes of its own; the root stays a `DW_TAG_compile_unit`. An entry
+/// other than the root that names the place past its children (`DW_AT_sibling`) is to name that
+/// again. `files` has the ids of the files of the unit's line program by the numbers that were
+/// read.
 ///
 /// Refused as attributes are, and for want of memory. After an error the unit and the tables may
 /// have what was converted before it, and the unit the refused entry without attributes.
@@ -28,12 +30,13 @@ use std::alloc::Global;
 /// ```
 /// let read = UnitRef { dwarf: &dwarf, unit: &read_unit };
 /// convert_entries(
-///     alloc, read, &files, &mut unit, &mut strings, &mut line_strings, &address, &refs,
+///     alloc, read, &kept, &files, &mut unit, &mut strings, &mut line_strings, &address, &refs,
 /// )?;
 /// ```
 pub fn convert_entries<R: Reader, C: ConvertDebugInfoRef, F: Fn(u64) -> Option<Address>>(
     alloc: Global,
     read: UnitRef<'_, R>,
+    kept: &Kept<'_>,
     files: &[FileId],
     unit: &mut Unit,
     strings: &mut StringTable,
@@ -42,20 +45,23 @@ pub fn convert_entries<R: Reader, C: ConvertDebugInfoRef, F: Fn(u64) -> Option<A
     refs: &C,
 ) -> ConvertResult<()>
     requires callable { F.IsAlwaysCallable convert_address.now }
-    requires ready { CanConvert R.reading read unit.old }
-    ensures ok { OnOk result (ConvertsEntries R.reading (F.post convert_address.now)
-        (C.entries refs.now) (C.infos refs.now) read.entry files.now
+    requires ready { CanConvert (keep_of kept.now) R.reading read unit.old }
+    ensures ok { OnOk result (ConvertsEntries (keep_of kept.now) R.reading
+        (F.post convert_address.now) (C.entries refs.now) (C.infos refs.now) read.entry files.now
         unit.old (tables_in strings.old line_strings.old unit.old)
         unit.new (tables_in strings.new line_strings.new unit.new)) }
-    ensures err { IfErr result (λ e. (e ≡ NoMemory) ⊎ RefusesEntry R.reading
+    ensures err { IfErr result (λ e. (e ≡ NoMemory) ⊎ RefusesEntry (keep_of kept.now) R.reading
         (F.post convert_address.now) (C.entries refs.now) (C.infos refs.now) read.entry files.now
         (tables_in strings.old line_strings.old unit.old) e) }
 {
     // The root is there, so an id is handed out for it, and there is a row.
     prove!(unit.count() <= unit.reserved());
-    let mut rows = UnitRows::new(alloc, read.unit);
+    let mut rows = KeptRows::new(alloc, read.unit, kept);
     let mut entry = DebuggingInformationEntry::new(alloc);
     'rows: while let Some((id, parent)) = rows.next(&mut entry)? {
+        let Some(id) = id else {
+            continue;
+        };
         convert_entry(
             alloc,
             read,

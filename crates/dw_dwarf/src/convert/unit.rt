@@ -3,6 +3,7 @@
 ghost use Rattle.std.specs.Prelude.{◌⊎◌, ◌≡◌, IfErr, OnOk};
 ghost use Rattle.dw_sources.specs.declared.convert_error.ConvertError.TheVariants.{NoMemory};
 ghost use Rattle.dw_convert_lines.specs.Views.{tables};
+ghost use Rattle.dw_entry_ids.specs.KeptRows.{keep_of};
 ghost use Rattle.dw_dwarf.specs.ConvertedUnit.{ConvertsWithFiles, RefusesUnit};
 ghost use Rattle.dw_dwarf.specs.ConvertSteps.{CanConvert};
 
@@ -10,6 +11,7 @@ use crate::convert::entries::convert_entries;
 use crate::convert::program::{convert_program, set_program};
 use dw_base::{Address, FileId};
 use dw_convert::ConvertDebugInfoRef;
+use dw_entry_ids::Kept;
 use dw_read::Reader;
 use dw_read_units::UnitRef;
 use dw_sources::ConvertResult;
@@ -18,10 +20,11 @@ use dw_unit::Unit;
 use std::alloc::Global;
 
 /// Converts a unit: its line program first, since its entries name the program's files, whose ids
-/// by the numbers that were read come into `files`.
+/// by the numbers that were read come into `files`. Then its entries that are kept.
 pub(crate) fn convert_unit<R: Reader, C: ConvertDebugInfoRef, F: Fn(u64) -> Option<Address>>(
     alloc: Global,
     read: UnitRef<'_, R>,
+    kept: &Kept<'_>,
     unit: &mut Unit,
     files: &mut Vec<FileId>,
     strings: &mut StringTable,
@@ -30,12 +33,12 @@ pub(crate) fn convert_unit<R: Reader, C: ConvertDebugInfoRef, F: Fn(u64) -> Opti
     refs: &C,
 ) -> ConvertResult<()>
     requires callable { F.IsAlwaysCallable convert_address.now }
-    requires ready { CanConvert R.reading read unit.old }
-    ensures ok { OnOk result (ConvertsWithFiles R.reading (F.post convert_address.now)
-        (C.entries refs.now) (C.infos refs.now) read.entry
+    requires ready { CanConvert (keep_of kept.now) R.reading read unit.old }
+    ensures ok { OnOk result (ConvertsWithFiles (keep_of kept.now) R.reading
+        (F.post convert_address.now) (C.entries refs.now) (C.infos refs.now) read.entry
         unit.old (tables strings.old line_strings.old)
         unit.new (tables strings.new line_strings.new) files.new.items) }
-    ensures err { IfErr result (λ e. (e ≡ NoMemory) ⊎ RefusesUnit R.reading
+    ensures err { IfErr result (λ e. (e ≡ NoMemory) ⊎ RefusesUnit (keep_of kept.now) R.reading
         (F.post convert_address.now) (C.entries refs.now) (C.infos refs.now) read.entry
         unit.old (tables strings.old line_strings.old) e) }
 {
@@ -45,6 +48,7 @@ pub(crate) fn convert_unit<R: Reader, C: ConvertDebugInfoRef, F: Fn(u64) -> Opti
     convert_entries(
         alloc,
         read,
+        kept,
         files.as_slice(),
         unit,
         strings,

@@ -1,15 +1,13 @@
 //! Entries of a unit that is converted.
 
 ghost use Rattle.std.specs.Prelude.{◌≡◌, [], None, false, filter, not, IfOk, IfErr};
-ghost use Rattle.dw_dwarf.specs.UnitEntries.{IsEntryAt, IsNoEntryAt, is_left_out, IsFiltered};
+ghost use Rattle.dw_dwarf.specs.UnitEntries.{IsEntryAt, IsNoEntryAt, IsFiltered};
 
 use crate::convert::entry::names_sibling;
-use dw_base::constants::DW_AT_GNU_locviews;
-use dw_base::{DwAt, UnitEntryId, UnitOffset};
-use dw_convert::is_dropped;
+use dw_base::{UnitEntryId, UnitOffset};
 use dw_read::{DebuggingInformationEntry, ReadError, Reader};
 use dw_read_units::UnitRef;
-use dw_sources::ConvertResult;
+use dw_sources::{ConvertResult, is_left_out};
 use std::alloc::Global;
 
 /// An entry that was read from a unit, less the attributes that what is written has of its own:
@@ -88,12 +86,4 @@ impl<'a, R: Reader> ConvertUnitEntry<'a, R> {
             .attrs
             .retain(|attribute| !is_left_out(attribute.name()));
     }
-}
-
-/// Whether an attribute of a name isn't read: what conversions drop, but for the views of
-/// locations, which only `ConvertUnit::convert` drops.
-fn is_left_out(name: DwAt) -> bool
-    ensures { result ≡ is_left_out name.0 }
-{
-    name != DW_AT_GNU_locviews && is_dropped(name)
 }

@@ -10,6 +10,7 @@ use crate::convert::convert_unit::ConvertUnit;
 use crate::convert::unit::convert_unit;
 use crate::convert::unit_entry::ConvertUnitEntry;
 use dw_base::Address;
+use dw_entry_ids::Kept;
 use dw_read::Reader;
 use dw_sources::ConvertResult;
 
@@ -52,9 +53,11 @@ impl<'a, R: Reader> ConvertUnit<'a, R> {
     {
         drop(root_entry);
         let refs = self.given.refs;
+        let all = Kept::all();
         let converted = convert_unit(
             self.alloc,
             self.given.read,
+            &all,
             self.unit,
             &mut self.files,
             self.strings,

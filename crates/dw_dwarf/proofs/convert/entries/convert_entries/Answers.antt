@@ -4,8 +4,8 @@ use Rattle.dw_entries.specs.Entries.{EntryValue}
 use Rattle.dw_tree.specs.UnitValue.{UnitValue}
 use Rattle.dw_sources.specs.ConvertErrors.{from_read}
 use Rattle.dw_dwarf.proofs.Setting.{is_err}
-use Rattle.dw_dwarf.proofs.Walking.{converted_none, converted_more, converted_end, converted_refused, not_yet, id_in, one_less, parent_in, some}
-use Rattle.dw_entry_ids.specs.UnitWalk.{WalksOn}
+use Rattle.dw_dwarf.proofs.Walking.{converted_none, converted_more, converted_past, converted_end, converted_refused, not_yet, id_in, one_less, parent_in, some}
+use Rattle.dw_entry_ids.specs.KeptWalk.{HandsOutKept, WalksKept}
 use Rattle.dw_dwarf.proofs.convert.entries.convert_entries.Goals as goal
 
 pub rows-init : goal.rows-init
@@ -13,42 +13,67 @@ rows-init g c =
     let can = c.requires.ready in
     let one : length c.args.unit.now.entries ≡ 1 = ap (λ (es : List EntryValue). length es) can.entries in
     let rooted : 0 < c.args.unit.now.reserved = omega (arith, one, c.count.ensures.sound.arena.within) in
-    converted_none g.R.Reader.reading _ _ _ c.args.read _ c.args.unit.now _ can c.new-rows.result c.args.unit.now (c.new-rows.ensures can.rows can.are can.behind) rooted refl refl refl
+    converted_none c.args.kept.now g.R.Reader.reading _ _ _ c.args.read _ c.args.unit.now _ can c.new-rows.result c.args.unit.now (c.new-rows.ensures can.rows can.are can.behind) rooted refl refl refl
 
 pub returns-in_err-id-clause-err : goal.returns-in_err-id-clause-err
 returns-in_err-id-clause-err g c =
     let w = c.rows.invariant in
-    rw (is_err _ _ c.from_residual.ensures) (inl (ap from_read (c.in_err-id.ensures.walks c.args.read.unit.now w.front w.rest w.stands)))
+    rw (is_err _ _ c.from_residual.ensures) (inl (ap from_read (c.in_err-id.ensures c.args.read.unit.now c.args.kept.now w.front w.rest w.stands)))
+
+pub rows-smaller-in_default-id : goal.rows-smaller-in_default-id
+rows-smaller-in_default-id g c =
+    let reading = g.R.Reader.reading in
+    let kept = c.args.kept.now in
+    let w = c.rows.invariant in
+    let walk = subst (λ (o : Option (Option UnitEntryId × UnitEntryId)). WalksKept reading c.args.read.unit.now kept w.front w.rest c.next.new.self c.next.new.entry (Ok o)) c.in-Some.is (c.in_ok-id.ensures c.args.read.unit.now kept w.front w.rest w.stands) in
+    one_less kept reading c.args.read c.rows.rows c.next.new.self w.front w.rest c.next.new.entry c.in-Some.id c.in-Some.parent.0 w.stands walk.0 (g.met.R.Reader.is_reading c.next.new.self.rows.rows.input)
+
+pub rows-preserved-in_default-id : goal.rows-preserved-in_default-id
+rows-preserved-in_default-id g c =
+    let reading = g.R.Reader.reading in
+    let kept = c.args.kept.now in
+    let w = c.rows.invariant in
+    let walk = subst (λ (o : Option (Option UnitEntryId × UnitEntryId)). WalksKept reading c.args.read.unit.now kept w.front w.rest c.next.new.self c.next.new.entry (Ok o)) c.in-Some.is (c.in_ok-id.ensures c.args.read.unit.now kept w.front w.rest w.stands) in
+    let hands = subst (λ (o : Option UnitEntryId). HandsOutKept reading c.args.read.unit.now kept w.front w.rest c.next.new.self c.next.new.entry o c.in-Some.parent.0) c.in_default-id.is walk.0 in
+    converted_past kept reading _ _ _ c.args.read _ c.args.unit.now _ c.requires.ready c.rows.rows c.next.new.self c.rows.unit _ c.next.new.entry c.in-Some.parent.0 w hands
 
 pub convert_entry-requires-clause-some : goal.convert_entry-requires-clause-some
-convert_entry-requires-clause-some g c = some _ _ _ _ _ _ _ _ _ _ _ c.rows.invariant
+convert_entry-requires-clause-some g c = some _ _ _ _ _ _ _ _ _ _ _ _ c.rows.invariant
 
 pub convert_entry-requires-clause-id_in : goal.convert_entry-requires-clause-id_in
 convert_entry-requires-clause-id_in g c =
     let reading = g.R.Reader.reading in
+    let kept = c.args.kept.now in
     let w = c.rows.invariant in
-    let s = subst (λ (o : Option (UnitEntryId × UnitEntryId)). WalksOn reading c.args.read.unit.now w.front w.rest c.next.new.self c.next.new.entry (Ok o)) c.in-Some.is (c.in_ok-id.ensures.walks c.args.read.unit.now w.front w.rest w.stands) in
-    id_in reading _ _ _ c.args.read _ c.args.unit.now _ c.requires.ready c.rows.rows c.next.new.self c.rows.unit _ c.next.new.entry _ _ w s.0
+    let walk = subst (λ (o : Option (Option UnitEntryId × UnitEntryId)). WalksKept reading c.args.read.unit.now kept w.front w.rest c.next.new.self c.next.new.entry (Ok o)) c.in-Some.is (c.in_ok-id.ensures c.args.read.unit.now kept w.front w.rest w.stands) in
+    let hands = subst (λ (o : Option UnitEntryId). HandsOutKept reading c.args.read.unit.now kept w.front w.rest c.next.new.self c.next.new.entry o c.in-Some.parent.0) c.in-Some-id.is walk.0 in
+    id_in kept reading _ _ _ c.args.read _ c.args.unit.now _ c.requires.ready c.rows.rows c.next.new.self c.rows.unit _ c.next.new.entry c.in-Some-id.id c.in-Some.parent.0 w hands
 
 pub convert_entry-requires-clause-parent_in : goal.convert_entry-requires-clause-parent_in
 convert_entry-requires-clause-parent_in g c =
     let reading = g.R.Reader.reading in
+    let kept = c.args.kept.now in
     let w = c.rows.invariant in
-    let s = subst (λ (o : Option (UnitEntryId × UnitEntryId)). WalksOn reading c.args.read.unit.now w.front w.rest c.next.new.self c.next.new.entry (Ok o)) c.in-Some.is (c.in_ok-id.ensures.walks c.args.read.unit.now w.front w.rest w.stands) in
-    parent_in reading _ _ _ c.args.read _ c.args.unit.now _ c.requires.ready c.rows.rows c.next.new.self c.rows.unit _ c.next.new.entry _ _ w s.0
+    let walk = subst (λ (o : Option (Option UnitEntryId × UnitEntryId)). WalksKept reading c.args.read.unit.now kept w.front w.rest c.next.new.self c.next.new.entry (Ok o)) c.in-Some.is (c.in_ok-id.ensures c.args.read.unit.now kept w.front w.rest w.stands) in
+    let hands = subst (λ (o : Option UnitEntryId). HandsOutKept reading c.args.read.unit.now kept w.front w.rest c.next.new.self c.next.new.entry o c.in-Some.parent.0) c.in-Some-id.is walk.0 in
+    parent_in kept reading _ _ _ c.args.read _ c.args.unit.now _ c.requires.ready c.rows.rows c.next.new.self c.rows.unit _ c.next.new.entry c.in-Some-id.id c.in-Some.parent.0 w hands
 
 pub convert_entry-requires-clause-tagged : goal.convert_entry-requires-clause-tagged
 convert_entry-requires-clause-tagged g c =
+    let reading = g.R.Reader.reading in
+    let kept = c.args.kept.now in
     let w = c.rows.invariant in
-    let s = subst (λ (o : Option (UnitEntryId × UnitEntryId)). WalksOn g.R.Reader.reading c.args.read.unit.now w.front w.rest c.next.new.self c.next.new.entry (Ok o)) c.in-Some.is (c.in_ok-id.ensures.walks c.args.read.unit.now w.front w.rest w.stands) in
-    s.1 c.requires.ready.tagged
+    let walk = subst (λ (o : Option (Option UnitEntryId × UnitEntryId)). WalksKept reading c.args.read.unit.now kept w.front w.rest c.next.new.self c.next.new.entry (Ok o)) c.in-Some.is (c.in_ok-id.ensures c.args.read.unit.now kept w.front w.rest w.stands) in
+    walk.1 c.requires.ready.tagged
 
 pub convert_entry-requires-clause-not_yet : goal.convert_entry-requires-clause-not_yet
 convert_entry-requires-clause-not_yet g c =
     let reading = g.R.Reader.reading in
+    let kept = c.args.kept.now in
     let w = c.rows.invariant in
-    let s = subst (λ (o : Option (UnitEntryId × UnitEntryId)). WalksOn reading c.args.read.unit.now w.front w.rest c.next.new.self c.next.new.entry (Ok o)) c.in-Some.is (c.in_ok-id.ensures.walks c.args.read.unit.now w.front w.rest w.stands) in
-    not_yet reading _ _ _ c.args.read _ c.args.unit.now _ c.requires.ready c.rows.rows c.next.new.self c.rows.unit _ c.next.new.entry _ _ w s.0
+    let walk = subst (λ (o : Option (Option UnitEntryId × UnitEntryId)). WalksKept reading c.args.read.unit.now kept w.front w.rest c.next.new.self c.next.new.entry (Ok o)) c.in-Some.is (c.in_ok-id.ensures c.args.read.unit.now kept w.front w.rest w.stands) in
+    let hands = subst (λ (o : Option UnitEntryId). HandsOutKept reading c.args.read.unit.now kept w.front w.rest c.next.new.self c.next.new.entry o c.in-Some.parent.0) c.in-Some-id.is walk.0 in
+    not_yet kept reading _ _ _ c.args.read _ c.args.unit.now _ c.requires.ready c.rows.rows c.next.new.self c.rows.unit _ c.next.new.entry c.in-Some-id.id c.in-Some.parent.0 w hands
 
 pub convert_entry-requires-clause-not_freed : goal.convert_entry-requires-clause-not_freed
 convert_entry-requires-clause-not_freed g c = ap (λ (x : UnitValue). x.is_freed) c.rows.invariant.is ∙ c.requires.ready.kept
@@ -56,31 +81,37 @@ convert_entry-requires-clause-not_freed g c = ap (λ (x : UnitValue). x.is_freed
 pub returns-in_err-convert_entry-clause-err : goal.returns-in_err-convert_entry-clause-err
 returns-in_err-convert_entry-clause-err g c =
     let reading = g.R.Reader.reading in
+    let kept = c.args.kept.now in
     let w = c.rows.invariant in
-    let s = subst (λ (o : Option (UnitEntryId × UnitEntryId)). WalksOn reading c.args.read.unit.now w.front w.rest c.next.new.self c.next.new.entry (Ok o)) c.in-Some.is (c.in_ok-id.ensures.walks c.args.read.unit.now w.front w.rest w.stands) in
+    let walk = subst (λ (o : Option (Option UnitEntryId × UnitEntryId)). WalksKept reading c.args.read.unit.now kept w.front w.rest c.next.new.self c.next.new.entry (Ok o)) c.in-Some.is (c.in_ok-id.ensures c.args.read.unit.now kept w.front w.rest w.stands) in
+    let hands = subst (λ (o : Option UnitEntryId). HandsOutKept reading c.args.read.unit.now kept w.front w.rest c.next.new.self c.next.new.entry o c.in-Some.parent.0) c.in-Some-id.is walk.0 in
     let q = is_err _ _ c.from_residual-in_err-convert_entry.ensures in
-    rw q (⊎_elim (λ n. inl n) (λ r. inr (converted_refused reading _ _ _ c.args.read _ c.args.unit.now _ c.requires.ready c.rows.rows c.next.new.self c.rows.unit _ c.next.new.entry _ _ w s.0 _ r)) c.in_err-convert_entry.ensures.err)
+    rw q (⊎_elim (λ n. inl n) (λ r. inr (converted_refused kept reading _ _ _ c.args.read _ c.args.unit.now _ c.requires.ready c.rows.rows c.next.new.self c.rows.unit _ c.next.new.entry c.in-Some-id.id c.in-Some.parent.0 w hands _ r)) c.in_err-convert_entry.ensures.err)
 
 pub rows-smaller : goal.rows-smaller
 rows-smaller g c =
     let reading = g.R.Reader.reading in
+    let kept = c.args.kept.now in
     let w = c.rows.invariant in
-    let s = subst (λ (o : Option (UnitEntryId × UnitEntryId)). WalksOn reading c.args.read.unit.now w.front w.rest c.next.new.self c.next.new.entry (Ok o)) c.in-Some.is (c.in_ok-id.ensures.walks c.args.read.unit.now w.front w.rest w.stands) in
-    one_less reading _ _ _ c.args.read _ c.args.unit.now _ c.requires.ready c.rows.rows c.next.new.self c.rows.unit _ c.next.new.entry _ _ w s.0
+    let walk = subst (λ (o : Option (Option UnitEntryId × UnitEntryId)). WalksKept reading c.args.read.unit.now kept w.front w.rest c.next.new.self c.next.new.entry (Ok o)) c.in-Some.is (c.in_ok-id.ensures c.args.read.unit.now kept w.front w.rest w.stands) in
+    one_less kept reading c.args.read c.rows.rows c.next.new.self w.front w.rest c.next.new.entry c.in-Some.id c.in-Some.parent.0 w.stands walk.0 (g.met.R.Reader.is_reading c.next.new.self.rows.rows.input)
 
 pub rows-preserved : goal.rows-preserved
 rows-preserved g c =
     let reading = g.R.Reader.reading in
+    let kept = c.args.kept.now in
     let w = c.rows.invariant in
-    let s = subst (λ (o : Option (UnitEntryId × UnitEntryId)). WalksOn reading c.args.read.unit.now w.front w.rest c.next.new.self c.next.new.entry (Ok o)) c.in-Some.is (c.in_ok-id.ensures.walks c.args.read.unit.now w.front w.rest w.stands) in
-    converted_more reading _ _ _ c.args.read _ c.args.unit.now _ c.requires.ready c.rows.rows c.next.new.self c.rows.unit _ c.next.new.entry _ _ w s.0 c.convert_entry.new.unit _ (c.in_ok-convert_entry.ensures.ok s.0.code)
+    let walk = subst (λ (o : Option (Option UnitEntryId × UnitEntryId)). WalksKept reading c.args.read.unit.now kept w.front w.rest c.next.new.self c.next.new.entry (Ok o)) c.in-Some.is (c.in_ok-id.ensures c.args.read.unit.now kept w.front w.rest w.stands) in
+    let hands = subst (λ (o : Option UnitEntryId). HandsOutKept reading c.args.read.unit.now kept w.front w.rest c.next.new.self c.next.new.entry o c.in-Some.parent.0) c.in-Some-id.is walk.0 in
+    converted_more kept reading _ _ _ c.args.read _ c.args.unit.now _ c.requires.ready c.rows.rows c.next.new.self c.rows.unit _ c.next.new.entry c.in-Some-id.id c.in-Some.parent.0 w hands c.convert_entry.new.unit _ (c.in_ok-convert_entry.ensures.ok hands.row.code)
 
 pub returns-clause-ok : goal.returns-clause-ok
 returns-clause-ok g c =
     let reading = g.R.Reader.reading in
+    let kept = c.args.kept.now in
     let w = c.rows.invariant in
-    let h = subst (λ (o : Option (UnitEntryId × UnitEntryId)). WalksOn reading c.args.read.unit.now w.front w.rest c.next.new.self c.next.new.entry (Ok o)) c.in_default.is (c.in_ok-id.ensures.walks c.args.read.unit.now w.front w.rest w.stands) in
-    converted_end reading _ _ _ c.args.read _ c.args.unit.now _ c.requires.ready c.rows.rows c.next.new.self c.rows.unit _ w h
+    let walk = subst (λ (o : Option (Option UnitEntryId × UnitEntryId)). WalksKept reading c.args.read.unit.now kept w.front w.rest c.next.new.self c.next.new.entry (Ok o)) c.in_default.is (c.in_ok-id.ensures c.args.read.unit.now kept w.front w.rest w.stands) in
+    converted_end kept reading _ _ _ c.args.read _ c.args.unit.now _ c.requires.ready c.rows.rows c.next.new.self c.rows.unit _ w walk
 
 pub returns-in_err-id-clause-ok : goal.returns-in_err-id-clause-ok
 returns-in_err-id-clause-ok g c = rw (is_err _ _ c.from_residual.ensures) tt

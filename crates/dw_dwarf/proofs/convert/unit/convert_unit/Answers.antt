@@ -13,6 +13,7 @@ convert_entries-requires-clause-ready g c =
       are = ready.are;
       behind = ready.behind;
       tagged = ready.tagged;
+      closed = ready.closed;
       reserved = ap (λ (u : UnitValue). u.reserved) set ∙ ready.reserved;
       entries = ap (λ (u : UnitValue). u.entries) set ∙ ready.entries;
       kept = ap (λ (u : UnitValue). u.is_freed) set ∙ ready.kept;

@@ -1,6 +1,6 @@
 use Rattle.std.proofs.Common.{not, refl, rules}
 use Rattle.std.proofs.lemmas.List.Elements.{filter_from_retain}
-use Rattle.dw_dwarf.specs.UnitEntries.{is_left_out}
+use Rattle.dw_sources.specs.Dropped.{is_left_out}
 use Rattle.dw_dwarf.proofs.convert.unit_entry.ConvertUnitEntry.filter_attributes.Goals as goal
 
 pub returns : goal.returns
