@@ -10,6 +10,7 @@ pub mod RestSections
 pub mod Left
 mod Setting
 mod Filtering
+mod WholeFilter
 mod Becoming
 mod Growing
 mod AttributesSeen

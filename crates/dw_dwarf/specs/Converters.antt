@@ -16,7 +16,8 @@ use Rattle.dw_convert.specs.Tables.{Tables}
 use Rattle.dw_dwarf.specs.ConvertSteps.{tables_in}
 use Rattle.dw_dwarf.specs.EntryRefs.{entry_of, info_of}
 use Rattle.dw_dwarf.specs.NewUnits.{IsNewUnit}
-use Rattle.dw_entry_ids.specs.UnitCursor.{StandsBetween, HandsOutRow, HandsOutNone}
+use Rattle.dw_entry_ids.specs.KeptWalk.{StandsKept, HandsOutKept}
+use Rattle.dw_entry_ids.specs.UnitCursor.{HandsOutNone}
 use Rattle.dw_dwarf.specs.UnitEntries.{IsLess}
 use Rattle.dw_dwarf.specs.declared.convert.convert_unit.ConvertUnit.{ConvertUnit}
 use Rattle.dw_dwarf.specs.declared.convert.unit_entry.ConvertUnitEntry.{ConvertUnitEntry}
@@ -26,9 +27,10 @@ abbrev pub parent_of : Option UnitEntryId → ℕ
 parent_of None = 0
 parent_of (Some id) = id.0
 
--- the parent of an entry; the root has none
-abbrev pub above : ℕ → ℕ → Option UnitEntryId
-above id parent = if id == 0 then None else Some (record { 0 = parent })
+-- the parent of an entry that is kept under an id, or isn't; the root has none
+abbrev pub above : Option UnitEntryId → ℕ → Option UnitEntryId
+above (Some id) parent = if id.0 == 0 then None else Some (record { 0 = parent })
+above None parent = Some (record { 0 = parent })
 
 -- a unit with an entry added: under an id that was reserved, or under a new one
 abbrev pub added_under : Option UnitEntryId → ℕ → ℕ → UnitValue → UnitValue
@@ -66,25 +68,24 @@ module _ {R E : Type 0} {RG : Reader.Ghosts R E} {EG : Endianity.Ghosts E} where
   -- and line program, and is neither written nor skipped.
   pub record IsFresh (c : ConvertUnit R E RG EG) : Type 0 where
     pub unit : IsNewUnit (held c).header.fields.encoding c.given.entries c.unit.now
-    pub first : c.rows.count ≡ 1
-    pub going : c.rows.is_ended ≡ false
+    pub first : c.rows.rows.count ≡ 1
+    pub going : c.rows.rows.is_ended ≡ false
 
   -- it stands between these rows of its unit
   abbrev pub StandsAt : (R → Reading) → ConvertUnit R E RG EG → List Row → List Row → Type 0
-  StandsAt reading c front rest = StandsBetween reading (held c) c.rows front rest
+  StandsAt reading c front rest = StandsKept reading (held c) c.given.kept.now c.rows front rest
 
-  -- the next entry of those that are left, as what is handed out
-  pub record HandsOutEntry (reading : R → Reading) (front rest : List Row) (new : ConvertUnit R E RG EG) (entry : ConvertUnitEntry R E) (id : ℕ) : Type 0 where
+  -- the next entry of those that are left, as what is handed out, with the id that is reserved for it, if it is kept
+  pub record HandsOutEntry (reading : R → Reading) (front rest : List Row) (new : ConvertUnit R E RG EG) (entry : ConvertUnitEntry R E) (id : Option UnitEntryId) : Type 0 where
     pub as_read : DebuggingInformationEntry R E
     pub parent : ℕ
-    pub row : HandsOutRow reading (held new) front rest new.rows as_read id parent
+    pub row : HandsOutKept reading (held new) new.given.kept.now front rest new.rows as_read id parent
     pub less : IsLess reading as_read entry
     pub under : entry.parent ≡ above id parent
     pub read_unit : entry.read_unit ≡ new.read_unit
 
   -- the next entry is read, or none is left
   abbrev pub ReadsEntry : (R → Reading) → List Row → List Row → ConvertUnit R E RG EG → ConvertUnitEntry R E → Result (Option (Option UnitEntryId)) ConvertError → Type 0
-  ReadsEntry reading front rest new entry (Ok None) = HandsOutNone reading (held new) front rest new.rows
-  ReadsEntry reading front rest new entry (Ok (Some None)) = ⊥
-  ReadsEntry reading front rest new entry (Ok (Some (Some id))) = HandsOutEntry reading front rest new entry id.0
+  ReadsEntry reading front rest new entry (Ok None) = HandsOutNone reading (held new) front rest new.rows.rows
+  ReadsEntry reading front rest new entry (Ok (Some id)) = HandsOutEntry reading front rest new entry id
   ReadsEntry reading front rest new entry (Err e) = e ≡ NoMemory

@@ -6,6 +6,8 @@ use Rattle.dw_base.specs.declared.address.Address.{Address}
 use Rattle.dw_base.specs.declared.offsets.UnitSectionOffset.{UnitSectionOffset}
 use Rattle.dw_entry_ids.specs.FirstUnits.{AreFirstUnits, MissesFirst}
 use Rattle.dw_entry_ids.specs.KeptRows.{keep_of}
+use Rattle.dw_entry_ids.specs.KeptUnits.{NumbersKept}
+use Rattle.dw_entry_ids.specs.declared.units.NumberedUnits.{NumberedUnits}
 use Rattle.dw_filter.specs.FileGraph.{KeptIn, MissesPlaces, MissesRows}
 use Rattle.dw_filter.specs.declared.unit_section.FilterUnitSection.{FilterUnitSection}
 use Rattle.dw_read.specs.Reading.{Reading}
@@ -15,7 +17,7 @@ use Rattle.dw_sources.specs.ConvertErrors.{from_read}
 use Rattle.dw_sources.specs.declared.convert_error.ConvertError.{ConvertError}
 use Rattle.dw_convert_lines.specs.Views.{tables}
 use Rattle.dw_dwarf.specs.ConvertedDwarf.{no_strings}
-use Rattle.dw_dwarf.specs.ConvertedUnits.{ConvertsKept, RefusesKept}
+use Rattle.dw_dwarf.specs.ConvertedUnits.{AreClosed, ConvertsKept, RefusesKept}
 use Rattle.dw_dwarf.specs.DwarfValue.{DwarfValue}
 
 module _ {R E : Type 0} (reading : R → Reading) (f : FilterUnitSection R E) where
@@ -40,6 +42,20 @@ module _ {R E : Type 0} (reading : R → Reading) (f : FilterUnitSection R E) wh
     pub are : AreFilterUnits units
     pub why : MissesRows reading units e ⊎ MissesPlaces reading f.dwarf.now units f.counts.items e
 
+  -- its units or entries can't be read again
+  abbrev pub CannotBegin : ConvertError → Type 0
+  CannotBegin e = CannotReadUnits e ⊎ CannotReadEntries e
+
+  -- the first units of the file, as many as the filter has read, with the entries that it keeps numbered
+  pub record NumbersFiltered (kept : Option (List UnitSectionOffset)) (found : NumberedUnits R E) : Type 0 where
+    pub units : List (UnitFields R E)
+    pub are : AreFilterUnits units
+    pub places : List UnitSectionOffset
+    pub keeps : AreKept units places
+    pub is : kept ≡ Some places
+    pub numbered : NumbersKept reading f.dwarf.now (keep_of (Some places)) units found
+    pub closed : AreClosed (keep_of (Some places)) reading units
+
   module _ (answers : ℕ → Option Address → Type 0) where
     -- Each unit that the filter has read becomes one, in order, with its root and the entries that are kept, and the strings that
     -- these name; there is no line program of no unit.
@@ -60,4 +76,4 @@ module _ {R E : Type 0} (reading : R → Reading) (f : FilterUnitSection R E) wh
       pub refuses : RefusesKept (keep_of (Some kept)) reading answers f.dwarf.now units [] no_strings e
 
     abbrev pub CannotFilter : ConvertError → Type 0
-    CannotFilter e = CannotReadUnits e ⊎ (CannotReadEntries e ⊎ RefusesFiltered e)
+    CannotFilter e = CannotBegin e ⊎ RefusesFiltered e

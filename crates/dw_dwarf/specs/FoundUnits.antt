@@ -13,6 +13,7 @@ pub record IsGiven {R E : Type 0} {RG : Reader.Ghosts R E} {EG : Endianity.Ghost
   pub dwarf : g.read.dwarf.now ≡ f.read.now
   pub unit : g.read.unit.now ≡ numbered.unit
   pub entries : g.entries ≡ numbered.entries
+  pub kept : g.kept.now ≡ f.kept
   pub ids : g.refs.ids.now ≡ f.found.ids
   pub number : g.refs.unit.0 ≡ index
   pub start : g.refs.start ≡ numbered.unit.header.offset.0

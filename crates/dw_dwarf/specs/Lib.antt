@@ -14,7 +14,9 @@ pub mod NewUnits
 pub mod ConvertedUnits
 pub mod ConvertedDwarf
 pub mod FilteredDwarf
+pub mod WholeFilter
 pub mod Readable
+pub mod FileUnits
 pub mod FoundUnits
 pub mod UnitEntries
 pub mod Converters

@@ -6,7 +6,7 @@ use Rattle.dw_read.specs.Reading.{Reading}
 use Rattle.dw_read.specs.declared.reader.Reader as Reader
 use Rattle.dw_sources.specs.declared.convert_error.ConvertError.{ConvertError}
 use Rattle.dw_convert_lines.specs.Views.{tables}
-use Rattle.dw_entry_ids.specs.KeptRows.{all_kept}
+use Rattle.dw_entry_ids.specs.KeptRows.{keep_of}
 use Rattle.dw_dwarf.specs.ConvertedUnit.{ConvertsUnit, RefusesUnit}
 use Rattle.dw_dwarf.specs.Converters.{entries_in, infos_in}
 use Rattle.dw_dwarf.specs.declared.convert.convert_unit.ConvertUnit.{ConvertUnit}
@@ -15,11 +15,11 @@ module _ {R E : Type 0} {RG : Reader.Ghosts R E} {EG : Endianity.Ghosts E} (read
   -- The unit that was read becomes the one that is written, with the strings of its file, and the ids of its files by the numbers that
   -- were read are kept.
   pub record ConvertsWhole (old new : ConvertUnit R E RG EG) : Type 0 where
-    pub unit : ConvertsUnit all_kept reading answers (entries_in old) (infos_in old) old.given.read old.unit.now (tables old.strings.now old.line_strings.now) new.unit.now (tables new.strings.now new.line_strings.now)
+    pub unit : ConvertsUnit (keep_of old.given.kept.now) reading answers (entries_in old) (infos_in old) old.given.read old.unit.now (tables old.strings.now old.line_strings.now) new.unit.now (tables new.strings.now new.line_strings.now)
     pub files : new.files.items ≡ unit.files
 
   -- it becomes nothing, for this reason
   abbrev pub RefusesWhole : ConvertUnit R E RG EG → ConvertError → Type 0
   RefusesWhole old e =
-      RefusesUnit all_kept reading answers (entries_in old) (infos_in old) old.given.read
+      RefusesUnit (keep_of old.given.kept.now) reading answers (entries_in old) (infos_in old) old.given.read
       old.unit.now (tables old.strings.now old.line_strings.now) e

@@ -1,5 +1,5 @@
 -- The first units of a file, with one more, and that each stands behind the one before it.
-use Rattle.std.proofs.Common.{◌≡◌, ◌∙◌, sym, ap, subst, ℕ, ◌≤◌, List, [], ◌∷◌, ◌++◌, All, Bool, false, refl, arith}
+use Rattle.std.proofs.Common.{◌≡◌, ◌∙◌, sym, ap, subst, ℕ, ◌≤◌, List, [], ◌∷◌, ◌++◌, All, false, refl, arith}
 use Rattle.std.proofs.lemmas.List.Elements.{All-nil, All-cons}
 use Rattle.dw_read.specs.Reading.{Reading}
 use Rattle.dw_read.specs.UnitHeaders.{PassesUnit}

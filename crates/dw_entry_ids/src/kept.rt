@@ -11,17 +11,18 @@ use std::marker::Model;
 /// units are kept whatever it says.
 ///
 /// ```
-/// let places = [UnitSectionOffset(0x0c), UnitSectionOffset(0x2a)];
-/// let kept = Kept::at(&places);
+/// let mut places = Vec::new(alloc);
+/// places.push(UnitSectionOffset(0x0c))?;
+/// let kept = Kept::at(places);
 /// let first = kept.keeps(UnitSectionOffset(0x0c)); // true
 /// ```
 #[derive(Drop)]
-pub struct Kept<'a> {
+pub struct Kept {
     /// None tells that all are.
-    places: Option<&'a [UnitSectionOffset]>,
+    places: Option<Vec<UnitSectionOffset>>,
 }
 
-impl<'a> Model for Kept<'a> {
+impl Model for Kept {
     ghost use Rattle.std.specs.Prelude.{List, Option, MatchOption, ⊤, map};
     ghost use Rattle.std.specs.Option.{option_map};
     ghost use Rattle.std.specs.List.Sorted.{IsStrictlyIncreasing};
@@ -29,24 +30,24 @@ impl<'a> Model for Kept<'a> {
 
     ghost Value = { Option (List UnitSectionOffset) };
 
-    ghost view = { λ k. option_map (λ s. s.now) k.places };
+    ghost view = { λ k. option_map (λ v. v.items) k.places };
 
     ghost invariant = { λ k. MatchOption k.places ⊤
-        (λ s. IsStrictlyIncreasing (map (λ p. p.0) s.now)) };
+        (λ v. IsStrictlyIncreasing (map (λ p. p.0) v.items)) };
 }
 
-impl<'a> Kept<'a> {
+impl Kept {
     /// All entries.
-    pub fn all() -> Kept<'a>
+    pub fn all() -> Kept
         ensures { result ≡ None }
     {
         Kept { places: None }
     }
 
     /// The entries that begin at these places, which rise.
-    pub fn at(places: &'a [UnitSectionOffset]) -> Kept<'a>
-        requires { IsStrictlyIncreasing (map (λ p. p.0) places.now) }
-        ensures { result ≡ Some places.now }
+    pub fn at(places: Vec<UnitSectionOffset>) -> Kept
+        requires { IsStrictlyIncreasing (map (λ p. p.0) places.items) }
+        ensures { result ≡ Some places.items }
     {
         Kept {
             places: Some(places),
@@ -57,7 +58,7 @@ impl<'a> Kept<'a> {
     pub fn keeps(&self, place: UnitSectionOffset) -> bool
         ensures { result ≡ keep_of self.now place.0 }
     {
-        match self.places {
+        match &self.places {
             None => true,
             Some(places) => places.binary_search_by_key(&place.0, |kept| kept.0).is_ok(),
         }

@@ -1,6 +1,6 @@
 //! A walk over the entries of a unit of which some are kept.
 
-ghost use Rattle.std.specs.Prelude.{◌≡◌, ◌≤◌, List, [], Ok, Option, get_or, map};
+ghost use Rattle.std.specs.Prelude.{◌≡◌, ◌≤◌, ◌↔◌, List, [], Ok, Option, None, true, false, get_or, map, IsTrue};
 ghost use Rattle.dw_base.specs.Entries.{Row};
 ghost use Rattle.dw_base.specs.declared.offsets.UnitSectionOffset.{UnitSectionOffset as Place};
 ghost use Rattle.dw_read_units.specs.Passes.{rows_reading};
@@ -27,7 +27,7 @@ use std::alloc::Global;
 #[derive(Drop)]
 pub struct KeptRows<'a, R: Reader> {
     pub(crate) rows: UnitRows<'a, R>,
-    pub(crate) kept: &'a Kept<'a>,
+    pub(crate) kept: &'a Kept,
     /// The place where the unit begins.
     pub(crate) start: usize,
     /// How many entries that are kept were read, so the number of the next.
@@ -38,7 +38,7 @@ pub struct KeptRows<'a, R: Reader> {
 
 impl<'a, R: Reader> KeptRows<'a, R> {
     /// The rows of a unit, from the first on.
-    pub fn new(alloc: Global, unit: &'a Unit<R>, kept: &'a Kept<'a>) -> KeptRows<'a, R>
+    pub fn new(alloc: Global, unit: &'a Unit<R>, kept: &'a Kept) -> KeptRows<'a, R>
         ensures { (all : List Row) →
             rows_reading R.reading unit.now.header unit.now.abbreviations ≡ Ok all →
             unit.now.header.offset.0 ≤ (R.reading unit.now.header.body).place →
@@ -53,6 +53,21 @@ impl<'a, R: Reader> KeptRows<'a, R> {
         }
     }
 
+    /// Whether the root was read, and nothing behind it.
+    pub fn is_behind_root(&self) -> bool
+        ensures { IsTrue result ↔ (self.now.rows.count ≡ 1) × (self.now.rows.is_ended ≡ false) }
+    {
+        self.rows.is_behind_root()
+    }
+
+    /// Ends the walk: no entry is handed out any more.
+    pub fn end(&mut self)
+        ensures { self.new
+            ≡ record self.old { rows = record self.old.rows { is_ended = true } } }
+    {
+        self.rows.is_ended = true;
+    }
+
     /// Reads the next entry, and answers its id, if it is kept, and that of the kept entry below
     /// which it stands. Ids are numbered in the order of reading, the root as 0; the root's parent
     /// is the root. Null entries are passed. None tells that no entry is left. Where all rows of
@@ -61,9 +76,10 @@ impl<'a, R: Reader> KeptRows<'a, R> {
         &mut self,
         entry: &mut DebuggingInformationEntry<R>,
     ) -> ReadResult<Option<(Option<UnitEntryId>, UnitEntryId)>>
-        ensures { (u : UnitFields R R.Endian) (kept : Option (List Place))
+        ensures walks { (u : UnitFields R R.Endian) (kept : Option (List Place))
             (front rest : List Row) → StandsKept R.reading u kept self.old front rest →
             WalksKept R.reading u kept front rest self.new entry.new result }
+        ensures ended { self.old.rows.is_ended ≡ true → result ≡ Ok None }
     {
         let Some((_, parent)) = self.rows.next(entry)? else {
             return Ok(None);

@@ -18,14 +18,14 @@ use std::alloc::Global;
 /// refused where a row can't be read, for that reason, and for want of memory.
 ///
 /// ```
-/// let kept = Kept::at(&places);
+/// let kept = Kept::at(places);
 /// let found = number_kept(alloc, &dwarf, units, &kept)?;
 /// ```
 pub fn number_kept<R: Reader>(
     alloc: Global,
     dwarf: &Dwarf<R>,
     units: Vec<Unit<R>>,
-    kept: &Kept<'_>,
+    kept: &Kept,
 ) -> ReadResult<NumberedUnits<R>>
     requires { AreUnitsBehind R.reading dwarf.now 0 units.items }
     ensures ok { IfOk result

@@ -35,7 +35,7 @@ pub struct UnitRows<'a, R: Reader> {
     /// Those whose lists of children are open, the outermost first.
     pub(crate) parents: Vec<UnitEntryId>,
     /// Whether the walk has ended: no entry is handed out any more.
-    pub is_ended: bool,
+    pub(crate) is_ended: bool,
 }
 
 impl<'a, R: Reader> UnitRows<'a, R> {

@@ -63,7 +63,7 @@ pub(crate) fn number_entries<R: Reader>(
     alloc: Global,
     unit: UnitRef<'_, R>,
     id: UnitId,
-    kept: &Kept<'_>,
+    kept: &Kept,
     ids: &mut EntryIds,
 ) -> ReadResult<usize>
     requires { unit.unit.now.header.offset.0 ≤ (R.reading unit.unit.now.header.body).place }
@@ -91,7 +91,7 @@ fn number_row<R: Reader>(
     entry: &mut DebuggingInformationEntry<R>,
     start: usize,
     number: (UnitId, UnitEntryId),
-    kept: &Kept<'_>,
+    kept: &Kept,
     ids: &mut EntryIds,
 ) -> ReadResult<bool>
     requires start { start ≡ rows.old.start }

@@ -8,7 +8,7 @@ ghost use Rattle.dw_tree.specs.UnitValue.{IsReserved, with_entry};
 ghost use Rattle.dw_sources.specs.declared.convert_error.ConvertError.TheVariants.{NoMemory};
 ghost use Rattle.dw_convert.specs.References.{EntryOutcome, InfoOutcome};
 ghost use Rattle.dw_dwarf.specs.Converters.{IsFresh, StandsAt, ReadsEntry};
-ghost use Rattle.dw_dwarf.specs.Converters.{entries_in, infos_in, parent_of, added_under, id_or_next};
+ghost use Rattle.dw_dwarf.specs.Converters.{above, entries_in, infos_in, parent_of, added_under, id_or_next};
 
 use crate::convert::found::GivenUnit;
 use crate::convert::fresh::is_fresh_unit;
@@ -18,7 +18,7 @@ use dw_base::{
     DebugInfoOffset, DebugInfoRef, DwTag, FileId, Result, UnitEntryId, UnitId, UnitOffset,
 };
 use dw_convert::ConvertDebugInfoRef;
-use dw_entry_ids::UnitRows;
+use dw_entry_ids::KeptRows;
 use dw_read::Reader;
 use dw_read_units::UnitRef;
 use dw_sources::{ConvertError, ConvertResult};
@@ -59,7 +59,7 @@ pub struct ConvertUnit<'a, R: Reader> {
     pub(crate) id: UnitId,
     /// The ids of the files of the unit's line program by the numbers that were read.
     pub(crate) files: Vec<FileId>,
-    pub(crate) rows: UnitRows<'a, R>,
+    pub(crate) rows: KeptRows<'a, R>,
 }
 
 impl<'a, R: Reader> ConvertUnit<'a, R> {
@@ -91,25 +91,26 @@ impl<'a, R: Reader> ConvertUnit<'a, R> {
     }
 
     /// Reads the next entry behind those that were read, in the order in which they stand, and
-    /// answers the id that is reserved for it. Null entries are passed. None tells that no entry is
-    /// left. All entries were read once before, so it is refused only as `NoMemory`; from then on
-    /// entries may come with other ids.
+    /// answers the id that is reserved for it, or `Some(None)` where a filter doesn't keep it. Its
+    /// parent is the nearest entry above it that is kept. Null entries are passed. None tells that
+    /// no entry is left. All entries were read once before, so it is refused only as `NoMemory`;
+    /// from then on entries may come with other ids.
     pub fn read_entry(
         &mut self,
         entry: &mut ConvertUnitEntry<'a, R>,
     ) -> ConvertResult<Option<Option<UnitEntryId>>>
         ensures reads { (front rest : List Row) → StandsAt R.reading self.old front rest →
             ReadsEntry R.reading front rest self.new entry.new result }
-        ensures ended { self.old.rows.is_ended ≡ true → result ≡ Ok None }
+        ensures ended { self.old.rows.rows.is_ended ≡ true → result ≡ Ok None }
         ensures others { self.new ≡ record self.old { rows = self.new.rows } }
     {
         let Some((id, parent)) = self.rows.next(&mut entry.read_entry)? else {
             return Ok(None);
         };
         entry.read_unit = self.read_unit;
-        entry.parent = (id.index() != 0).then_some(parent);
+        entry.parent = above(id, parent);
         entry.filter_attributes();
-        Ok(Some(Some(id)))
+        Ok(Some(id))
     }
 
     /// Adds an entry with the tag that was read, under its parent, or under the root where that is
@@ -214,4 +215,14 @@ fn add_under(
     };
     unit.add_reserved(id, parent, tag)?;
     Ok(id)
+}
+
+/// The parent of an entry that is kept under an id, or isn't: the root has none.
+fn above(id: Option<UnitEntryId>, parent: UnitEntryId) -> Option<UnitEntryId>
+    ensures { result ≡ above id parent.0 }
+{
+    match id {
+        Some(id) if id.index() == 0 => None,
+        _ => Some(parent),
+    }
 }

@@ -36,7 +36,7 @@ use std::alloc::Global;
 pub fn convert_entries<R: Reader, C: ConvertDebugInfoRef, F: Fn(u64) -> Option<Address>>(
     alloc: Global,
     read: UnitRef<'_, R>,
-    kept: &Kept<'_>,
+    kept: &Kept,
     files: &[FileId],
     unit: &mut Unit,
     strings: &mut StringTable,

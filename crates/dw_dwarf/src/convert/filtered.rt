@@ -3,13 +3,16 @@
 ghost use Rattle.std.specs.Prelude.{◌≡◌, ◌⊎◌, IfOk, IfErr};
 ghost use Rattle.dw_sources.specs.declared.convert_error.ConvertError.TheVariants.{NoMemory};
 ghost use Rattle.dw_dwarf.specs.DwarfValue.{dwarf_in};
-ghost use Rattle.dw_dwarf.specs.FilteredDwarf.{IsFiltered, CannotFilter};
+ghost use Rattle.dw_dwarf.specs.FilteredDwarf.{IsFiltered, CannotBegin, CannotFilter};
+ghost use Rattle.dw_dwarf.specs.UnitSections.{BeginsFiltered};
+ghost use Rattle.dw_dwarf.specs.WholeFilter.{HasReadAll, IsFilteredWhole};
 
-use crate::convert::units::convert_kept;
+use crate::convert::found::FoundUnits;
+use crate::convert::unit_section::ConvertUnitSection;
+use crate::convert::units::convert_found;
 use crate::dwarf::Dwarf;
 use dw_base::Address;
-use dw_entry_ids::{Kept, first_units};
-use dw_filter::{FilterUnitSection, kept_entries};
+use dw_filter::FilterUnitSection;
 use dw_read::Reader;
 use dw_sources::ConvertResult;
 use std::alloc::Global;
@@ -46,23 +49,59 @@ impl Dwarf {
         requires { F.IsAlwaysCallable convert_address.now }
         ensures ok { IfOk result (λ d. IsFiltered R.reading filter.entry
             (F.post convert_address.now) (dwarf_in d)) }
+        // Where it has read each unit to its end, all units become one each, and known are all
+        // their entries but for roots.
+        ensures whole { HasReadAll R.reading filter.entry → IfOk result (λ d. IsFilteredWhole
+            R.reading filter.entry (F.post convert_address.now) (dwarf_in d)) }
         ensures err { IfErr result (λ e. (e ≡ NoMemory)
             ⊎ CannotFilter R.reading filter.entry (F.post convert_address.now) e) }
     {
-        let read = filter.dwarf();
-        let units = first_units(alloc, read, filter.counts().len())?;
-        let kept = kept_entries(alloc, read, &units, filter.counts(), filter.required())?;
+        let given = FoundUnits::filtered(alloc, filter)?;
         let mut dwarf = Dwarf::new(alloc);
-        convert_kept(
+        convert_found(
             alloc,
-            read,
-            units,
-            &Kept::at(&kept),
+            given.read,
+            &given.found,
+            &given.kept,
             &mut dwarf.units,
             &mut dwarf.strings,
             &mut dwarf.line_strings,
             convert_address,
         )
         .and(Ok(dwarf))
+    }
+
+    /// Begins to convert the units that a filter has read one by one, as `Dwarf::convert` does for
+    /// all of a file. For each a new unit is added behind those that are there, with an id for each
+    /// of its entries that the filter keeps, in the order of reading. `ConvertUnit::read_entry`
+    /// hands out the others, too, without an id.
+    ///
+    /// Refused as `Read` where a unit of the filter or one of its rows can't be read, or the
+    /// location list of an entry that the filter has read, and as `NoMemory`. After an error some
+    /// new units may have been added.
+    ///
+    /// ```
+    /// let mut section = dwarf.convert_with_filter(filter)?;
+    /// let next = section.read_unit()?;
+    /// ```
+    pub fn convert_with_filter<'a, R: Reader>(
+        &'a mut self,
+        filter: FilterUnitSection<'a, R>,
+    ) -> ConvertResult<ConvertUnitSection<'a, R>>
+        ensures ok { IfOk result (BeginsFiltered R.reading filter.entry (dwarf_in self.old)) }
+        ensures same { IfOk result (λ s. s.dwarf.ghost_name ≡ self.entry.ghost_name) }
+        ensures err { IfErr result (λ e. (e ≡ NoMemory)
+            ⊎ CannotBegin R.reading filter.entry e) }
+    {
+        let alloc = *self.line_programs.allocator();
+        let found = FoundUnits::filtered(alloc, filter)?;
+        let first = self.units.count();
+        found.add_new(alloc, &mut self.units).and(Ok(ConvertUnitSection {
+            alloc,
+            found,
+            dwarf: self,
+            first,
+            next: 0,
+        }))
     }
 }

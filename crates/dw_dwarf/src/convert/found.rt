@@ -1,21 +1,23 @@
 //! The units of a file, all of which were read before one is converted.
 
 ghost use Rattle.std.specs.Prelude.{All};
-ghost use Rattle.dw_entry_ids.specs.Units.{NumbersUnits};
+ghost use Rattle.dw_entry_ids.specs.KeptRows.{keep_of};
+ghost use Rattle.dw_dwarf.specs.FileUnits.{AreFound};
 ghost use Rattle.dw_dwarf.specs.Readable.{IsReadable, IsReadableUnit};
 
 use crate::convert::refs::UnitRefs;
-use dw_entry_ids::NumberedUnits;
+use dw_entry_ids::{Kept, NumberedUnits};
 use dw_read::Reader;
 use dw_read_units::{Dwarf, UnitRef};
 
-/// The units of a file in their order, with the ids of their entries.
+/// The units of a file in their order, with the ids of their entries that are kept.
 #[derive(Drop)]
 pub(crate) struct FoundUnits<'a, R: Reader> {
     pub(crate) read: &'a Dwarf<R>,
     pub(crate) found: NumberedUnits<R>,
-    ghost numbered: { ∥ NumbersUnits R.reading read.now found ∥₁ },
-    ghost readable: { All (IsReadableUnit R.reading) found.units.items },
+    pub(crate) kept: Kept,
+    ghost numbered: { ∥ AreFound R.reading read.now kept found ∥₁ },
+    ghost readable: { All (IsReadableUnit R.reading (keep_of kept)) found.units.items },
 }
 
 /// One of them, and the entries that it may name.
@@ -23,7 +25,9 @@ pub(crate) struct FoundUnits<'a, R: Reader> {
 pub(crate) struct GivenUnit<'a, R: Reader> {
     pub(crate) read: UnitRef<'a, R>,
     pub(crate) refs: UnitRefs<'a>,
-    /// How many entries it has, its root among them.
+    /// Which of its entries are kept.
+    pub(crate) kept: &'a Kept,
+    /// How many are, its root among them.
     pub(crate) entries: usize,
-    ghost readable: { IsReadable R.reading read.unit.now entries },
+    ghost readable: { IsReadable R.reading (keep_of kept.now) read.unit.now entries },
 }

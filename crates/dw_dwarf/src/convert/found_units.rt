@@ -1,9 +1,10 @@
 //! Reading all units of a file, and giving one of them.
 
-ghost use Rattle.std.specs.Prelude.{◌≡◌, ◌⊎◌, ◌<◌, ◌++◌, length, map, OnOk, IfOk, IfErr};
+ghost use Rattle.std.specs.Prelude.{◌≡◌, ◌⊎◌, ◌<◌, ◌++◌, length, map, None, OnOk, IfOk, IfErr};
 ghost use Rattle.dw_entry_ids.specs.Units.{NumbersUnits};
 ghost use Rattle.dw_sources.specs.declared.convert_error.ConvertError.TheVariants.{NoMemory};
 ghost use Rattle.dw_dwarf.specs.ConvertedUnits.{CannotRead};
+ghost use Rattle.dw_dwarf.specs.FilteredDwarf.{CannotBegin, NumbersFiltered};
 ghost use Rattle.dw_dwarf.specs.FoundUnits.{IsGiven};
 ghost use Rattle.dw_dwarf.specs.NewUnits.{unit_for};
 
@@ -11,7 +12,8 @@ use crate::convert::found::{FoundUnits, GivenUnit};
 use crate::convert::refs::UnitRefs;
 use crate::convert::units::new_unit;
 use dw_base::UnitId;
-use dw_entry_ids::number_units;
+use dw_entry_ids::{Kept, first_units, number_kept, number_units};
+use dw_filter::{FilterUnitSection, kept_entries};
 use dw_read::Reader;
 use dw_read_units::{Dwarf, UnitRef};
 use dw_sources::{ConvertError, ConvertResult};
@@ -23,10 +25,34 @@ impl<'a, R: Reader> FoundUnits<'a, R> {
     pub(crate) fn read(alloc: Global, dwarf: &'a Dwarf<R>) -> ConvertResult<FoundUnits<'a, R>>
         ensures ok { IfOk result (λ f. NumbersUnits R.reading dwarf.now f.found) }
         ensures file { IfOk result (λ f. f.read.now ≡ dwarf.now) }
+        ensures kept { IfOk result (λ f. f.kept ≡ None) }
         ensures err { IfErr result (λ e. (e ≡ NoMemory) ⊎ CannotRead R.reading dwarf.now e) }
     {
         let found = number_units(alloc, dwarf)?;
-        Ok(FoundUnits { read: dwarf, found })
+        Ok(FoundUnits {
+            read: dwarf,
+            found,
+            kept: Kept::all(),
+        })
+    }
+
+    /// Reads the units again that a filter has read, and numbers their entries that it keeps.
+    pub(crate) fn filtered(
+        alloc: Global,
+        filter: FilterUnitSection<'a, R>,
+    ) -> ConvertResult<FoundUnits<'a, R>>
+        ensures ok { IfOk result (λ f.
+            NumbersFiltered R.reading filter.entry f.kept f.found) }
+        ensures file { IfOk result (λ f. f.read.now ≡ filter.entry.dwarf.now) }
+        ensures err { IfErr result (λ e. (e ≡ NoMemory)
+            ⊎ CannotBegin R.reading filter.entry e) }
+    {
+        let read = filter.dwarf();
+        let units = first_units(alloc, read, filter.counts().len())?;
+        let places = kept_entries(alloc, read, &units, filter.counts(), filter.required())?;
+        let kept = Kept::at(places);
+        let found = number_kept(alloc, read, units, &kept)?;
+        Ok(FoundUnits { read, found, kept })
     }
 
     /// The unit of an index in its file, where the first of all becomes that of an id.
@@ -42,12 +68,13 @@ impl<'a, R: Reader> FoundUnits<'a, R> {
                 unit: &numbered.unit,
             },
             refs: UnitRefs::new(&self.found.ids, UnitId::new(index), start, first),
+            kept: &self.kept,
             entries: numbered.entries,
         }
     }
 
     /// Adds a new unit for each of them behind those of the table: in its encoding, with its root
-    /// alone, and with an id for each of its entries.
+    /// alone, and with an id for each of its entries that are kept.
     pub(crate) fn add_new(&self, alloc: Global, units: &mut UnitTable) -> ConvertResult<()>
         ensures ok { OnOk result
             (units.new ≡ units.old ++ map unit_for self.now.found.units.items) }

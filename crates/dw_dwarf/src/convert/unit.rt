@@ -24,7 +24,7 @@ use std::alloc::Global;
 pub(crate) fn convert_unit<R: Reader, C: ConvertDebugInfoRef, F: Fn(u64) -> Option<Address>>(
     alloc: Global,
     read: UnitRef<'_, R>,
-    kept: &Kept<'_>,
+    kept: &Kept,
     unit: &mut Unit,
     files: &mut Vec<FileId>,
     strings: &mut StringTable,

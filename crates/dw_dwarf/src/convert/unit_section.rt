@@ -2,7 +2,7 @@
 
 ghost use Rattle.std.specs.Prelude.{◌≡◌, [], None};
 ghost use Rattle.dw_dwarf.specs.Readable.{rows_held};
-ghost use Rattle.dw_entry_ids.specs.UnitCursor.{StandsBetween};
+ghost use Rattle.dw_entry_ids.specs.KeptWalk.{StandsKept};
 ghost use Rattle.dw_dwarf.specs.UnitSections.{PassesUnit, HandsOut};
 
 use crate::convert::convert_unit::ConvertUnit;
@@ -10,7 +10,7 @@ use crate::convert::found::{FoundUnits, GivenUnit};
 use crate::convert::unit_entry::ConvertUnitEntry;
 use crate::dwarf::Dwarf;
 use dw_base::UnitId;
-use dw_entry_ids::UnitRows;
+use dw_entry_ids::KeptRows;
 use dw_read::Reader;
 use dw_sources::ConvertResult;
 use dw_strings::{LineStringTable, StringTable};
@@ -108,10 +108,10 @@ impl<'a, R: Reader> ConvertUnit<'a, R> {
         ensures skeleton { result.read_skeleton_unit ≡ None }
         ensures id { result.id ≡ id }
         ensures files { result.files.items ≡ [] }
-        ensures rows { StandsBetween R.reading given.entry.read.unit.now result.rows []
-            (rows_held R.reading given.entry.read.unit.now) }
+        ensures rows { StandsKept R.reading given.entry.read.unit.now given.entry.kept.now
+            result.rows [] (rows_held R.reading given.entry.read.unit.now) }
     {
-        let read = given.read;
+        let (read, kept) = (given.read, given.kept);
         ConvertUnit {
             read_unit: read,
             read_skeleton_unit: None,
@@ -122,7 +122,7 @@ impl<'a, R: Reader> ConvertUnit<'a, R> {
             given,
             id,
             files: Vec::new(alloc),
-            rows: UnitRows::new(alloc, read.unit),
+            rows: KeptRows::new(alloc, read.unit, kept),
         }
     }
 }

@@ -73,7 +73,7 @@ pub fn convert_units<R: Reader, F: Fn(u64) -> Option<Address>>(
 /// want of memory. After an error the tables may have what was converted before it.
 ///
 /// ```
-/// let kept = Kept::at(&places);
+/// let kept = Kept::at(places);
 /// convert_kept(
 ///     alloc, &read, read_units, &kept, &mut units, &mut strings, &mut line_strings, &constant,
 /// )?;
@@ -82,7 +82,7 @@ pub fn convert_kept<R: Reader, F: Fn(u64) -> Option<Address>>(
     alloc: Global,
     dwarf: &Dwarf<R>,
     read_units: Vec<ReadUnit<R>>,
-    kept: &Kept<'_>,
+    kept: &Kept,
     units: &mut UnitTable,
     strings: &mut StringTable,
     line_strings: &mut LineStringTable,
@@ -114,11 +114,11 @@ pub fn convert_kept<R: Reader, F: Fn(u64) -> Option<Address>>(
 
 /// Converts units whose entries that are kept are numbered, and adds them behind those of the
 /// table.
-fn convert_found<R: Reader, F: Fn(u64) -> Option<Address>>(
+pub(crate) fn convert_found<R: Reader, F: Fn(u64) -> Option<Address>>(
     alloc: Global,
     dwarf: &Dwarf<R>,
     found: &NumberedUnits<R>,
-    kept: &Kept<'_>,
+    kept: &Kept,
     units: &mut UnitTable,
     strings: &mut StringTable,
     line_strings: &mut LineStringTable,
@@ -162,7 +162,7 @@ fn convert_numbered<R: Reader, F: Fn(u64) -> Option<Address>>(
     alloc: Global,
     dwarf: &Dwarf<R>,
     numbered: &NumberedUnit<R>,
-    kept: &Kept<'_>,
+    kept: &Kept,
     strings: &mut StringTable,
     line_strings: &mut LineStringTable,
     convert_address: &F,

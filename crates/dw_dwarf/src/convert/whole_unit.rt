@@ -10,13 +10,13 @@ use crate::convert::convert_unit::ConvertUnit;
 use crate::convert::unit::convert_unit;
 use crate::convert::unit_entry::ConvertUnitEntry;
 use dw_base::Address;
-use dw_entry_ids::Kept;
 use dw_read::Reader;
 use dw_sources::ConvertResult;
 
 impl<'a, R: Reader> ConvertUnit<'a, R> {
     /// Converts all of the unit: its line program, and its entries with their attributes, each
-    /// under the image of its own parent, as `Dwarf::from` does. `root_entry` is the root that came
+    /// under the image of its own parent, as `Dwarf::from` does; under a filter its root and the
+    /// entries that are kept, as `Dwarf::from_filter`. `root_entry` is the root that came
     /// with the unit; what it held is read again from the unit. `convert_address` says what an
     /// address of the read file becomes. No entry is left to be read afterwards.
     ///
@@ -39,7 +39,7 @@ impl<'a, R: Reader> ConvertUnit<'a, R> {
         ensures ok { OnOk result
             (ConvertsWhole R.reading (F.post convert_address.now) self.old self.new) }
         ensures unread { OnErr result (self.new.rows ≡ self.old.rows) }
-        ensures ended { OnOk result (self.new.rows.is_ended ≡ true) }
+        ensures ended { OnOk result (self.new.rows.rows.is_ended ≡ true) }
         ensures err { IfErr result (λ e. (e ≡ NoMemory)
             ⊎ RefusesWhole R.reading (F.post convert_address.now) self.old e) }
         ensures same { KeepsLoans self.old self.new }
@@ -53,11 +53,10 @@ impl<'a, R: Reader> ConvertUnit<'a, R> {
     {
         drop(root_entry);
         let refs = self.given.refs;
-        let all = Kept::all();
         let converted = convert_unit(
             self.alloc,
             self.given.read,
-            &all,
+            self.given.kept,
             self.unit,
             &mut self.files,
             self.strings,
@@ -65,7 +64,9 @@ impl<'a, R: Reader> ConvertUnit<'a, R> {
             convert_address,
             &refs,
         );
-        self.rows.is_ended = converted.is_ok();
+        if converted.is_ok() {
+            self.rows.end();
+        }
         converted
     }
 }

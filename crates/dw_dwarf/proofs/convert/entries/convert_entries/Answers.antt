@@ -18,14 +18,14 @@ rows-init g c =
 pub returns-in_err-id-clause-err : goal.returns-in_err-id-clause-err
 returns-in_err-id-clause-err g c =
     let w = c.rows.invariant in
-    rw (is_err _ _ c.from_residual.ensures) (inl (ap from_read (c.in_err-id.ensures c.args.read.unit.now c.args.kept.now w.front w.rest w.stands)))
+    rw (is_err _ _ c.from_residual.ensures) (inl (ap from_read (c.in_err-id.ensures.walks c.args.read.unit.now c.args.kept.now w.front w.rest w.stands)))
 
 pub rows-smaller-in_default-id : goal.rows-smaller-in_default-id
 rows-smaller-in_default-id g c =
     let reading = g.R.Reader.reading in
     let kept = c.args.kept.now in
     let w = c.rows.invariant in
-    let walk = subst (λ (o : Option (Option UnitEntryId × UnitEntryId)). WalksKept reading c.args.read.unit.now kept w.front w.rest c.next.new.self c.next.new.entry (Ok o)) c.in-Some.is (c.in_ok-id.ensures c.args.read.unit.now kept w.front w.rest w.stands) in
+    let walk = subst (λ (o : Option (Option UnitEntryId × UnitEntryId)). WalksKept reading c.args.read.unit.now kept w.front w.rest c.next.new.self c.next.new.entry (Ok o)) c.in-Some.is (c.in_ok-id.ensures.walks c.args.read.unit.now kept w.front w.rest w.stands) in
     one_less kept reading c.args.read c.rows.rows c.next.new.self w.front w.rest c.next.new.entry c.in-Some.id c.in-Some.parent.0 w.stands walk.0 (g.met.R.Reader.is_reading c.next.new.self.rows.rows.input)
 
 pub rows-preserved-in_default-id : goal.rows-preserved-in_default-id
@@ -33,7 +33,7 @@ rows-preserved-in_default-id g c =
     let reading = g.R.Reader.reading in
     let kept = c.args.kept.now in
     let w = c.rows.invariant in
-    let walk = subst (λ (o : Option (Option UnitEntryId × UnitEntryId)). WalksKept reading c.args.read.unit.now kept w.front w.rest c.next.new.self c.next.new.entry (Ok o)) c.in-Some.is (c.in_ok-id.ensures c.args.read.unit.now kept w.front w.rest w.stands) in
+    let walk = subst (λ (o : Option (Option UnitEntryId × UnitEntryId)). WalksKept reading c.args.read.unit.now kept w.front w.rest c.next.new.self c.next.new.entry (Ok o)) c.in-Some.is (c.in_ok-id.ensures.walks c.args.read.unit.now kept w.front w.rest w.stands) in
     let hands = subst (λ (o : Option UnitEntryId). HandsOutKept reading c.args.read.unit.now kept w.front w.rest c.next.new.self c.next.new.entry o c.in-Some.parent.0) c.in_default-id.is walk.0 in
     converted_past kept reading _ _ _ c.args.read _ c.args.unit.now _ c.requires.ready c.rows.rows c.next.new.self c.rows.unit _ c.next.new.entry c.in-Some.parent.0 w hands
 
@@ -45,7 +45,7 @@ convert_entry-requires-clause-id_in g c =
     let reading = g.R.Reader.reading in
     let kept = c.args.kept.now in
     let w = c.rows.invariant in
-    let walk = subst (λ (o : Option (Option UnitEntryId × UnitEntryId)). WalksKept reading c.args.read.unit.now kept w.front w.rest c.next.new.self c.next.new.entry (Ok o)) c.in-Some.is (c.in_ok-id.ensures c.args.read.unit.now kept w.front w.rest w.stands) in
+    let walk = subst (λ (o : Option (Option UnitEntryId × UnitEntryId)). WalksKept reading c.args.read.unit.now kept w.front w.rest c.next.new.self c.next.new.entry (Ok o)) c.in-Some.is (c.in_ok-id.ensures.walks c.args.read.unit.now kept w.front w.rest w.stands) in
     let hands = subst (λ (o : Option UnitEntryId). HandsOutKept reading c.args.read.unit.now kept w.front w.rest c.next.new.self c.next.new.entry o c.in-Some.parent.0) c.in-Some-id.is walk.0 in
     id_in kept reading _ _ _ c.args.read _ c.args.unit.now _ c.requires.ready c.rows.rows c.next.new.self c.rows.unit _ c.next.new.entry c.in-Some-id.id c.in-Some.parent.0 w hands
 
@@ -54,7 +54,7 @@ convert_entry-requires-clause-parent_in g c =
     let reading = g.R.Reader.reading in
     let kept = c.args.kept.now in
     let w = c.rows.invariant in
-    let walk = subst (λ (o : Option (Option UnitEntryId × UnitEntryId)). WalksKept reading c.args.read.unit.now kept w.front w.rest c.next.new.self c.next.new.entry (Ok o)) c.in-Some.is (c.in_ok-id.ensures c.args.read.unit.now kept w.front w.rest w.stands) in
+    let walk = subst (λ (o : Option (Option UnitEntryId × UnitEntryId)). WalksKept reading c.args.read.unit.now kept w.front w.rest c.next.new.self c.next.new.entry (Ok o)) c.in-Some.is (c.in_ok-id.ensures.walks c.args.read.unit.now kept w.front w.rest w.stands) in
     let hands = subst (λ (o : Option UnitEntryId). HandsOutKept reading c.args.read.unit.now kept w.front w.rest c.next.new.self c.next.new.entry o c.in-Some.parent.0) c.in-Some-id.is walk.0 in
     parent_in kept reading _ _ _ c.args.read _ c.args.unit.now _ c.requires.ready c.rows.rows c.next.new.self c.rows.unit _ c.next.new.entry c.in-Some-id.id c.in-Some.parent.0 w hands
 
@@ -63,7 +63,7 @@ convert_entry-requires-clause-tagged g c =
     let reading = g.R.Reader.reading in
     let kept = c.args.kept.now in
     let w = c.rows.invariant in
-    let walk = subst (λ (o : Option (Option UnitEntryId × UnitEntryId)). WalksKept reading c.args.read.unit.now kept w.front w.rest c.next.new.self c.next.new.entry (Ok o)) c.in-Some.is (c.in_ok-id.ensures c.args.read.unit.now kept w.front w.rest w.stands) in
+    let walk = subst (λ (o : Option (Option UnitEntryId × UnitEntryId)). WalksKept reading c.args.read.unit.now kept w.front w.rest c.next.new.self c.next.new.entry (Ok o)) c.in-Some.is (c.in_ok-id.ensures.walks c.args.read.unit.now kept w.front w.rest w.stands) in
     walk.1 c.requires.ready.tagged
 
 pub convert_entry-requires-clause-not_yet : goal.convert_entry-requires-clause-not_yet
@@ -71,7 +71,7 @@ convert_entry-requires-clause-not_yet g c =
     let reading = g.R.Reader.reading in
     let kept = c.args.kept.now in
     let w = c.rows.invariant in
-    let walk = subst (λ (o : Option (Option UnitEntryId × UnitEntryId)). WalksKept reading c.args.read.unit.now kept w.front w.rest c.next.new.self c.next.new.entry (Ok o)) c.in-Some.is (c.in_ok-id.ensures c.args.read.unit.now kept w.front w.rest w.stands) in
+    let walk = subst (λ (o : Option (Option UnitEntryId × UnitEntryId)). WalksKept reading c.args.read.unit.now kept w.front w.rest c.next.new.self c.next.new.entry (Ok o)) c.in-Some.is (c.in_ok-id.ensures.walks c.args.read.unit.now kept w.front w.rest w.stands) in
     let hands = subst (λ (o : Option UnitEntryId). HandsOutKept reading c.args.read.unit.now kept w.front w.rest c.next.new.self c.next.new.entry o c.in-Some.parent.0) c.in-Some-id.is walk.0 in
     not_yet kept reading _ _ _ c.args.read _ c.args.unit.now _ c.requires.ready c.rows.rows c.next.new.self c.rows.unit _ c.next.new.entry c.in-Some-id.id c.in-Some.parent.0 w hands
 
@@ -83,7 +83,7 @@ returns-in_err-convert_entry-clause-err g c =
     let reading = g.R.Reader.reading in
     let kept = c.args.kept.now in
     let w = c.rows.invariant in
-    let walk = subst (λ (o : Option (Option UnitEntryId × UnitEntryId)). WalksKept reading c.args.read.unit.now kept w.front w.rest c.next.new.self c.next.new.entry (Ok o)) c.in-Some.is (c.in_ok-id.ensures c.args.read.unit.now kept w.front w.rest w.stands) in
+    let walk = subst (λ (o : Option (Option UnitEntryId × UnitEntryId)). WalksKept reading c.args.read.unit.now kept w.front w.rest c.next.new.self c.next.new.entry (Ok o)) c.in-Some.is (c.in_ok-id.ensures.walks c.args.read.unit.now kept w.front w.rest w.stands) in
     let hands = subst (λ (o : Option UnitEntryId). HandsOutKept reading c.args.read.unit.now kept w.front w.rest c.next.new.self c.next.new.entry o c.in-Some.parent.0) c.in-Some-id.is walk.0 in
     let q = is_err _ _ c.from_residual-in_err-convert_entry.ensures in
     rw q (⊎_elim (λ n. inl n) (λ r. inr (converted_refused kept reading _ _ _ c.args.read _ c.args.unit.now _ c.requires.ready c.rows.rows c.next.new.self c.rows.unit _ c.next.new.entry c.in-Some-id.id c.in-Some.parent.0 w hands _ r)) c.in_err-convert_entry.ensures.err)
@@ -93,7 +93,7 @@ rows-smaller g c =
     let reading = g.R.Reader.reading in
     let kept = c.args.kept.now in
     let w = c.rows.invariant in
-    let walk = subst (λ (o : Option (Option UnitEntryId × UnitEntryId)). WalksKept reading c.args.read.unit.now kept w.front w.rest c.next.new.self c.next.new.entry (Ok o)) c.in-Some.is (c.in_ok-id.ensures c.args.read.unit.now kept w.front w.rest w.stands) in
+    let walk = subst (λ (o : Option (Option UnitEntryId × UnitEntryId)). WalksKept reading c.args.read.unit.now kept w.front w.rest c.next.new.self c.next.new.entry (Ok o)) c.in-Some.is (c.in_ok-id.ensures.walks c.args.read.unit.now kept w.front w.rest w.stands) in
     one_less kept reading c.args.read c.rows.rows c.next.new.self w.front w.rest c.next.new.entry c.in-Some.id c.in-Some.parent.0 w.stands walk.0 (g.met.R.Reader.is_reading c.next.new.self.rows.rows.input)
 
 pub rows-preserved : goal.rows-preserved
@@ -101,7 +101,7 @@ rows-preserved g c =
     let reading = g.R.Reader.reading in
     let kept = c.args.kept.now in
     let w = c.rows.invariant in
-    let walk = subst (λ (o : Option (Option UnitEntryId × UnitEntryId)). WalksKept reading c.args.read.unit.now kept w.front w.rest c.next.new.self c.next.new.entry (Ok o)) c.in-Some.is (c.in_ok-id.ensures c.args.read.unit.now kept w.front w.rest w.stands) in
+    let walk = subst (λ (o : Option (Option UnitEntryId × UnitEntryId)). WalksKept reading c.args.read.unit.now kept w.front w.rest c.next.new.self c.next.new.entry (Ok o)) c.in-Some.is (c.in_ok-id.ensures.walks c.args.read.unit.now kept w.front w.rest w.stands) in
     let hands = subst (λ (o : Option UnitEntryId). HandsOutKept reading c.args.read.unit.now kept w.front w.rest c.next.new.self c.next.new.entry o c.in-Some.parent.0) c.in-Some-id.is walk.0 in
     converted_more kept reading _ _ _ c.args.read _ c.args.unit.now _ c.requires.ready c.rows.rows c.next.new.self c.rows.unit _ c.next.new.entry c.in-Some-id.id c.in-Some.parent.0 w hands c.convert_entry.new.unit _ (c.in_ok-convert_entry.ensures.ok hands.row.code)
 
@@ -110,7 +110,7 @@ returns-clause-ok g c =
     let reading = g.R.Reader.reading in
     let kept = c.args.kept.now in
     let w = c.rows.invariant in
-    let walk = subst (λ (o : Option (Option UnitEntryId × UnitEntryId)). WalksKept reading c.args.read.unit.now kept w.front w.rest c.next.new.self c.next.new.entry (Ok o)) c.in_default.is (c.in_ok-id.ensures c.args.read.unit.now kept w.front w.rest w.stands) in
+    let walk = subst (λ (o : Option (Option UnitEntryId × UnitEntryId)). WalksKept reading c.args.read.unit.now kept w.front w.rest c.next.new.self c.next.new.entry (Ok o)) c.in_default.is (c.in_ok-id.ensures.walks c.args.read.unit.now kept w.front w.rest w.stands) in
     converted_end kept reading _ _ _ c.args.read _ c.args.unit.now _ c.requires.ready c.rows.rows c.next.new.self c.rows.unit _ w walk
 
 pub returns-in_err-id-clause-ok : goal.returns-in_err-id-clause-ok

@@ -22,6 +22,7 @@ returns-clause-ok g c =
     (λ added. record {
       read = c.in_ok-found.ensures.file;
       found = c.in_ok-found.ensures.ok;
+      kept = c.in_ok-found.ensures.kept;
       dwarf = ap (λ us. let d : DwarfValue = record (dwarf_in c.args.self.now) { units = us } in d) added;
       first = c.count-first.ensures;
       next = refl;

@@ -1,57 +1,53 @@
-use Rattle.std.proofs.Common.{◌∙◌, ap, subst, Some, inl, inr, ⊎_elim}
-use Rattle.std.proofs.lemmas.Result.{err_from_is_err_and}
+use Rattle.std.proofs.Common.{sym, ap, subst, List, Some, length, inl, inr, ⊎_elim}
+use Rattle.dw_read_units.specs.declared.dwarf.Unit.{Unit as UnitFields}
 use Rattle.dw_convert_lines.specs.Views.{tables}
 use Rattle.dw_entry_ids.specs.KeptRows.{keep_of}
-use Rattle.dw_entry_ids.proofs.FirstLaws.{behind_each}
-use Rattle.dw_dwarf.specs.ConvertedUnits.{ConvertsKept, RefusesKept}
+use Rattle.dw_dwarf.specs.ConvertedUnits.{AreClosed, FoundBecome, RefusesOne}
 use Rattle.dw_dwarf.specs.DwarfValue.{DwarfValue, dwarf_in}
-use Rattle.dw_dwarf.proofs.Filtering.{closed_held, entries_missed, keeps_are, units_are}
-use Rattle.dw_dwarf.proofs.Setting.{and_ok, and_err}
+use Rattle.dw_dwarf.proofs.Setting.{and_ok, and_err, is_err}
+use Rattle.dw_dwarf.proofs.UnitSteps.{all_read_kept}
+use Rattle.dw_dwarf.proofs.WholeFilter.{filtered_whole}
+use Rattle.std.proofs.lemmas.Result.{IfOk-weaker}
 use Rattle.dw_dwarf.proofs.dwarf.Dwarf.from_filter.Goals as goal
 
-pub kept_entries-requires : goal.kept_entries-requires
-kept_entries-requires g c = rw c.deref.ensures.value (behind_each g.R.Reader.reading c.dwarf-read.result.now 0 c.in_ok-units.units.items c.in_ok-units.ensures.in_order)
-
-pub returns-in_err-kept-clause-err : goal.returns-in_err-kept-clause-err
-returns-in_err-kept-clause-err g c =
+pub convert_found-requires-clause-read : goal.convert_found-requires-clause-read
+convert_found-requires-clause-read g c =
     let reading = g.R.Reader.reading in
-    let us = c.in_ok-units.units.items in
-    let f = c.args.filter in
-    let p = err_from_is_err_and c.from_residual-in_err-kept.result c.from_residual-in_err-kept.ensures.1 in
-    let are = units_are reading f c.dwarf-read.result c.counts.result.now us c.dwarf-read.ensures c.counts.ensures c.in_ok-units.ensures.first in
-    rw (p.1, p.2) (⊎_elim inl (λ why. inr (inr (inl (entries_missed reading f c.dwarf-read.result c.counts-2.result.now us c.dwarf-read.ensures c.counts-2.ensures c.deref.result.now _ c.deref.ensures.value are why)))) c.in_err-kept.ensures.err)
+    let given = c.in_ok-given.given in
+    let n = c.in_ok-given.ensures.ok in
+    let keep = keep_of (Some n.places) in
+    let closed = subst (λ (us : List (UnitFields _ _)). AreClosed keep reading us) (sym n.numbered.held) n.closed in
+    rw (n.is, c.in_ok-given.ensures.file) (all_read_kept reading c.args.filter.dwarf.now keep given.found.units.items n.numbered.units n.numbered.numbered closed)
 
-pub at-requires : goal.at-requires
-at-requires g c = rw c.deref-2.ensures.value c.in_ok-kept.ensures.sorted
+pub returns-in_err-given-clause-err : goal.returns-in_err-given-clause-err
+returns-in_err-given-clause-err g c = rw (is_err _ _ c.from_residual.ensures) (⊎_elim inl (λ why. inr (inl why)) c.in_err-given.ensures.err)
 
-pub convert_kept-requires-clause-closed : goal.convert_kept-requires-clause-closed
-convert_kept-requires-clause-closed g c =
-    let reading = g.R.Reader.reading in
-    let us = c.in_ok-units.units.items in
-    let kept = c.in_ok-kept.kept.items in
-    let closed = rw c.deref.ensures.value at c.in_ok-kept.ensures.closed in
-    rw (c.at.ensures, c.deref-2.ensures.value) (closed_held reading (keep_of (Some kept)) us (closed c.in_ok-units.ensures.in_order))
+pub returns-in_err-given-clause-ok : goal.returns-in_err-given-clause-ok
+returns-in_err-given-clause-ok g c = rw (is_err _ _ c.from_residual.ensures) tt
 
 pub returns-clause-ok : goal.returns-clause-ok
 returns-clause-ok g c =
     let reading = g.R.Reader.reading in
     let answers = goal.F-post g c.args.convert_address.now in
-    let us = c.in_ok-units.units.items in
     let f = c.args.filter in
-    let kept = c.in_ok-kept.kept.items in
-    let new = c.convert_kept.new in
+    let given = c.in_ok-given.given in
+    let n = c.in_ok-given.ensures.ok in
+    let new = c.convert_found.new in
     let none = dwarf_in c.new-dwarf.result in
-    let same = c.at.ensures ∙ ap (λ xs. Some xs) c.deref-2.ensures.value in
+    let items = given.found.units.items in
     rw c.and.ensures
-    (and_ok _ _ c.convert_kept.result c.convert_kept.ensures.ok
-    (λ converts. record {
-      units = us;
-      are = units_are reading f c.dwarf-read.result c.counts.result.now us c.dwarf-read.ensures c.counts.ensures c.in_ok-units.ensures.first;
-      kept = kept;
-      keeps = keeps_are reading f c.dwarf-read.result c.counts-2.result.now us c.dwarf-read.ensures c.counts-2.ensures c.deref.result.now c.required.result.now kept c.deref.ensures.value c.required.ensures c.in_ok-kept.ensures.sorted c.in_ok-kept.ensures.kept;
-      become = subst (λ (v : DwarfValue). ConvertsKept (keep_of (Some kept)) reading answers f.dwarf.now us v.units (tables v.strings v.line_strings) new.units (tables new.strings new.line_strings)) c.new-dwarf.ensures
-          (subst (λ d. ConvertsKept (keep_of (Some kept)) reading answers d us none.units (tables none.strings none.line_strings) new.units (tables new.strings new.line_strings)) (ap (λ b. b.now) c.dwarf-read.ensures)
-          (subst (λ k. ConvertsKept (keep_of k) reading answers c.dwarf-read.result.now us none.units (tables none.strings none.line_strings) new.units (tables new.strings new.line_strings)) same converts));
+    (and_ok _ _ c.convert_found.result c.convert_found.ensures.ok
+    (λ b.
+    let become =
+    subst (λ (v : DwarfValue). FoundBecome (keep_of (Some n.places)) reading answers f.dwarf.now given.found.ids (length v.units) items v.units (tables v.strings v.line_strings) new.units (tables new.strings new.line_strings)) c.new-dwarf.ensures
+    (subst (λ d. FoundBecome (keep_of (Some n.places)) reading answers d given.found.ids (length none.units) items none.units (tables none.strings none.line_strings) new.units (tables new.strings new.line_strings)) c.in_ok-given.ensures.file
+    (subst (λ k. FoundBecome (keep_of k) reading answers given.read.now given.found.ids (length none.units) items none.units (tables none.strings none.line_strings) new.units (tables new.strings new.line_strings)) n.is b)) in
+    record {
+      units = n.units;
+      are = n.are;
+      kept = n.places;
+      keeps = n.keeps;
+      become = record { found = given.found; read = n.numbered; built = become.built; become = become.become; added = become.added };
       programs = ap (λ (v : DwarfValue). v.line_programs) c.new-dwarf.ensures;
     }))
 
@@ -59,19 +55,30 @@ pub returns-clause-err : goal.returns-clause-err
 returns-clause-err g c =
     let reading = g.R.Reader.reading in
     let answers = goal.F-post g c.args.convert_address.now in
-    let us = c.in_ok-units.units.items in
     let f = c.args.filter in
-    let kept = c.in_ok-kept.kept.items in
+    let given = c.in_ok-given.given in
+    let n = c.in_ok-given.ensures.ok in
     let none = dwarf_in c.new-dwarf.result in
-    let same = c.at.ensures ∙ ap (λ xs. Some xs) c.deref-2.ensures.value in
+    let items = given.found.units.items in
     rw c.and.ensures
-    (and_err _ c.convert_kept.result c.convert_kept.ensures.err
-    (λ e. ⊎_elim inl (λ refuses. inr (inr (inr (record {
-      units = us;
-      are = units_are reading f c.dwarf-read.result c.counts.result.now us c.dwarf-read.ensures c.counts.ensures c.in_ok-units.ensures.first;
-      kept = kept;
-      keeps = keeps_are reading f c.dwarf-read.result c.counts-2.result.now us c.dwarf-read.ensures c.counts-2.ensures c.deref.result.now c.required.result.now kept c.deref.ensures.value c.required.ensures c.in_ok-kept.ensures.sorted c.in_ok-kept.ensures.kept;
-      refuses = subst (λ (v : DwarfValue). RefusesKept (keep_of (Some kept)) reading answers f.dwarf.now us v.units (tables v.strings v.line_strings) e) c.new-dwarf.ensures
-          (subst (λ d. RefusesKept (keep_of (Some kept)) reading answers d us none.units (tables none.strings none.line_strings) e) (ap (λ b. b.now) c.dwarf-read.ensures)
-          (subst (λ k. RefusesKept (keep_of k) reading answers c.dwarf-read.result.now us none.units (tables none.strings none.line_strings) e) same refuses));
-    }))))))
+    (and_err _ c.convert_found.result c.convert_found.ensures.err
+    (λ e. ⊎_elim inl (λ refuses. inr (inr (record {
+      units = n.units;
+      are = n.are;
+      kept = n.places;
+      keeps = n.keeps;
+      refuses = inr (record {
+        found = given.found;
+        read = n.numbered;
+        refused =
+            subst (λ (v : DwarfValue). RefusesOne (keep_of (Some n.places)) reading answers f.dwarf.now given.found.ids (length v.units) items (tables v.strings v.line_strings) e) c.new-dwarf.ensures
+            (subst (λ d. RefusesOne (keep_of (Some n.places)) reading answers d given.found.ids (length none.units) items (tables none.strings none.line_strings) e) c.in_ok-given.ensures.file
+            (subst (λ k. RefusesOne (keep_of k) reading answers given.read.now given.found.ids (length none.units) items (tables none.strings none.line_strings) e) n.is refuses));
+      });
+    })))))
+
+pub returns-clause-whole : goal.returns-clause-whole
+returns-clause-whole g c = λ h.
+    let reading = g.R.Reader.reading in
+    let answers = goal.F-post g c.args.convert_address.now in
+    IfOk-weaker _ _ _ (λ v w. filtered_whole reading g.met.R.Reader.is_reading c.args.filter answers (dwarf_in v) h w) (returns-clause-ok g c)

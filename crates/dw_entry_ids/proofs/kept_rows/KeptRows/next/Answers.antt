@@ -9,17 +9,17 @@ use Rattle.dw_entry_ids.specs.declared.kept_rows.KeptRows.{KeptRows}
 use Rattle.dw_entry_ids.proofs.KeptSteps.{hands, place_within, room}
 use Rattle.dw_entry_ids.proofs.kept_rows.KeptRows.next.Goals as goal
 
-pub returns-in_err-parent : goal.returns-in_err-parent
-returns-in_err-parent g c = λ u kept front rest s.
+pub returns-in_err-parent-clause-walks : goal.returns-in_err-parent-clause-walks
+returns-in_err-parent-clause-walks g c = λ u kept front rest s.
     let p = err_from_is_err_and c.from_residual.result c.from_residual.ensures.1 in
     rw (p.1, p.2) (c.in_err-parent.ensures.walks u front rest s.rows)
 
-pub returns-in_default : goal.returns-in_default
-returns-in_default g c = λ u kept front rest s.
+pub returns-in_default-clause-walks : goal.returns-in_default-clause-walks
+returns-in_default-clause-walks g c = λ u kept front rest s.
     subst (λ (o : Option (UnitEntryId × UnitEntryId)). WalksOn g.R.Reader.reading u front rest c.next.new.self c.next.new.entry (Ok o)) c.in_default.is (c.in_ok-parent.ensures.walks u front rest s.rows)
 
-pub returns-then-not-keeps_numbered : goal.returns-then-not-keeps_numbered
-returns-then-not-keeps_numbered g c = λ u kept front rest s.
+pub returns-then-not-keeps_numbered-clause-walks : goal.returns-then-not-keeps_numbered-clause-walks
+returns-then-not-keeps_numbered-clause-walks g c = λ u kept front rest s.
     let reading = g.R.Reader.reading in
     let old = c.args.self.now in
     let new : KeptRows _ _ = record { rows = c.next.new.self; kept = old.kept; start = old.start; count = old.count; images = c.push.new.self } in
@@ -36,8 +36,8 @@ returns-then-not-keeps_numbered g c = λ u kept front rest s.
       w.1,
     )
 
-pub returns : goal.returns
-returns g c = λ u kept front rest s.
+pub returns-clause-walks : goal.returns-clause-walks
+returns-clause-walks g c = λ u kept front rest s.
     let reading = g.R.Reader.reading in
     let old = c.args.self.now in
     let new : KeptRows _ _ = record { rows = c.next.new.self; kept = old.kept; start = old.start; count = c.saturating_add-self.result; images = c.push-2.new.self } in

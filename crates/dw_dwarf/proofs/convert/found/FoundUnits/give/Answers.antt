@@ -9,6 +9,7 @@ returns g c = record {
   dwarf = refl;
   unit = refl;
   entries = refl;
+  kept = refl;
   ids = c.new-2.ensures.ids;
   number = ap (λ u. u.0) c.new-2.ensures.unit ∙ c.new.ensures;
   start = c.new-2.ensures.start ∙ ap (λ o. o.0) c.offset-start.ensures;

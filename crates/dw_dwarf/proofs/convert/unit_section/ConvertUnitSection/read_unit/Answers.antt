@@ -4,7 +4,7 @@ use Rattle.dw_dwarf.proofs.SectionSteps.{root_or_refused}
 use Rattle.dw_dwarf.specs.Converters.{held}
 use Rattle.dw_dwarf.specs.FoundUnits.{IsGiven}
 use Rattle.dw_dwarf.specs.Readable.{rows_held}
-use Rattle.dw_entry_ids.specs.UnitCursor.{StandsBetween}
+use Rattle.dw_entry_ids.specs.KeptWalk.{StandsKept}
 use Rattle.dw_dwarf.proofs.convert.unit_section.ConvertUnitSection.read_unit.Goals as goal
 
 pub returns : goal.returns
@@ -18,8 +18,8 @@ returns g c =
     let same = c.read_entry.ensures.others in
     let given : new.given ≡ c.give-given.result = ap (λ x. x.given) same ∙ of.given in
     let stands =
-    subst (λ a. StandsBetween reading a.read.unit.now held_of [] (rows_held reading (held new))) (sym of.given)
-    (subst (λ b. StandsBetween reading c.give-given.result.read.unit.now held_of [] (rows_held reading b.read.unit.now)) (sym given) of.rows) in
+    subst (λ a. StandsKept reading a.read.unit.now a.kept.now held_of [] (rows_held reading (held new))) (sym of.given)
+    (subst (λ b. StandsKept reading c.give-given.result.read.unit.now c.give-given.result.kept.now held_of [] (rows_held reading b.read.unit.now)) (sym given) of.rows) in
     rw c.and.ensures
     (root_or_refused reading new c.read_entry.new.entry s new.given.entries c.read_entry.result new.given.readable (c.read_entry.ensures.reads [] (rows_held reading (held new)) stands)
     (λ root. record {
