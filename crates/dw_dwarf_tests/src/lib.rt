@@ -17,6 +17,10 @@ mod entry_tests;
 #[cfg(test)]
 mod filling;
 #[cfg(test)]
+mod filtered_files;
+#[cfg(test)]
+mod filtering;
+#[cfg(test)]
 mod finding;
 #[cfg(test)]
 mod line_programs;

@@ -13,7 +13,7 @@ use std::alloc::Global;
 pub(crate) type Slice<'a> = EndianSlice<'a, RunTimeEndian>;
 
 /// A reader of these bytes. No proof but this function's knows what it reads.
-fn reader(bytes: &[u8], endian: RunTimeEndian) -> Slice<'_> {
+pub(crate) fn reader(bytes: &[u8], endian: RunTimeEndian) -> Slice<'_> {
     EndianSlice::new(bytes, endian)
 }
 

@@ -2,7 +2,7 @@
 
 use crate::table_files::{FILES, endian};
 use crate::writing::{Job, write};
-use crate::{alone, converting, line_programs, units};
+use crate::{alone, converting, filtering, line_programs, units};
 use dw_dwarf::{Error, RunTimeEndian};
 use std::alloc::Global;
 
@@ -41,6 +41,15 @@ fn fills_in_what_a_unit_leaves_open(rt: HostRuntime) {
 fn writes_what_it_converts(rt: HostRuntime) {
     for (name, row) in converting::rows() {
         let is_so = is_answered(rt.alloc(), LITTLE, Job::Conversion(*row), None);
+        assert!(rt; is_so, "{name}");
+    }
+}
+
+#[test]
+fn writes_what_a_filter_keeps(rt: HostRuntime) {
+    for (name, endian, row) in filtering::rows() {
+        let job = Job::Filtering(*endian, *row);
+        let is_so = is_answered(rt.alloc(), *endian, job, None);
         assert!(rt; is_so, "{name}");
     }
 }
