@@ -1,6 +1,7 @@
 mod abbreviations;
 mod filters;
 mod frames;
+mod graphs;
 mod input;
 mod joined;
 mod kept;
