@@ -29,7 +29,10 @@ const LITTLE: RunTimeEndian = RunTimeEndian::Little;
 
 const BIG_FIRST: RunTimeEndian = RunTimeEndian::Big;
 
-const ROWS: &[(&str, RunTimeEndian, Filtering)] = &[
+/// A name, the order of bytes, and what is filtered.
+pub(crate) type Row = (&'static str, RunTimeEndian, Filtering);
+
+const TREES: &[Row] = &[
     ("a variable", LITTLE, (&TREE, &[(6, &[19])], Ok(&VARIABLE))),
     (
         "a function leads to its variable",
@@ -47,6 +50,9 @@ const ROWS: &[(&str, RunTimeEndian, Filtering)] = &[
         LITTLE,
         (&TREE, &[(0, &[19, 37])], Ok(&ALONE)),
     ),
+];
+
+const PLACES: &[Row] = &[
     (
         "the root, within an entry, and null entries",
         LITTLE,
@@ -72,6 +78,9 @@ const ROWS: &[(&str, RunTimeEndian, Filtering)] = &[
         LITTLE,
         (&TREE, &[(4, &[19])], Err(ConvertError::InvalidUnitRef)),
     ),
+];
+
+const STRUCTURES: &[Row] = &[
     (
         "a structure",
         LITTLE,
@@ -97,6 +106,9 @@ const ROWS: &[(&str, RunTimeEndian, Filtering)] = &[
         LITTLE,
         (&STRUCTURE, &[(12, &[35])], Ok(&WITHIN)),
     ),
+];
+
+const UNITS: &[Row] = &[
     (
         "a type in a later unit",
         LITTLE,
@@ -117,6 +129,9 @@ const ROWS: &[(&str, RunTimeEndian, Filtering)] = &[
         LITTLE,
         (&TWO, &[(3, &[])], Ok(&ONE_ROOT)),
     ),
+];
+
+const UNREAD: &[Row] = &[
     ("no unit was read", LITTLE, (&TWO, &[], Ok(&NONE))),
     (
         "a type in a unit that wasn't read",
@@ -132,6 +147,9 @@ const ROWS: &[(&str, RunTimeEndian, Filtering)] = &[
             Err(ConvertError::InvalidDebugInfoRef),
         ),
     ),
+];
+
+const ORDERS: &[Row] = &[
     (
         "the highest byte first",
         BIG_FIRST,
@@ -142,6 +160,9 @@ const ROWS: &[(&str, RunTimeEndian, Filtering)] = &[
         BIG_FIRST,
         (&BIG, &[(3, &[29]), (4, &[])], Ok(&BIG_NAMES)),
     ),
+];
+
+const PARTS: &[Row] = &[
     (
         "a location list",
         LITTLE,
@@ -157,6 +178,9 @@ const ROWS: &[(&str, RunTimeEndian, Filtering)] = &[
         LITTLE,
         (&NAMED, &[(2, &[22])], Ok(&ONE_NAME)),
     ),
+];
+
+const FAULTS: &[Row] = &[
     (
         "an expression up to its fault, not kept",
         LITTLE,
@@ -192,9 +216,50 @@ const ROWS: &[(&str, RunTimeEndian, Filtering)] = &[
     ),
 ];
 
-/// The table, into which no other proof looks.
-pub(crate) fn rows() -> &'static [(&'static str, RunTimeEndian, Filtering)] {
-    ROWS
+fn trees() -> &'static [Row] {
+    TREES
+}
+
+fn places() -> &'static [Row] {
+    PLACES
+}
+
+fn structures() -> &'static [Row] {
+    STRUCTURES
+}
+
+fn units() -> &'static [Row] {
+    UNITS
+}
+
+fn unread() -> &'static [Row] {
+    UNREAD
+}
+
+fn orders() -> &'static [Row] {
+    ORDERS
+}
+
+fn parts() -> &'static [Row] {
+    PARTS
+}
+
+fn faults() -> &'static [Row] {
+    FAULTS
+}
+
+/// The tables. Each stands behind a function, so that no other proof looks into it.
+pub(crate) fn tables() -> [&'static [Row]; 8] {
+    [
+        trees(),
+        places(),
+        structures(),
+        units(),
+        unread(),
+        orders(),
+        parts(),
+        faults(),
+    ]
 }
 
 /// A file's sections, to be read.
@@ -214,13 +279,19 @@ fn sections_of(file: &'static File, endian: RunTimeEndian) -> ReadDwarf<Slice<'s
     }
 }
 
+/// Requires an offset of a unit, if it lies inside.
+fn require_one(unit: &mut FilterUnit<'_, Slice<'_>>, offset: UnitOffset) -> ConvertResult<()> {
+    let read = unit.read_unit;
+    if read.contains(offset) {
+        unit.require_entry(offset)?;
+    }
+    Ok(())
+}
+
 /// Requires these offsets of a unit.
 fn require(unit: &mut FilterUnit<'_, Slice<'_>>, offsets: &[usize]) -> ConvertResult<()> {
-    let read = unit.read_unit;
     for offset in offsets {
-        if read.contains(UnitOffset(*offset)) {
-            unit.require_entry(UnitOffset(*offset))?;
-        }
+        require_one(unit, UnitOffset(*offset))?;
     }
     Ok(())
 }

@@ -45,12 +45,27 @@ fn writes_what_it_converts(rt: HostRuntime) {
     }
 }
 
+/// Tells whether what is written under the filter of a row is what the row wants.
+fn is_filtered(alloc: Global, row: &filtering::Row) -> bool {
+    let (_, endian, filtering) = *row;
+    is_answered(alloc, endian, Job::Filtering(endian, filtering), None)
+}
+
+/// The name of the first row of a table that is written otherwise.
+fn first_missed(alloc: Global, rows: &'static [filtering::Row]) -> Option<&'static str> {
+    for row in rows {
+        if !is_filtered(alloc, row) {
+            return Some(row.0);
+        }
+    }
+    None
+}
+
 #[test]
 fn writes_what_a_filter_keeps(rt: HostRuntime) {
-    for (name, endian, row) in filtering::rows() {
-        let job = Job::Filtering(*endian, *row);
-        let is_so = is_answered(rt.alloc(), *endian, job, None);
-        assert!(rt; is_so, "{name}");
+    for rows in filtering::tables() {
+        let missed = first_missed(rt.alloc(), rows);
+        assert!(rt; missed.is_none(), "{}", missed.unwrap_or(""));
     }
 }
 
