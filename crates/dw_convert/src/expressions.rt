@@ -24,9 +24,10 @@ use dw_read_units::UnitRef;
 use dw_sources::{ConvertError, ConvertResult, Operation as ReadOperation};
 use std::alloc::Global;
 
-/// How many expressions may stand within each other, the outermost counted. What is built takes the
-/// machine's stack for each of them when it is written or dropped, so no deeper one is built.
-const MAX_DEPTH: usize = 64;
+/// How many expressions may stand within each other, the outermost counted. Each of them takes the
+/// machine's stack when it is converted, and what is built when it is written or dropped, so no
+/// deeper one is built. In a program that LLVM builds, so many pass on a stack of 1 MB.
+const MAX_DEPTH: usize = 512;
 
 /// Converts an expression: each operation becomes the one of the same meaning. Addresses become
 /// what `convert_address` answers for them, entries what `refs` knows of their places, and a branch
@@ -34,8 +35,8 @@ const MAX_DEPTH: usize = 64;
 ///
 /// Refused are an address without an answer (`InvalidAddress`), an index without a unit
 /// (`UnsupportedOperation`), a branch that leads neither to the begin of an operation nor to the
-/// end (`InvalidBranchTarget`), and what `refs` doesn't know. More than 64 expressions within each
-/// other are `NoMemory`.
+/// end (`InvalidBranchTarget`), and what `refs` doesn't know. More than 512 expressions within each
+/// other are `NoMemory`; up to 512 their depth is no cause of it.
 ///
 /// ```
 /// let address = |address| Some(Address::Constant(address));
@@ -141,7 +142,9 @@ fn convert_operation<R: Reader, C: ConvertDebugInfoRef, F: Fn(u64) -> Option<Add
 }
 
 /// Converts an operation without an expression within it, by the table of the operations that were
-/// read. It is one match, since each of them has a row there.
+/// read. It is one match, since each of them has a row there. What it keeps on the stack stays out
+/// of the frames of `convert_within`, which stand there once for each level.
+#[inline(never)]
 fn convert_flat<R: Reader, C: ConvertDebugInfoRef, F: Fn(u64) -> Option<Address>>(
     alloc: Global,
     step: &Step<R>,

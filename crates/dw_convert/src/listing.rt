@@ -28,7 +28,9 @@ pub(crate) struct Listing<R: Reader> {
     pub(crate) begins: Vec<usize>,
 }
 
-/// Reads an expression to its end.
+/// Reads an expression to its end. It is never made part of its caller, whose frames stand on the
+/// stack once for each expression around this one.
+#[inline(never)]
 pub(crate) fn read_listing<R: Reader>(
     alloc: Global,
     expression: Expression<R>,

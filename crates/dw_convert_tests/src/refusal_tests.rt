@@ -87,11 +87,11 @@ pub(crate) fn refusal(
     }
 }
 
-/// So many expressions within each other, up to 65, with the size of each in two bytes: the bytes,
+/// So many expressions within each other, up to 513, with the size of each in two bytes: the bytes,
 /// of which the others are none of them.
-fn deep(depth: usize) -> [u8; 192] {
-    let mut bytes = [0; 192];
-    for level in 1..depth.min(65) {
+fn deep(depth: usize) -> [u8; 1536] {
+    let mut bytes = [0; 1536];
+    for level in 1..depth.min(513) {
         let size = depth.saturating_sub(level + 1).saturating_mul(3);
         let begin = (level - 1) * 3;
         bytes[begin] = 0xa3;
@@ -104,7 +104,7 @@ fn deep(depth: usize) -> [u8; 192] {
 /// Why so many expressions within each other are refused.
 fn refusal_of_deep(alloc: Global, depth: usize) -> Option<ConvertError> {
     let bytes = deep(depth);
-    let bytes = bytes.get(..depth.min(65).saturating_sub(1) * 3);
+    let bytes = bytes.get(..depth.min(513).saturating_sub(1) * 3);
     refusal(alloc, Kind::Expression, FIVE, bytes.unwrap_or_default())
 }
 
@@ -190,8 +190,8 @@ const ROWS: &[Row] = &[
         Given::Alone(b"\x9a\x02\x00\x00\x00"),
         Some(ConvertError::InvalidDebugInfoRef),
     ),
-    (Given::Deep(64), None),
-    (Given::Deep(65), Some(ConvertError::NoMemory)),
+    (Given::Deep(512), None),
+    (Given::Deep(513), Some(ConvertError::NoMemory)),
 ];
 
 /// They, of which no other proof sees more.
