@@ -253,6 +253,12 @@ fn add_others<'a>(
     Ok(())
 }
 
+/// Whether nothing was read into an entry.
+fn is_null(entry: &ConvertUnitEntry<'_, Slice>) -> bool {
+    let read = &entry.read_entry;
+    read.offset.0 == 0 && read.depth == 0 && read.tag.0 == 0 && !read.has_children
+}
+
 /// Converts a unit entry by entry, each read into the same entry, which the root was.
 fn add_unit<'a>(
     unit: &mut ConvertUnit<'a, Slice>,
@@ -261,6 +267,9 @@ fn add_unit<'a>(
     convert_lines(unit)?;
     set_all(unit, UnitEntryId::new(0), entry)?;
     *entry = unit.null_entry();
+    if !is_null(entry) {
+        return Err(WRONG);
+    }
     add_others(unit, entry)
 }
 

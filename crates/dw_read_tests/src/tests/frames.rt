@@ -31,6 +31,10 @@ const WIDE_FRAME: &[u8] = b"\xff\xff\xff\xff\x00\x00\x00\x00\x00\x00\x00\x10\
     \xff\xff\xff\xff\x00\x00\x00\x00\x00\x00\x00\x10\
     \x00\x00\x00\x00\x00\x00\x00\x00\x00\x00\x10\x00\x00\x00\x00\x20";
 
+// `.eh_frame` with two CIEs of version 1, with factors 1 and -8 and column 16, at 0 and at 16.
+const TWO_CIES: &[u8] = b"\x0c\x00\x00\x00\x00\x00\x00\x00\x01\x00\x01\x78\x10\x00\x00\x00\
+    \x0c\x00\x00\x00\x00\x00\x00\x00\x01\x00\x01\x78\x10\x00\x00\x00";
+
 /// An instruction with its first two numbers.
 type Told = (&'static str, u64, u64);
 
@@ -222,23 +226,24 @@ fn reads_the_entries_of_frames(rt: HostRuntime) {
     assert_eq!(rt; are_read, [true; 3]);
 }
 
-/// Why no common entry is read at a place of `EH_FRAME`, if none is.
-fn refusal_at(place: usize) -> Option<ReadError> {
-    let frames = EhFrame::new(little(EH_FRAME), 8);
+/// The place that the common entry tells which is read at a place of `.eh_frame`.
+fn place_at(section: &[u8], place: usize) -> ReadResult<usize> {
+    let frames = EhFrame::new(little(section), 8);
     match frames.cie_from_offset(place) {
-        Ok(_) => None,
-        Err(reason) => Some(reason),
+        Ok(cie) => Ok(cie.offset()),
+        Err(reason) => Err(reason),
     }
 }
 
 #[test]
 fn refuses_a_place_without_a_cie(rt: HostRuntime) {
-    for (place, refused) in [
-        (0, None),
-        (32, Some(ReadError::InvalidCiePointer(32))),
-        (56, Some(ReadError::InvalidCiePointer(56))),
-        (EH_FRAME.len() + 1, Some(ReadError::UnexpectedEof)),
+    for (section, place, wanted) in [
+        (EH_FRAME, 0, Ok(0)),
+        (TWO_CIES, 16, Ok(16)),
+        (EH_FRAME, 32, Err(ReadError::InvalidCiePointer(32))),
+        (EH_FRAME, 56, Err(ReadError::InvalidCiePointer(56))),
+        (EH_FRAME, EH_FRAME.len() + 1, Err(ReadError::UnexpectedEof)),
     ] {
-        assert!(rt; refusal_at(place) == refused, "at {place}");
+        assert!(rt; place_at(section, place) == wanted, "at {place}");
     }
 }

@@ -54,12 +54,21 @@ fn locations_offset(both: UnitRef<'_, Slice<'_>>, at: u64) -> ReadResult<u128> {
     Ok(both.locations_offset(at)?.0 as u128)
 }
 
+/// The number of a text that stands at its offset, in the order of its section; else the highest.
+fn number_at(text: &Slice<'_>, at: usize) -> u128 {
+    if text.place() == at && text.endian() == RunTimeEndian::Little {
+        number_of(text.to_slice())
+    } else {
+        u128::MAX
+    }
+}
+
 fn string(both: UnitRef<'_, Slice<'_>>, at: usize) -> ReadResult<u128> {
-    Ok(number_of(both.string(DebugStrOffset(at))?.to_slice()))
+    Ok(number_at(&both.string(DebugStrOffset(at))?, at))
 }
 
 fn line_string(both: UnitRef<'_, Slice<'_>>, at: usize) -> ReadResult<u128> {
-    Ok(number_of(both.line_string(DebugLineStrOffset(at))?.to_slice()))
+    Ok(number_at(&both.line_string(DebugLineStrOffset(at))?, at))
 }
 
 fn rows(alloc: Global, both: UnitRef<'_, Slice<'_>>, at: usize) -> ReadResult<u128> {
