@@ -1,6 +1,6 @@
 //! Numbers, decimal or in base 16.
 
-ghost use Rattle.std.specs.Prelude.{◌≡◌, ◌^◌, ◌<◌, option_and_then};
+ghost use Rattle.std.specs.Prelude.{◌≡◌, ◌^◌, ◌<◌, length, IfSome, option_and_then};
 ghost use Rattle.dw_ends.specs.Numbers.{below, digit_in, number_below, number_in};
 
 /// The number below 2^64 that a field spells: decimal digits, or `0x` and digits of base 16, of
@@ -10,7 +10,35 @@ pub fn number(field: &[u8]) -> Option<u64>
 {
     match field {
         [b'0', b'x', digits @ ..] => number_in_base(digits, 16),
+        _ if field.len() < 20 => short_decimal(field),
         _ => number_in_base(field, 10),
+    }
+}
+
+// The number that decimal digits spell, so few that it fits.
+fn short_decimal(digits: &[u8]) -> Option<u64>
+    requires { length digits.now < 20 }
+    ensures { result ≡ option_and_then (below (2 ^ 64)) (number_in 10 digits.now) }
+{
+    if digits.is_empty() {
+        return None;
+    }
+    let mut value = 0u64;
+    for byte in digits {
+        let digit = decimal_digit(*byte)?;
+        value = value * 10 + u64::from(digit);
+    }
+    Some(value)
+}
+
+// What a byte counts as a decimal digit.
+fn decimal_digit(byte: u8) -> Option<u8>
+    ensures digit { result ≡ digit_in 10 byte }
+    ensures few { IfSome result (λ digit. digit < 10) }
+{
+    match byte {
+        b'0'..=b'9' => Some(byte - b'0'),
+        _ => None,
     }
 }
 

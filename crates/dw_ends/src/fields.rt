@@ -36,11 +36,16 @@ fn is_passed_over(line: &[u8]) -> bool
     }
 }
 
-// Whether all bytes are of printable ASCII.
+// Whether all bytes are of printable ASCII. It goes on past a bad one, so that the processor can
+// look at several bytes at once.
 fn is_printable(line: &[u8]) -> bool
     ensures { result ≡ all_printable line.now }
 {
-    line.iter().all(|b| 0x20 <= *b && *b <= 0x7e)
+    let mut printable = true;
+    for byte in line {
+        printable &= 0x20 <= *byte && *byte <= 0x7e;
+    }
+    printable
 }
 
 /// Any field, as it stands; `WrongFields` where none is left.

@@ -83,10 +83,15 @@ fn is_decodable(digits: &[u8]) -> bool
     digits.len() % 2 == 0 && are_hex_digits(digits)
 }
 
+// Whether all bytes are digits of base 16, looked at as those of a line are.
 fn are_hex_digits(digits: &[u8]) -> bool
     ensures { result ≡ list_all is_digit digits.now }
 {
-    digits.iter().all(|b| is_hex_digit(*b))
+    let mut are_digits = true;
+    for byte in digits {
+        are_digits &= is_hex_digit(*byte);
+    }
+    are_digits
 }
 
 // Whether a byte is a digit of base 16, of either case.
