@@ -65,6 +65,9 @@ const STEP_WORDS: [(&[u8], StepWord); 35] = [
     (b"breg", StepWord::Pair(PairWord::RegisterOffset)),
     (b"reg", StepWord::Operation(OperationWord::Register)),
     (b"addr", StepWord::Operation(OperationWord::Address)),
+    (b"entry_value", StepWord::EntryValue),
+    (b"deref_type", StepWord::Pair(PairWord::DerefType)),
+    (b"convert", StepWord::Operation(OperationWord::Convert)),
     (
         b"plus_uconst",
         StepWord::Operation(OperationWord::PlusConstant),
@@ -80,7 +83,6 @@ const STEP_WORDS: [(&[u8], StepWord); 35] = [
     (b"deref", StepWord::Operation(OperationWord::Deref)),
     (b"deref_size", StepWord::Operation(OperationWord::DerefSize)),
     (b"piece", StepWord::Operation(OperationWord::Piece)),
-    (b"entry_value", StepWord::EntryValue),
     (b"raw", StepWord::Raw),
     (b"pick", StepWord::Operation(OperationWord::Pick)),
     (b"skip", StepWord::Operation(OperationWord::Skip)),
@@ -89,8 +91,6 @@ const STEP_WORDS: [(&[u8], StepWord); 35] = [
     (b"call_ref", StepWord::Operation(OperationWord::CallRef)),
     (b"const_type", StepWord::Pair(PairWord::ConstantType)),
     (b"regval_type", StepWord::Pair(PairWord::RegisterType)),
-    (b"deref_type", StepWord::Pair(PairWord::DerefType)),
-    (b"convert", StepWord::Operation(OperationWord::Convert)),
     (
         b"reinterpret",
         StepWord::Operation(OperationWord::Reinterpret),
