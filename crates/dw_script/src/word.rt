@@ -32,25 +32,26 @@ pub(crate) enum Word {
     End,
 }
 
+// A look-up goes through the table in order, so the words that come most often stand first.
 const WORDS: [(&[u8], Word); 19] = [
+    (b"set", Word::Set),
+    (b"add", Word::Add),
+    (b"row", Word::Row),
+    (b"sibling", Word::Sibling),
+    (b"loc", Word::Loc),
+    (b"str", Word::Str),
     (b"order", Word::Order),
     (b"unit", Word::Unit),
-    (b"add", Word::Add),
     (b"reserve", Word::Reserve),
     (b"add_reserved", Word::AddReserved),
-    (b"sibling", Word::Sibling),
-    (b"set", Word::Set),
     (b"delete", Word::Delete),
     (b"delete_child", Word::DeleteChild),
-    (b"str", Word::Str),
     (b"line_str", Word::LineStr),
     (b"range", Word::Range),
-    (b"loc", Word::Loc),
     (b"line", Word::Line),
     (b"dir", Word::Dir),
     (b"file", Word::File),
     (b"sequence", Word::Sequence),
-    (b"row", Word::Row),
     (b"end", Word::End),
 ];
 
