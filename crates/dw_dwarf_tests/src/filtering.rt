@@ -6,7 +6,7 @@ use crate::reading::{Slice, reader};
 use crate::writing::{Written, drop, refusal};
 use dw_base::constants::DwOp;
 use dw_base::{Address, RunTimeEndian, UnitOffset};
-use dw_dwarf::{ConvertResult, Dwarf, Result};
+use dw_dwarf::{ConvertResult, ConvertUnit, ConvertUnitEntry, ConvertUnitSection, Dwarf, Result};
 use dw_filter::{FilterUnit, FilterUnitSection};
 use dw_read::ReadError;
 use dw_read_units::Dwarf as ReadDwarf;
@@ -316,15 +316,94 @@ fn ask(filter: &mut FilterUnitSection<'_, Slice<'_>>, asked: &Asked) -> ConvertR
     Ok(())
 }
 
+/// How what is kept is converted.
+#[derive(Clone, Copy)]
+pub(crate) enum Way {
+    AtOnce,
+    UnitByUnit,
+}
+
+/// The same address.
+fn constant(address: u64) -> Option<Address> {
+    Some(Address::Constant(address))
+}
+
+/// Converts all of a fresh unit.
+fn convert_unit<'a>(
+    unit: &mut ConvertUnit<'a, Slice<'static>>,
+    root: ConvertUnitEntry<'a, Slice<'static>>,
+) -> ConvertResult<()> {
+    if !unit.is_fresh() {
+        return Err(ConvertError::UnsupportedOperation);
+    }
+    unit.convert(root, &|address| constant(address))
+}
+
+/// Converts the next unit of a filter, if there is one.
+fn convert_next(section: &mut ConvertUnitSection<'_, Slice<'static>>) -> ConvertResult<()> {
+    match section.read_unit()? {
+        Some((mut unit, root)) => {
+            let converted = convert_unit(&mut unit, root);
+            drop(unit);
+            converted
+        }
+        None => Ok(()),
+    }
+}
+
+/// Converts so many units of a filter.
+fn convert_each(
+    section: &mut ConvertUnitSection<'_, Slice<'static>>,
+    count: usize,
+) -> ConvertResult<()> {
+    for _ in 0..count {
+        convert_next(section)?;
+    }
+    Ok(())
+}
+
+/// Converts so many units of a filter, one by one.
+fn convert_units(
+    dwarf: &mut Dwarf,
+    filter: FilterUnitSection<'_, Slice<'static>>,
+    count: usize,
+) -> ConvertResult<()> {
+    let mut section = dwarf.convert_with_filter(filter)?;
+    let converted = convert_each(&mut section, count);
+    drop(section);
+    converted
+}
+
+/// What a filter keeps.
+fn converted(
+    alloc: Global,
+    way: Way,
+    filter: FilterUnitSection<'_, Slice<'static>>,
+    count: usize,
+) -> ConvertResult<Dwarf> {
+    match way {
+        Way::AtOnce => Dwarf::from_filter(alloc, filter, &|address| constant(address)),
+        Way::UnitByUnit => {
+            let mut dwarf = Dwarf::new(alloc);
+            convert_units(&mut dwarf, filter, count).and(Ok(dwarf))
+        }
+    }
+}
+
 /// What a file becomes.
-fn filtered(alloc: Global, endian: RunTimeEndian, row: Filtering) -> ConvertResult<Dwarf> {
+fn filtered(
+    alloc: Global,
+    endian: RunTimeEndian,
+    way: Way,
+    row: Filtering,
+) -> ConvertResult<Dwarf> {
     let (file, asked, _) = row;
     let sections = sections_of(file, endian);
     let mut filter = FilterUnitSection::new(alloc, &sections)?;
     for asked in asked {
         ask(&mut filter, asked)?;
     }
-    Dwarf::from_filter(alloc, filter, &|address| Some(Address::Constant(address)))
+    converted(alloc, way, filter, asked.len())
 }
 
 /// Tells whether these are the sections of a file.
@@ -341,10 +420,11 @@ fn holds(sections: &Written, file: &File) -> bool {
 pub(crate) fn write_filtered(
     alloc: Global,
     endian: RunTimeEndian,
+    way: Way,
     row: Filtering,
     sections: &mut Written,
 ) -> Result<Told> {
-    match (filtered(alloc, endian, row), row.2) {
+    match (filtered(alloc, endian, way, row), row.2) {
         (Ok(mut dwarf), Ok(file)) => {
             let refused = refusal(&mut dwarf, sections);
             drop(dwarf);

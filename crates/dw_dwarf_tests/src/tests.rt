@@ -1,5 +1,6 @@
 //! Whether what is written is as its tables have it.
 
+use crate::filtering::Way;
 use crate::table_files::{FILES, endian};
 use crate::writing::{Job, write};
 use crate::{alone, converting, filtering, line_programs, units};
@@ -48,7 +49,17 @@ fn writes_what_it_converts(rt: HostRuntime) {
 /// Tells whether what is written under the filter of a row is what the row wants.
 fn is_filtered(alloc: Global, row: &filtering::Row) -> bool {
     let (_, endian, filtering) = *row;
-    is_answered(alloc, endian, Job::Filtering(endian, filtering), None)
+    is_answered(
+        alloc,
+        endian,
+        Job::Filtering(endian, Way::AtOnce, filtering),
+        None,
+    ) && is_answered(
+        alloc,
+        endian,
+        Job::Filtering(endian, Way::UnitByUnit, filtering),
+        None,
+    )
 }
 
 /// The name of the first row of a table that is written otherwise.

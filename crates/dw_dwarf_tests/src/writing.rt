@@ -5,7 +5,7 @@ ghost use Rattle.dw_writer.specs.Sections.{NoFixups};
 use crate::alone::{Alone, write_alone};
 use crate::converting::{Conversion, write_converted};
 use crate::filling::fill_in;
-use crate::filtering::{Filtering, write_filtered};
+use crate::filtering::{Filtering, Way, write_filtered};
 use crate::line_programs::{Program, write_program};
 use crate::plans::{Told, write_root};
 use crate::table_files::write_file;
@@ -26,7 +26,7 @@ pub(crate) enum Job {
     Alone(Alone),
     Program(Program),
     Conversion(Conversion),
-    Filtering(RunTimeEndian, Filtering),
+    Filtering(RunTimeEndian, Way, Filtering),
     /// The file of a number of `table_files`.
     File(usize),
     /// What `filling` writes step by step.
@@ -52,7 +52,7 @@ fn write_into(alloc: Global, job: Job, dwarf: &mut Dwarf, sections: &mut Written
         Job::Alone(alone) => write_alone(alloc, alone, sections),
         Job::Program(program) => write_program(program, dwarf, sections),
         Job::Conversion(conversion) => write_converted(alloc, conversion, dwarf, sections),
-        Job::Filtering(endian, row) => write_filtered(alloc, endian, row, sections),
+        Job::Filtering(endian, way, row) => write_filtered(alloc, endian, way, row, sections),
         Job::File(file) => write_file(alloc, file, dwarf, sections),
         Job::Filling => fill_in(alloc, dwarf, sections),
     }
