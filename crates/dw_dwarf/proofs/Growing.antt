@@ -42,30 +42,30 @@ below_more k (x ∷ ps) p h e = (go h.0, below_more k ps p h.1 e)
     go (inr l) = inr (omega (arith, l))
 
 -- ---- changes of lists of entries
-changed_front : (i : ℕ) (f : EntryValue → EntryValue) (xs ys : List EntryValue) → i < length xs → with_changed i f (xs ++ ys) ≡ with_changed i f xs ++ ys
+pub changed_front : (i : ℕ) (f : EntryValue → EntryValue) (xs ys : List EntryValue) → i < length xs → with_changed i f (xs ++ ys) ≡ with_changed i f xs ++ ys
 changed_front i f [] ys l = absurd (omega (arith, l))
 changed_front zero f (x ∷ xs) ys l = refl
 changed_front (suc i) f (x ∷ xs) ys l = ap (λ (t : List EntryValue). x ∷ t) (changed_front i f xs ys (omega (arith, l)))
 
-changed_here : (i : ℕ) (f : EntryValue → EntryValue) (xs : List EntryValue) (y : EntryValue) (ys : List EntryValue) → i ≡ length xs → with_changed i f (xs ++ y ∷ ys) ≡ xs ++ f y ∷ ys
+pub changed_here : (i : ℕ) (f : EntryValue → EntryValue) (xs : List EntryValue) (y : EntryValue) (ys : List EntryValue) → i ≡ length xs → with_changed i f (xs ++ y ∷ ys) ≡ xs ++ f y ∷ ys
 changed_here zero f [] y ys l = refl
 changed_here (suc i) f [] y ys l = absurd (omega (arith, l))
 changed_here zero f (x ∷ xs) y ys l = absurd (omega (arith, l))
 changed_here (suc i) f (x ∷ xs) y ys l = ap (λ (t : List EntryValue). x ∷ t) (changed_here i f xs y ys (omega (arith, l)))
 
-filled_changed : (k n i : ℕ) (f : EntryValue → EntryValue) (es : List EntryValue) → i < length es → filled_from k n (with_changed i f es) ≡ with_changed i f (filled_from k n es)
+pub filled_changed : (k n i : ℕ) (f : EntryValue → EntryValue) (es : List EntryValue) → i < length es → filled_from k n (with_changed i f es) ≡ with_changed i f (filled_from k n es)
 filled_changed k n i f [] l = absurd (omega (arith, l))
 filled_changed k zero i f (e ∷ es) l = refl
 filled_changed k (suc n) zero f (e ∷ es) l = refl
 filled_changed k (suc n) (suc i) f (e ∷ es) l = ap (λ (t : List EntryValue). e ∷ t) (filled_changed (suc k) n i f es (omega (arith, l)))
 
 -- ---- children
-and_false : (b : Bool) → (b && false) ≡ false
+pub and_false : (b : Bool) → (b && false) ≡ false
 and_false true = refl
 and_false false = refl
 
 -- one more plan, of another entry than the root, among those of which the children are asked
-children_one : (n : ℕ) (all : List Plan) (p : Plan) (b : Bool) → (p.number == 0) ≡ false → (p.parent == n) ≡ b → children_of n (all ++ p ∷ []) ≡ children_of n all ++ cond b (p.number ∷ []) []
+pub children_one : (n : ℕ) (all : List Plan) (p : Plan) (b : Bool) → (p.number == 0) ≡ false → (p.parent == n) ≡ b → children_of n (all ++ p ∷ []) ≡ children_of n all ++ cond b (p.number ∷ []) []
 children_one n all p b e f =
     let test : Plan → Bool = λ x. not (x.number == 0) && (x.parent == n) in
     let told : test p ≡ b = ap (λ (c : Bool). not c && (p.parent == n)) e ∙ f in
@@ -78,13 +78,13 @@ children_one n all p b e f =
     go true = refl
     go false = refl
 
-entry_child : (all : List Plan) (p x : Plan) (v : Values) → (p.number == 0) ≡ false → (p.parent == x.number) ≡ true → built_entry (all ++ p ∷ []) x v ≡ with_child p.number (built_entry all x v)
+pub entry_child : (all : List Plan) (p x : Plan) (v : Values) → (p.number == 0) ≡ false → (p.parent == x.number) ≡ true → built_entry (all ++ p ∷ []) x v ≡ with_child p.number (built_entry all x v)
 entry_child all p x v e f = ap (λ (cs : List ℕ). record (built_entry all x v) { children = cs }) (children_one x.number all p true e f)
 
-entry_same : (all : List Plan) (p x : Plan) (v : Values) → (p.number == 0) ≡ false → (p.parent == x.number) ≡ false → built_entry (all ++ p ∷ []) x v ≡ built_entry all x v
+pub entry_same : (all : List Plan) (p x : Plan) (v : Values) → (p.number == 0) ≡ false → (p.parent == x.number) ≡ false → built_entry (all ++ p ∷ []) x v ≡ built_entry all x v
 entry_same all p x v e f = ap (λ (cs : List ℕ). record (built_entry all x v) { children = cs }) (children_one x.number all p false e f ∙ append-nil (children_of x.number all))
 
-others_same : (j : ℕ) (all : List Plan) (p : Plan) (ps : List Plan) (vs : List Values) → (p.number == 0) ≡ false → AreNumbered j ps → p.parent < j → built_entries (all ++ p ∷ []) ps vs ≡ built_entries all ps vs
+pub others_same : (j : ℕ) (all : List Plan) (p : Plan) (ps : List Plan) (vs : List Values) → (p.number == 0) ≡ false → AreNumbered j ps → p.parent < j → built_entries (all ++ p ∷ []) ps vs ≡ built_entries all ps vs
 others_same j all p [] vs e h l = refl
 others_same j all p (x ∷ ps) [] e h l = refl
 others_same j all p (x ∷ ps) (v ∷ vs) e h l =
@@ -92,7 +92,7 @@ others_same j all p (x ∷ ps) (v ∷ vs) e h l =
     ap (λ (y : EntryValue). y ∷ built_entries (all ++ p ∷ []) ps vs) (entry_same all p x v e other)
     ∙ ap (λ (ys : List EntryValue). built_entry all x v ∷ ys) (others_same (suc j) all p ps vs e h.1 (omega (arith, l)))
 
-child_added : (j k : ℕ) (all : List Plan) (p : Plan) (ps : List Plan) (vs : List Values) → (p.number == 0) ≡ false → AreNumbered j ps → p.parent ≡ j + k → k < length ps → length ps ≡ length vs → built_entries (all ++ p ∷ []) ps vs ≡ with_changed k (with_child p.number) (built_entries all ps vs)
+pub child_added : (j k : ℕ) (all : List Plan) (p : Plan) (ps : List Plan) (vs : List Values) → (p.number == 0) ≡ false → AreNumbered j ps → p.parent ≡ j + k → k < length ps → length ps ≡ length vs → built_entries (all ++ p ∷ []) ps vs ≡ with_changed k (with_child p.number) (built_entries all ps vs)
 child_added j k all p [] vs e h f l m = absurd (omega (arith, l))
 child_added j k all p (x ∷ ps) [] e h f l m = absurd (omega (arith, m))
 child_added j zero all p (x ∷ ps) (v ∷ vs) e h f l m =
@@ -104,7 +104,7 @@ child_added j (suc k) all p (x ∷ ps) (v ∷ vs) e h f l m =
     ap (λ (y : EntryValue). y ∷ built_entries (all ++ p ∷ []) ps vs) (entry_same all p x v e other)
     ∙ ap (λ (ys : List EntryValue). built_entry all x v ∷ ys) (child_added (suc j) k all p ps vs e h.1 (omega (arith, f)) (omega (arith, l)) (omega (arith, m)))
 
-no_children : (k : ℕ) (ps : List Plan) → AreBelow k ps → 0 < k → children_of k ps ≡ []
+pub no_children : (k : ℕ) (ps : List Plan) → AreBelow k ps → 0 < k → children_of k ps ≡ []
 no_children k [] h l = refl
 no_children k (x ∷ ps) h l =
     let other : (x.parent == k) ≡ false = ne_eqb x.parent k (λ (same : x.parent ≡ k). go h.0 same) in
@@ -117,7 +117,7 @@ no_children k (x ∷ ps) h l =
     go (inr m) same = omega (arith, m, same)
 
 -- ---- one entry more
-built_more : (all ps : List Plan) (vs : List Values) (p : Plan) (v : Values) → length ps ≡ length vs → built_entries all (ps ++ p ∷ []) (vs ++ v ∷ []) ≡ built_entries all ps vs ++ built_entry all p v ∷ []
+pub built_more : (all ps : List Plan) (vs : List Values) (p : Plan) (v : Values) → length ps ≡ length vs → built_entries all (ps ++ p ∷ []) (vs ++ v ∷ []) ≡ built_entries all ps vs ++ built_entry all p v ∷ []
 built_more all [] [] p v m = refl
 built_more all [] (w ∷ vs) p v m = absurd (omega (arith, m))
 built_more all (x ∷ ps) [] p v m = absurd (omega (arith, m))
@@ -130,7 +130,7 @@ length-built all (x ∷ ps) [] m = absurd (omega (arith, m))
 length-built all (x ∷ ps) (w ∷ vs) m = ap suc (length-built all ps vs (omega (arith, m)))
 
 -- what is added under its parent, with its contents, is the entry of its plan
-new_entry : (k q : ℕ) (e : ReadEntry) (all : List Plan) (v : Values) → (k == 0) ≡ false → children_of k all ≡ [] → with_contents (not (k == 0) && names_sibling e) (map attribute_of v) (placed_under q e.tag (blank_entry k)) ≡ built_entry all (record { number = k; parent = q; entry = e }) v
+pub new_entry : (k q : ℕ) (e : ReadEntry) (all : List Plan) (v : Values) → (k == 0) ≡ false → children_of k all ≡ [] → with_contents (not (k == 0) && names_sibling e) (map attribute_of v) (placed_under q e.tag (blank_entry k)) ≡ built_entry all (record { number = k; parent = q; entry = e }) v
 new_entry k q e all v some none =
     let as_root : Bool → List ℕ → EntryValue = λ b cs. record { id = k; parent = if b then None else Some q; tag = if b then compile_unit_tag else e.tag; sibling = not (k == 0) && names_sibling e; attributes = map attribute_of v; children = cs } in
     ap (λ (b : Bool). as_root b []) (sym some) ∙ ap (λ (cs : List ℕ). as_root (k == 0) cs) (sym none)

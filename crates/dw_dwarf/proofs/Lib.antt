@@ -13,8 +13,11 @@ mod Filtering
 mod WholeFilter
 mod Becoming
 mod Growing
+mod GrowingBehind
 mod AttributesSeen
 mod Walking
+mod Placing
+mod SplitSteps
 mod Worked
 pub mod Ready
 mod Rooted

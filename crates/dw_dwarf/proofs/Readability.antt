@@ -1,5 +1,5 @@
 -- Units whose rows were all read before.
-use Rattle.std.proofs.Common.{◌≡◌, ◌≢◌, ◌∙◌, sym, ap, subst, ℕ, zero, suc, List, All, Bool, true, Ok, slice_index_or, ◌⊎◌, inl, inr, ⊎_elim, refl, arith}
+use Rattle.std.proofs.Common.{◌≡◌, ◌≢◌, ◌∙◌, sym, ap, subst, ℕ, zero, suc, List, All, Bool, true, Option, Ok, slice_index_or, ◌⊎◌, inl, inr, ⊎_elim, refl, arith}
 use Rattle.dw_base.specs.Entries.{Row}
 use Rattle.dw_base.specs.Info.{ReadUnit}
 use Rattle.dw_base.specs.declared.common.Encoding.{Encoding}
@@ -17,6 +17,7 @@ use Rattle.dw_dwarf.proofs.Rooted.{rooted}
 use Rattle.dw_dwarf.specs.ConvertSteps.{CanConvert}
 use Rattle.dw_dwarf.specs.ConvertedUnits.{IsRead}
 use Rattle.dw_dwarf.specs.NewUnits.{IsNewUnit}
+use Rattle.dw_dwarf.specs.UnitIds.{IsFree, id_of}
 use Rattle.dw_dwarf.specs.Readable.{IsReadable, IsReadableUnit, KeepsParents, rows_held, rows_or_none}
 
 module _ (keep : ℕ → Bool) (from : ℕ) (rows : List Row) where
@@ -49,14 +50,15 @@ module _ {R E : Type 0} (keep : ℕ → Bool) (reading : R → Reading) (d : Dwa
   all_readable xs h = λ k x l. let r = h k x l in readable_one (slice_index_or xs k x) r.unit r.numbered r.closed
 
 -- one of them can be converted into a new unit
-pub can_convert_new : {R E : Type 0} (keep : ℕ → Bool) (reading : R → Reading) (u : UnitRef R E) (entries : ℕ) (encoding : Encoding) (w : UnitValue) → IsReadable reading keep u.unit.now entries → IsNewUnit encoding entries w → CanConvert keep reading u w
-can_convert_new keep reading u entries encoding w h n = record {
+pub can_convert_new : {R E : Type 0} (keep : ℕ → Bool) (reading : R → Reading) (u : UnitRef R E) (first : Option ℕ) (entries : ℕ) (encoding : Encoding) (w : UnitValue) → IsFree first → IsReadable reading keep u.unit.now entries → IsNewUnit encoding (id_of first entries) w → CanConvert first keep reading u w
+can_convert_new keep reading u first entries encoding w free h n = record {
   rows = rows_held reading u.unit.now;
   are = h.0;
   behind = h.3;
   tagged = h.4;
   closed = closed_by_parents keep u.unit.now.header.offset.0 (rows_held reading u.unit.now) h.5;
-  reserved = n.reserved ∙ h.1;
+  free = free;
+  reserved = n.reserved ∙ ap (id_of first) h.1;
   entries = n.entries;
   kept = n.kept;
 }

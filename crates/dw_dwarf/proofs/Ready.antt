@@ -1,5 +1,5 @@
 -- What callers know of a unit whose entries they convert.
-use Rattle.std.proofs.Common.{◌≡◌, ◌≢◌, ◌∙◌, sym, ap, subst, ℕ, zero, suc, ◌≤◌, List, [], ◌∷◌, length, All, Option, Some, None, Bool, true, false, not, refl}
+use Rattle.std.proofs.Common.{◌≡◌, ◌≢◌, ◌∙◌, sym, ap, subst, ℕ, zero, suc, ◌≤◌, List, [], ◌∷◌, length, All, Option, Some, None, Bool, true, false, not, refl, arith}
 use Rattle.std.specs.Prelude.{◌==◌, if◌then◌else◌}
 use Rattle.std.proofs.lemmas.Bool.{eq-eqb, false≢true}
 use Rattle.std.proofs.lemmas.List.Elements.{All-nil, All-cons}
@@ -85,13 +85,14 @@ unfolding table_at
 table_tagged bytes rest table h = declarations_tagged (length bytes) bytes rest table h
 
 -- a unit whose entries are numbered can be converted into one that has its root alone and as many ids
-pub can_convert : {R E : Type 0} (keep : ℕ → Bool) (reading : R → Reading) (d : Dwarf R E) (held : NumberedUnit R E) (r : ReadUnit) (u : UnitRef R E) (w : UnitValue) → IsNumbered keep reading d held r → IsClosed keep r.from r.rows → u.unit.now ≡ held.unit → w.reserved ≡ held.entries → w.entries ≡ new_root ∷ [] → w.is_freed ≡ false → CanConvert keep reading u w
+pub can_convert : {R E : Type 0} (keep : ℕ → Bool) (reading : R → Reading) (d : Dwarf R E) (held : NumberedUnit R E) (r : ReadUnit) (u : UnitRef R E) (w : UnitValue) → IsNumbered keep reading d held r → IsClosed keep r.from r.rows → u.unit.now ≡ held.unit → w.reserved ≡ held.entries → w.entries ≡ new_root ∷ [] → w.is_freed ≡ false → CanConvert None keep reading u w
 can_convert {R} {E} keep reading d held r u w n closed same reserved alone kept = record {
   rows = r.rows;
   are = ap (λ (x : UnitFields R E). rows_reading reading x.header x.abbreviations) same ∙ n.rows;
   behind = subst (λ (x : UnitFields R E). x.header.offset.0 ≤ (reading x.header.body).place) (sym same) n.behind;
   tagged = subst (λ (x : UnitFields R E). All (λ (t : Declaration). t.shape.tag ≢ 0) x.abbreviations) (sym same) (table_tagged _ _ held.unit.abbreviations n.unit.table.is);
   closed = subst (λ (x : UnitFields R E). IsClosed keep x.header.offset.0 r.rows) (sym same) (subst (λ (m : ℕ). IsClosed keep m r.rows) n.from closed);
+  free = omega arith;
   reserved = reserved ∙ n.count ∙ ap (λ (m : ℕ). entry_count (kept_rows keep m r.rows)) n.from ∙ ap (λ (x : UnitFields R E). entry_count (kept_rows keep x.header.offset.0 r.rows)) (sym same);
   entries = alone;
   kept = kept;

@@ -1,5 +1,5 @@
 -- Units that are converted one after the other.
-use Rattle.std.proofs.Common.{◌≡◌, ap, subst, ℕ, zero, suc, ◌+◌, ◌<◌, ◌≤◌, List, [], ◌∷◌, ◌++◌, length, map, take, drop, get_or, All, Bool, Option, sym, refl, arith}
+use Rattle.std.proofs.Common.{◌≡◌, ap, subst, ℕ, zero, suc, ◌+◌, ◌<◌, ◌≤◌, List, [], ◌∷◌, ◌++◌, length, map, take, drop, get_or, All, Bool, Option, None, sym, refl, arith}
 use Rattle.std.proofs.lemmas.List.Elements.{All-nil, All-cons}
 use Rattle.dw_base.specs.Entries.{Row}
 use Rattle.dw_base.specs.Info.{ReadUnit}
@@ -17,16 +17,17 @@ use Rattle.dw_tree.specs.UnitValue.{UnitValue}
 use Rattle.dw_convert_lines.specs.EntryNames.{Tables}
 use Rattle.dw_dwarf.specs.ConvertedUnits.{AreClosed, BecomesUnit, IsRead, UnitsBecome}
 use Rattle.dw_dwarf.specs.Readable.{rows_held, rows_or_none}
-use Rattle.dw_dwarf.specs.EntryRefs.{entry_for, info_for, entry_of, info_of}
+use Rattle.dw_dwarf.specs.EntryRefs.{entry_behind, info_behind, entry_for, info_for, entry_of, info_of}
 use Rattle.dw_dwarf.specs.declared.convert.refs.UnitRefs.{UnitRefs}
 
 -- what holds of a unit's own names holds of them by their places
-pub refs_as : (P : (ℕ → Option UnitEntryId) → (ℕ → Option DebugInfoRef) → Type 0) (r : UnitRefs) (ids : EntryIds) (k start first : ℕ) → r.ids.now ≡ ids → r.unit.0 ≡ k → r.start ≡ start → r.first ≡ first → P (entry_of r) (info_of r) → P (entry_for ids k start) (info_for ids first)
-refs_as P r ids k start first a b c d h =
+pub refs_as : (P : (ℕ → Option UnitEntryId) → (ℕ → Option DebugInfoRef) → Type 0) (r : UnitRefs) (ids : EntryIds) (k start first : ℕ) → r.ids.now ≡ ids → r.unit.0 ≡ k → r.start ≡ start → r.first ≡ first → r.behind ≡ None → P (entry_of r) (info_of r) → P (entry_for ids k start) (info_for ids first)
+refs_as P r ids k start first a b c d e h =
     subst (λ n. P (entry_for ids k start) (info_for ids n)) d
     (subst (λ n. P (entry_for ids k n) (info_for ids r.first)) c
     (subst (λ n. P (entry_for ids n r.start) (info_for ids r.first)) b
-    (subst (λ t. P (entry_for t r.unit.0 r.start) (info_for t r.first)) a h)))
+    (subst (λ t. P (entry_for t r.unit.0 r.start) (info_for t r.first)) a
+    (subst (λ o. P (entry_behind o r.ids.now r.unit.0 r.start) (info_behind o r.ids.now r.first)) e h))))
 
 -- a list with one of its items between those before and those behind it
 pub around : {A : Type 0} (xs : List A) (i : ℕ) (y : A) → i < length xs → xs ≡ take i xs ++ get_or xs i y ∷ drop (suc i) xs

@@ -8,7 +8,7 @@ use Rattle.dw_base.specs.declared.ids.FileId.{FileId}
 use Rattle.dw_base.specs.declared.ids.UnitEntryId.{UnitEntryId}
 use Rattle.dw_base.specs.declared.offsets.UnitSectionOffset.{UnitSectionOffset}
 use Rattle.dw_entries.proofs.Filled.{filled_up-same}
-use Rattle.dw_entries.specs.Entries.{EntryValue, blank_entry, entry_at, filled_from, filled_up, new_root}
+use Rattle.dw_entries.specs.Entries.{EntryValue, blank_entry, entry_at, filled_up, new_root}
 use Rattle.dw_entry_ids.proofs.Steps.{count_one}
 use Rattle.dw_entry_ids.specs.Ids.{entry_count, is_entry}
 use Rattle.dw_read.specs.Reading.{Reading, IsReading}
@@ -22,10 +22,12 @@ use Rattle.dw_tree.specs.UnitValue.{UnitValue}
 use Rattle.dw_convert.specs.Attributes.{Seen, seen}
 use Rattle.dw_convert.specs.AttributeLists.{AreConverted, RefusesAttribute}
 use Rattle.dw_convert.specs.Tables.{Tables}
-use Rattle.dw_dwarf.proofs.Growing.{AreNumbered, AreBelow, unconverted_from, numbered_more, below_more, grown as entries_grown, grown_count, length-built}
+use Rattle.dw_dwarf.proofs.Growing.{AreNumbered, AreBelow, unconverted_from, numbered_more, below_more}
+use Rattle.dw_dwarf.proofs.GrowingBehind.{alone_is, blank_filled, filled_entries, filled_is, grown_in, grown_length, id_more, id_most, id_root, length-filled}
 use Rattle.dw_dwarf.proofs.AttributesSeen.{attributes_seen}
 use Rattle.dw_entry_ids.proofs.Planning.{parent_below, plans_more, plans_one, plans_none, plans_around, count_more}
-use Rattle.dw_dwarf.specs.ConvertedEntries.{Values, built_entries, seen_in, EntryConverts, EntriesConvert}
+use Rattle.dw_dwarf.specs.ConvertedEntries.{Values, seen_in, EntryConverts, EntriesConvert}
+use Rattle.dw_dwarf.specs.UnitIds.{id_of, unit_entries}
 use Rattle.dw_dwarf.specs.Placed.{unconverted, with_converted}
 use Rattle.dw_entry_ids.specs.Plans.{Plan, parent_behind, plan_of, plans_of, plans_behind}
 use Rattle.dw_dwarf.specs.ConvertSteps.{CanConvert, BecomesEntry, ConvertsEntries, RefusesEntry}
@@ -46,11 +48,6 @@ at_behind [] y d ys zero h = refl
 at_behind [] y d ys (suc i) h = absurd (omega (arith, h))
 at_behind (x ∷ xs) y d ys zero h = absurd (omega (arith, h))
 at_behind (x ∷ xs) y d ys (suc i) h = at_behind xs y d ys i (omega (arith, h))
-
--- what is reserved and not added is not converted yet
-blank_filled : (i n : ℕ) → filled_from (suc i) n [] ≡ unconverted_from (suc i) n
-blank_filled i zero = refl
-blank_filled i (suc n) = ap (λ (es : List EntryValue). blank_entry (suc i) ∷ es) (blank_filled (suc i) n)
 
 root_filled : (n : ℕ) → 0 < n → filled_up n (new_root ∷ []) ≡ unconverted_from 0 n
 root_filled zero l = absurd (omega (arith, l))
@@ -81,7 +78,7 @@ one_less kept reading u now new front rest read id parent w hands i =
     omega (arith, counted, one, both, s.none, w.rows.counted, few, place, small)
 
 -- ---- the rows of a unit
-module _ {R E : Type 0} (kept : Option (List UnitSectionOffset)) (reading : R → Reading) (answers : ℕ → Option Address → Type 0) (entries : ℕ → Option UnitEntryId) (infos : ℕ → Option DebugInfoRef) (u : UnitRef R E) (files : List FileId) (before : UnitValue) (old : Tables) where
+module _ {R E : Type 0} (kept : Option (List UnitSectionOffset)) (reading : R → Reading) (answers : ℕ → Option Address → Type 0) (entries : ℕ → Option UnitEntryId) (infos : ℕ → Option DebugInfoRef) (u : UnitRef R E) (files : List FileId) (behind : Option ℕ) (before : UnitValue) (old : Tables) where
   -- those of rows that stay
   abbrev stay : List Row → List Row
   stay rows = kept_rows (keep_of kept) u.unit.now.header.offset.0 rows
@@ -100,8 +97,8 @@ module _ {R E : Type 0} (kept : Option (List UnitSectionOffset)) (reading : R �
     pub values : List Values
     pub valued : length (plans_of (stay front)) ≡ length values
     pub images : EntriesConvert reading answers entries infos u files (reading u.unit.now.header.body).is_big u.unit.now.header.fields.encoding (plans_of (stay front)) old values t
-    pub grown : filled_up before.reserved unit.entries ≡ built_entries (plans_of (stay front)) (plans_of (stay front)) values ++ unconverted_from count (before.reserved - count)
-    pub lengths : (count < 2 × (length unit.entries ≡ 1)) ⊎ (length unit.entries ≡ before.reserved)
+    pub grown : filled_up before.reserved unit.entries ≡ filled_entries behind (plans_of (stay front)) values ++ unconverted_from (id_of behind count) (before.reserved - id_of behind count)
+    pub lengths : (count < 2 × (length unit.entries ≡ 1)) ⊎ (1 < count × (length unit.entries ≡ before.reserved))
     pub is : unit ≡ record before { entries = unit.entries; ranges = t.ranges; locations = t.locations }
 
   module _ (c : KeptRows R E) (unit : UnitValue) (t : Tables) (w : Converted c unit t) where
@@ -109,18 +106,18 @@ module _ {R E : Type 0} (kept : Option (List UnitSectionOffset)) (reading : R �
     pub within : length unit.entries ≤ before.reserved
     within = go w.lengths
       where
-        go : (w.count < 2 × (length unit.entries ≡ 1)) ⊎ (length unit.entries ≡ before.reserved) → length unit.entries ≤ before.reserved
+        go : (w.count < 2 × (length unit.entries ≡ 1)) ⊎ (1 < w.count × (length unit.entries ≡ before.reserved)) → length unit.entries ≤ before.reserved
         go (inl h) = omega (arith, h.1, w.rooted)
-        go (inr h) = omega (arith, h)
+        go (inr h) = omega (arith, h.1)
 
     pub some : 0 < length unit.entries
     some = go w.lengths
       where
-        go : (w.count < 2 × (length unit.entries ≡ 1)) ⊎ (length unit.entries ≡ before.reserved) → 0 < length unit.entries
+        go : (w.count < 2 × (length unit.entries ≡ 1)) ⊎ (1 < w.count × (length unit.entries ≡ before.reserved)) → 0 < length unit.entries
         go (inl h) = omega (arith, h.1)
-        go (inr h) = omega (arith, h, w.rooted)
+        go (inr h) = omega (arith, h.1, w.rooted)
 
-module _ {R E : Type 0} (kept : Option (List UnitSectionOffset)) (reading : R → Reading) (answers : ℕ → Option Address → Type 0) (entries : ℕ → Option UnitEntryId) (infos : ℕ → Option DebugInfoRef) (u : UnitRef R E) (files : List FileId) (before : UnitValue) (old : Tables) (can : CanConvert (keep_of kept) reading u before) where
+module _ {R E : Type 0} (kept : Option (List UnitSectionOffset)) (reading : R → Reading) (answers : ℕ → Option Address → Type 0) (entries : ℕ → Option UnitEntryId) (infos : ℕ → Option DebugInfoRef) (u : UnitRef R E) (files : List FileId) (behind : Option ℕ) (before : UnitValue) (old : Tables) (can : CanConvert behind (keep_of kept) reading u before) where
   abbrev staying : List Row → List Row
   staying rows = kept_rows (keep_of kept) u.unit.now.header.offset.0 rows
 
@@ -131,7 +128,14 @@ module _ {R E : Type 0} (kept : Option (List UnitSectionOffset)) (reading : R �
   encoding_here = u.unit.now.header.fields.encoding
 
   abbrev ConvertedHere : KeptRows R E → UnitValue → Tables → Type 0
-  ConvertedHere c unit t = Converted kept reading answers entries infos u files before old c unit t
+  ConvertedHere c unit t = Converted kept reading answers entries infos u files behind before old c unit t
+
+  nothing_filled : filled_entries behind [] [] ++ unconverted_from (id_of behind 0) (before.reserved - id_of behind 0) ≡ unconverted_from (id_of behind 0) (before.reserved - id_of behind 0)
+  nothing_filled = go behind
+    where
+      go : (b : Option ℕ) → filled_entries b [] [] ++ unconverted_from (id_of behind 0) (before.reserved - id_of behind 0) ≡ unconverted_from (id_of behind 0) (before.reserved - id_of behind 0)
+      go None = refl
+      go (Some first) = refl
 
   none_yet : plans_of (staying []) ≡ []
   none_yet = ap plans_of (kept_nil (keep_of kept) u.unit.now.header.offset.0 0) ∙ plans_none
@@ -154,7 +158,8 @@ module _ {R E : Type 0} (kept : Option (List UnitSectionOffset)) (reading : R �
         ap (filled_up before.reserved) (ap (λ (x : UnitValue). x.entries) same ∙ can.entries)
         ∙ root_filled before.reserved some
         ∙ ap (unconverted_from 0) (let e : before.reserved ≡ before.reserved - 0 = omega arith in e)
-        ∙ ap (λ (ps : List Plan). built_entries ps ps [] ++ unconverted_from 0 (before.reserved - 0)) (sym none_yet);
+        ∙ sym (nothing_filled ∙ ap (λ (j : ℕ). unconverted_from j (before.reserved - j)) (id_root behind))
+        ∙ ap (λ (ps : List Plan). filled_entries behind ps [] ++ unconverted_from (id_of behind 0) (before.reserved - id_of behind 0)) (sym none_yet);
     lengths = inl (omega arith, ap (λ (x : UnitValue). length x.entries) same ∙ ap (λ (es : List EntryValue). length es) can.entries);
     is = same
         ∙ ap (λ (es : List EntryValue). record before { entries = es }) (sym (ap (λ (x : UnitValue). x.entries) same))
@@ -170,8 +175,12 @@ module _ {R E : Type 0} (kept : Option (List UnitSectionOffset)) (reading : R �
 
   -- the next entry, behind null entries
   module _ (now new : KeptRows R E) (unit : UnitValue) (t : Tables) (read : DebuggingInformationEntry R E) (own : UnitEntryId) (parent : ℕ) (w : ConvertedHere now unit t) (hands : HandsOutKept reading u.unit.now kept w.front w.rest new read (Some own) parent) where
+    -- its id, and its parent's
     abbrev id : ℕ
-    id = own.0
+    id = id_of behind own.0
+
+    abbrev above : ℕ
+    above = id_of behind parent
 
     abbrev s : HandsOutRow reading u.unit.now w.front w.rest new.rows read hands.number hands.above
     s = hands.row
@@ -195,7 +204,7 @@ module _ {R E : Type 0} (kept : Option (List UnitSectionOffset)) (reading : R �
     next_is : staying front_next ≡ next_kept
     next_is = next_stays reading u.unit.now kept w.front w.rest new read (Some own) parent hands own refl
 
-    count_is : id ≡ w.count
+    count_is : own.0 ≡ w.count
     count_is = next_number reading u.unit.now kept w.front w.rest new read (Some own) parent hands own refl ∙ sym w.counted
 
     before_row : entry_count front_kept ≡ w.count
@@ -217,28 +226,41 @@ module _ {R E : Type 0} (kept : Option (List UnitSectionOffset)) (reading : R �
     above_is : parent ≡ parent_behind front_kept s.row.depth
     above_is = next_parent reading u.unit.now kept w.front w.rest new read (Some own) parent hands own can.rows refl can.closed all_there
 
-    has_room : w.count < before.reserved
-    has_room =
+    has_more : w.count < entry_count (staying can.rows)
+    has_more =
         let all : entry_count (staying can.rows) ≡ entry_count next_kept + entry_count back_kept = ap entry_count all_rows ∙ count_more next_kept back_kept in
-        omega (arith, all, one_more, can.reserved)
+        omega (arith, all, one_more)
+
+    has_room : id_of behind w.count < before.reserved
+    has_room =
+        let less : id_of behind w.count < id_of behind (entry_count (staying can.rows)) = id_more behind w.count (entry_count (staying can.rows)) can.free has_more in
+        omega (arith, less, can.reserved)
+
+    fits : id_of behind 1 ≤ before.reserved
+    fits =
+        let most : id_of behind 1 ≤ id_of behind (entry_count (staying can.rows)) = id_most behind 1 (entry_count (staying can.rows)) can.free (omega (arith, has_more)) in
+        omega (arith, most, can.reserved)
 
     reserved_is : unit.reserved ≡ before.reserved
     reserved_is = ap (λ (x : UnitValue). x.reserved) w.is
 
     -- its id is reserved
     pub id_in : id < unit.reserved
-    id_in = omega (arith, has_room, count_is, reserved_is)
+    id_in =
+        let here : id ≡ id_of behind w.count = ap (id_of behind) count_is in
+        omega (arith, has_room, here, reserved_is)
 
     pub not_yet : entry_at (filled_up unit.reserved unit.entries) id ≡ unconverted id
     not_yet =
         let plans : List Plan = plans_of (staying w.front) in
-        let rest : List EntryValue = unconverted_from (suc w.count) (before.reserved - (w.count + 1)) in
-        let there : before.reserved - w.count ≡ suc (before.reserved - (w.count + 1)) = omega (arith, has_room) in
-        let here : entry_at (filled_up unit.reserved unit.entries) w.count ≡ unconverted w.count =
-        ap (λ (n : ℕ). entry_at (filled_up n unit.entries) w.count) reserved_is
-        ∙ ap (λ (es : List EntryValue). entry_at es w.count) (w.grown ∙ ap (λ (n : ℕ). built_entries plans plans w.values ++ unconverted_from w.count n) there)
-        ∙ at_behind (built_entries plans plans w.values) (unconverted w.count) (blank_entry 0) rest w.count (w.many ∙ sym (length-built plans plans w.values w.valued)) in
-        subst (λ (n : ℕ). entry_at (filled_up unit.reserved unit.entries) n ≡ unconverted n) (sym count_is) here
+        let at : ℕ = id_of behind w.count in
+        let rest : List EntryValue = unconverted_from (suc at) (before.reserved - (at + 1)) in
+        let there : before.reserved - at ≡ suc (before.reserved - (at + 1)) = omega (arith, has_room) in
+        let here : entry_at (filled_up unit.reserved unit.entries) at ≡ unconverted at =
+        ap (λ (n : ℕ). entry_at (filled_up n unit.entries) at) reserved_is
+        ∙ ap (λ (es : List EntryValue). entry_at es at) (w.grown ∙ ap (λ (n : ℕ). filled_entries behind plans w.values ++ unconverted_from at n) there)
+        ∙ at_behind (filled_entries behind plans w.values) (unconverted at) (blank_entry 0) rest at (ap (id_of behind) w.many ∙ sym (length-filled behind plans w.values can.free w.valued)) in
+        subst (λ (n : ℕ). entry_at (filled_up unit.reserved unit.entries) (id_of behind n) ≡ unconverted (id_of behind n)) (sym count_is) here
 
     seen_as : map (seen reading) read.attrs.items ≡ map (seen_in order_here encoding_here) (map (attribute_of reading) read.attrs.items)
     seen_as = attributes_seen reading order_here encoding_here read.attrs.items s.encoded s.in_order
@@ -266,12 +288,20 @@ module _ {R E : Type 0} (kept : Option (List UnitSectionOffset)) (reading : R �
         let q : ℕ = parent_behind front_kept s.row.depth in
         subst (λ (p : ℕ). (p ≡ 0) ⊎ (p < w.count)) (sym above_is) (subst (λ (n : ℕ). (q ≡ 0) ⊎ (q < n)) before_row (parent_below front_kept s.row.depth))
 
-    pub parent_in : parent < unit.reserved
+    pub parent_in : above < unit.reserved
     parent_in = go plan_below
       where
-        go : (parent ≡ 0) ⊎ (parent < w.count) → parent < unit.reserved
-        go (inl z) = omega (arith, z, has_room, reserved_is)
-        go (inr l) = omega (arith, l, has_room, reserved_is)
+        go : (parent ≡ 0) ⊎ (parent < w.count) → above < unit.reserved
+        go (inl z) =
+            let root : above ≡ 0 = ap (id_of behind) z ∙ id_root behind in
+            omega (arith, root, has_room, reserved_is)
+        go (inr l) =
+            let less : above < id_of behind w.count = id_more behind parent w.count can.free l in
+            omega (arith, less, has_room, reserved_is)
+
+    -- so ids are numbers of 64 bits
+    pub ids_fit : before.reserved < 2 ^ 64 → (id ≤ 2 ^ 64 - 1) × (above ≤ 2 ^ 64 - 1)
+    ids_fit fit = (omega (arith, fit, id_in, reserved_is), omega (arith, fit, parent_in, reserved_is))
 
     plans_next : plans_of (staying front_next) ≡ plans_of (staying w.front) ++ plan ∷ []
     plans_next =
@@ -283,9 +313,10 @@ module _ {R E : Type 0} (kept : Option (List UnitSectionOffset)) (reading : R �
         ∙ ap (λ (q : ℕ). plans_of (staying w.front) ++ record { number = w.count; parent = q; entry = entry } ∷ []) (sym above_is)
 
     -- an entry is converted
-    pub converted_more : (after : UnitValue) (end : Tables) → BecomesEntry reading answers entries infos u files (map (seen reading) read.attrs.items) (record { number = id; parent = parent; entry = entry }) unit t after end → ConvertedHere new after end
+    pub converted_more : (after : UnitValue) (end : Tables) → BecomesEntry reading answers entries infos u files (map (seen reading) read.attrs.items) (record { number = id; parent = above; entry = entry }) unit t after end → ConvertedHere new after end
     converted_more after end begun =
-        let b = subst (λ (n : ℕ). BecomesEntry reading answers entries infos u files (map (seen reading) read.attrs.items) (record { number = n; parent = parent; entry = entry }) unit t after end) count_is begun in
+        let b = subst (λ (n : ℕ). BecomesEntry reading answers entries infos u files (map (seen reading) read.attrs.items) (record { number = id_of behind n; parent = above; entry = entry }) unit t after end) count_is begun in
+        let placed : Plan = record { number = id_of behind w.count; parent = above; entry = entry } in
         let n : ℕ = before.reserved in
         let plans : List Plan = plans_of (staying w.front) in
         let many : w.count ≡ length plans = w.many in
@@ -294,8 +325,8 @@ module _ {R E : Type 0} (kept : Option (List UnitSectionOffset)) (reading : R �
         let more_values : length (w.values ++ b.values ∷ []) ≡ length w.values + 1 = length-append w.values (b.values ∷ []) in
         let as_many : length (plans ++ plan ∷ []) ≡ length (w.values ++ b.values ∷ []) = omega (arith, longer, valued, more_values) in
         let counts : w.count + 1 ≡ length (plans ++ plan ∷ []) = omega (arith, longer, many) in
-        let entries_are : after.entries ≡ with_converted n plan b.values unit.entries = ap (λ (x : UnitValue). x.entries) b.is ∙ ap (λ (m : ℕ). with_converted m plan b.values unit.entries) reserved_is in
-        let inside : length unit.entries ≤ n = within kept reading answers entries infos u files before old now unit t w in
+        let entries_are : after.entries ≡ with_converted n placed b.values unit.entries = ap (λ (x : UnitValue). x.entries) b.is ∙ ap (λ (m : ℕ). with_converted m placed b.values unit.entries) reserved_is in
+        let inside : length unit.entries ≤ n = within kept reading answers entries infos u files behind before old now unit t w in
         record {
           front = front_next;
           rest = s.back;
@@ -312,11 +343,11 @@ module _ {R E : Type 0} (kept : Option (List UnitSectionOffset)) (reading : R �
               (images_more plans old w.values t plan b.values end w.images (subst (λ (xs : List Seen). AreConverted reading answers entries infos u files xs t b.values end) seen_as b.images));
           grown =
               ap (filled_up n) entries_are
-              ∙ entries_grown n parent entry b.values unit.entries w.count plans w.values w.many w.valued w.numbered w.below plan_below has_room (some kept reading answers entries infos u files before old now unit t w) inside w.grown
-              ∙ ap (λ (ps : List Plan). built_entries ps ps (w.values ++ b.values ∷ []) ++ unconverted_from (w.count + 1) (n - (w.count + 1))) (sym plans_next);
-          lengths = subst (λ (es : List EntryValue). (w.count + 1 < 2 × (length es ≡ 1)) ⊎ (length es ≡ n)) (sym entries_are) (grown_count n parent entry b.values unit.entries w.count inside w.lengths);
+              ∙ grown_in behind n parent entry b.values unit.entries can.free w.count plans w.values w.many w.valued w.numbered w.below plan_below fits has_room (some kept reading answers entries infos u files behind before old now unit t w) inside w.grown
+              ∙ ap (λ (ps : List Plan). filled_entries behind ps (w.values ++ b.values ∷ []) ++ unconverted_from (id_of behind (w.count + 1)) (n - id_of behind (w.count + 1))) (sym plans_next);
+          lengths = subst (λ (es : List EntryValue). (w.count + 1 < 2 × (length es ≡ 1)) ⊎ (1 < w.count + 1 × (length es ≡ n))) (sym entries_are) (grown_length behind n above entry b.values unit.entries can.free w.count inside w.lengths);
           is = b.is
-              ∙ ap (λ (x : UnitValue). record x { entries = with_converted unit.reserved plan b.values unit.entries; ranges = end.ranges; locations = end.locations }) w.is
+              ∙ ap (λ (x : UnitValue). record x { entries = with_converted unit.reserved placed b.values unit.entries; ranges = end.ranges; locations = end.locations }) w.is
               ∙ ap (λ (es : List EntryValue). record before { entries = es; ranges = end.ranges; locations = end.locations }) (sym (ap (λ (x : UnitValue). x.entries) b.is));
         }
 
@@ -342,33 +373,44 @@ module _ {R E : Type 0} (kept : Option (List UnitSectionOffset)) (reading : R �
         values = w.values;
         valued = sym (ap (λ (ps : List Plan). length ps) plans) ∙ w.valued;
         images = subst (λ (ps : List Plan). EntriesConvert reading answers entries infos u files order_here encoding_here ps old w.values t) plans w.images;
-        grown = w.grown ∙ ap (λ (ps : List Plan). built_entries ps ps w.values ++ unconverted_from w.count (before.reserved - w.count)) plans;
+        grown = w.grown ∙ ap (λ (ps : List Plan). filled_entries behind ps w.values ++ unconverted_from (id_of behind w.count) (before.reserved - id_of behind w.count)) plans;
         lengths = w.lengths;
         is = w.is;
       }
 
   -- all entries are converted
-  pub converted_end : (now new : KeptRows R E) (unit : UnitValue) (t : Tables) (w : ConvertedHere now unit t) → HandsOutNone reading u.unit.now w.front w.rest new.rows → ConvertsEntries (keep_of kept) reading answers entries infos u files before old unit t
+  pub converted_end : (now new : KeptRows R E) (unit : UnitValue) (t : Tables) (w : ConvertedHere now unit t) → HandsOutNone reading u.unit.now w.front w.rest new.rows → ConvertsEntries (keep_of kept) reading answers entries infos u files behind before old unit t
   converted_end now new unit t w h =
       let stays : staying (w.front ++ w.rest) ≡ staying w.front ++ w.rest = kept_past (keep_of kept) u.unit.now.header.offset.0 w.front w.rest h.none in
       let past : plans_of (staying (w.front ++ w.rest)) ≡ plans_of (staying w.front) = ap plans_of stays ∙ plans_past (staying w.front) w.rest h.none in
       let all : w.front ++ w.rest ≡ can.rows = same_rows (w.front ++ w.rest) can.rows (sym w.stands.rows.all ∙ can.are) in
       let both : entry_count (staying w.front ++ w.rest) ≡ entry_count (staying w.front) + entry_count w.rest = count_more (staying w.front) w.rest in
-      let reserved : before.reserved ≡ entry_count (staying w.front ++ w.rest) = can.reserved ∙ ap (λ (rows : List Row). entry_count (staying rows)) (sym all) ∙ ap entry_count stays in
-      let counts : w.count ≡ before.reserved = omega (arith, both, h.none, reserved, w.counted) in
+      let counts : w.count ≡ entry_count (staying can.rows) = (let z : w.count ≡ entry_count (staying w.front ++ w.rest) = omega (arith, both, h.none, w.counted) in z) ∙ sym (ap entry_count stays) ∙ ap (λ (rows : List Row). entry_count (staying rows)) all in
+      let reserved : before.reserved ≡ id_of behind w.count = can.reserved ∙ ap (id_of behind) (sym counts) in
       let plans : List Plan = plans_of (staying w.front) in
-      let none : before.reserved - w.count ≡ 0 = omega (arith, counts) in
-      let whole : before.reserved ≡ length unit.entries = go w.lengths counts in
-      let entries_are : unit.entries ≡ built_entries plans plans w.values =
-      sym (filled_up-same before.reserved unit.entries whole) ∙ w.grown ∙ ap (λ (n : ℕ). built_entries plans plans w.values ++ unconverted_from w.count n) none ∙ append-nil (built_entries plans plans w.values) in
+      let none : before.reserved - id_of behind w.count ≡ 0 = omega (arith, reserved) in
+      let entries_are : unit.entries ≡ unit_entries behind plans w.values = go w.lengths reserved none in
       record {
         rows = w.front ++ w.rest;
         are = w.stands.rows.all;
         values = w.values;
         images = subst (λ (ps : List Plan). EntriesConvert reading answers entries infos u files order_here encoding_here ps old w.values t) (sym past) w.images;
-        is = w.is ∙ ap (λ (es : List EntryValue). record before { entries = es; ranges = t.ranges; locations = t.locations }) (entries_are ∙ ap (λ (ps : List Plan). built_entries ps ps w.values) (sym past));
+        is = w.is ∙ ap (λ (es : List EntryValue). record before { entries = es; ranges = t.ranges; locations = t.locations }) (entries_are ∙ ap (λ (ps : List Plan). unit_entries behind ps w.values) (sym past));
       }
     where
-      go : (w.count < 2 × (length unit.entries ≡ 1)) ⊎ (length unit.entries ≡ before.reserved) → w.count ≡ before.reserved → before.reserved ≡ length unit.entries
-      go (inl k) e = omega (arith, k.0, k.1, e, w.rooted)
-      go (inr k) e = sym k
+      plans_here : List Plan
+      plans_here = plans_of (staying w.front)
+
+      one_or_more : (n : ℕ) → w.count ≡ n → before.reserved ≡ id_of behind w.count → 1 ≤ w.count
+      one_or_more zero e r =
+          let root : before.reserved ≡ 0 = r ∙ ap (id_of behind) e ∙ id_root behind in
+          absurd (omega (arith, root, w.rooted))
+      one_or_more (suc n) e r = omega (arith, e)
+
+      go : (w.count < 2 × (length unit.entries ≡ 1)) ⊎ (1 < w.count × (length unit.entries ≡ before.reserved)) → before.reserved ≡ id_of behind w.count → before.reserved - id_of behind w.count ≡ 0 → unit.entries ≡ unit_entries behind plans_here w.values
+      go (inl k) r none =
+          let one : 1 ≤ w.count = one_or_more w.count refl r in
+          alone_is behind before.reserved plans_here w.values unit.entries (unconverted_from (id_of behind w.count) (before.reserved - id_of behind w.count)) w.valued (omega (arith, k.0, one, w.many)) k.1 w.rooted w.grown
+      go (inr k) r none =
+          let whole : before.reserved ≡ length unit.entries = sym k.1 in
+          sym (filled_up-same before.reserved unit.entries whole) ∙ w.grown ∙ ap (λ (n : ℕ). filled_entries behind plans_here w.values ++ unconverted_from (id_of behind w.count) n) none ∙ append-nil (filled_entries behind plans_here w.values) ∙ filled_is behind plans_here w.values w.valued (omega (arith, k.0, w.many))

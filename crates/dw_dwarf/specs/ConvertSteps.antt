@@ -19,7 +19,8 @@ use Rattle.dw_convert.specs.Tables.{Tables}
 use Rattle.dw_entry_ids.specs.KeptRows.{IsClosed, kept_rows}
 use Rattle.dw_entry_ids.specs.Plans.{Plan, plans_of}
 use Rattle.dw_dwarf.specs.Placed.{with_converted}
-use Rattle.dw_dwarf.specs.ConvertedEntries.{Values, built_entries, EntriesConvert, EntryRefuses}
+use Rattle.dw_dwarf.specs.ConvertedEntries.{Values, EntriesConvert, EntryRefuses}
+use Rattle.dw_dwarf.specs.UnitIds.{IsFree, id_of, unit_entries}
 
 -- the lists of a unit, and the strings of the file that it is written to
 abbrev pub tables_in : List (List ℕ) → List (List ℕ) → UnitValue → Tables
@@ -41,13 +42,14 @@ module _ {R E : Type 0} (keep : ℕ → Bool) (reading : R → Reading) (answers
   plans_kept rows = plans_of (kept_rows keep u.unit.now.header.offset.0 rows)
 
   -- The entries of a unit that are kept are converted: the built unit has exactly these, each under the image of its own parent,
-  -- with the images of its attributes, and else stays as it was but for the lists that were named.
-  pub record ConvertsEntries (before : UnitValue) (old : Tables) (after : UnitValue) (new : Tables) : Type 0 where
+  -- with the images of its attributes, and else stays as it was but for the lists that were named. The ids of those behind the root
+  -- may begin at another than their own.
+  pub record ConvertsEntries (behind : Option ℕ) (before : UnitValue) (old : Tables) (after : UnitValue) (new : Tables) : Type 0 where
     pub rows : List Row
     pub are : unit_rows_read rows
     pub values : List Values
     pub images : EntriesConvert reading answers entries infos u files (reading u.unit.now.header.body).is_big u.unit.now.header.fields.encoding (plans_kept rows) old values new
-    pub is : after ≡ record before { entries = built_entries (plans_kept rows) (plans_kept rows) values; ranges = new.ranges; locations = new.locations }
+    pub is : after ≡ record before { entries = unit_entries behind (plans_kept rows) values; ranges = new.ranges; locations = new.locations }
 
   -- behind entries that were converted, one becomes nothing
   pub record RefusesEntry (old : Tables) (y : ConvertError) : Type 0 where
@@ -63,13 +65,14 @@ module _ {R E : Type 0} (keep : ℕ → Bool) (reading : R → Reading) (answers
     pub refused : EntryRefuses reading answers entries infos u files (reading u.unit.now.header.body).is_big u.unit.now.header.fields.encoding plan tables y
 
 -- A unit whose rows can all be read, with as many ids as it has entries that are kept, each of these with its own parent, no tag of
--- its table being zero; and the unit that it is written to, which has its root alone.
-pub record CanConvert {R E : Type 0} (keep : ℕ → Bool) (reading : R → Reading) (u : UnitRef R E) (w : UnitValue) : Type 0 where
+-- its table being zero; and the unit that it is written to, which has its root alone, and maybe ids that others have.
+pub record CanConvert {R E : Type 0} (first : Option ℕ) (keep : ℕ → Bool) (reading : R → Reading) (u : UnitRef R E) (w : UnitValue) : Type 0 where
   pub rows : List Row
   pub are : rows_reading reading u.unit.now.header u.unit.now.abbreviations ≡ Ok rows
   pub behind : u.unit.now.header.offset.0 ≤ (reading u.unit.now.header.body).place
   pub tagged : All (λ (d : Declaration). d.shape.tag ≢ 0) u.unit.now.abbreviations
   pub closed : IsClosed keep u.unit.now.header.offset.0 rows
-  pub reserved : w.reserved ≡ entry_count (kept_rows keep u.unit.now.header.offset.0 rows)
+  pub free : IsFree first
+  pub reserved : w.reserved ≡ id_of first (entry_count (kept_rows keep u.unit.now.header.offset.0 rows))
   pub entries : w.entries ≡ new_root ∷ []
   pub kept : w.is_freed ≡ false

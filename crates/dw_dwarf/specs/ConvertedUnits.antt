@@ -1,5 +1,5 @@
 -- What the units of a file become, one after the other.
-use Rattle.std.specs.Prelude.{◌≡◌, ◌⊎◌, ℕ, ◌+◌, List, [], ◌∷◌, ◌++◌, length, All, Option, Err, Bool}
+use Rattle.std.specs.Prelude.{◌≡◌, ◌⊎◌, ℕ, ◌+◌, List, [], ◌∷◌, ◌++◌, length, All, Option, None, Err, Bool}
 use Rattle.dw_base.specs.declared.address.Address.{Address}
 use Rattle.dw_base.specs.declared.address.DebugInfoRef.{DebugInfoRef}
 use Rattle.dw_base.specs.declared.ids.UnitEntryId.{UnitEntryId}
@@ -48,13 +48,13 @@ module _ {R E : Type 0} (keep : ℕ → Bool) (reading : R → Reading) (answers
     pub record UnitBecomes (old : Tables) (built : UnitValue) (new : Tables) : Type 0 where
       pub read : UnitRef R E
       pub of : IsOf d held read
-      pub becomes : ConvertsUnit keep reading answers entries infos read (unit_for held) old built new
+      pub becomes : ConvertsUnit None keep reading answers entries infos read (unit_for held) old built new
 
     -- it becomes nothing, for this reason
     pub record UnitRefuses (old : Tables) (e : ConvertError) : Type 0 where
       pub read : UnitRef R E
       pub of : IsOf d held read
-      pub refuses : RefusesUnit keep reading answers entries infos read (unit_for held) old e
+      pub refuses : RefusesUnit None keep reading answers entries infos read (unit_for held) old e
 
 module _ {R E : Type 0} (keep : ℕ → Bool) (reading : R → Reading) (answers : ℕ → Option Address → Type 0) (d : Dwarf R E) (ids : EntryIds) (first : ℕ) where
   -- unit k of those that were read becomes this one

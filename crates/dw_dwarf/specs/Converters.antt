@@ -16,6 +16,8 @@ use Rattle.dw_convert.specs.Tables.{Tables}
 use Rattle.dw_dwarf.specs.ConvertSteps.{tables_in}
 use Rattle.dw_dwarf.specs.EntryRefs.{entry_of, info_of}
 use Rattle.dw_dwarf.specs.NewUnits.{IsNewUnit}
+use Rattle.dw_dwarf.specs.Skeletons.{first_of, lines_of}
+use Rattle.dw_dwarf.specs.UnitIds.{id_of, ids_of}
 use Rattle.dw_entry_ids.specs.KeptWalk.{StandsKept, HandsOutKept}
 use Rattle.dw_entry_ids.specs.UnitCursor.{HandsOutNone}
 use Rattle.dw_dwarf.specs.UnitEntries.{IsLess}
@@ -47,6 +49,10 @@ module _ {R E : Type 0} {RG : Reader.Ghosts R E} {EG : Endianity.Ghosts E} where
   abbrev pub held : ConvertUnit R E RG EG → UnitFields R E
   held c = c.given.read.unit.now
 
+  -- the id at which those of entries behind the root begin, where that isn't their own
+  abbrev pub behind : ConvertUnit R E RG EG → Option ℕ
+  behind c = first_of c.given.skeleton
+
   -- the entries that it knows by their places, in the unit and in .debug_info
   abbrev pub entries_in : ConvertUnit R E RG EG → ℕ → Option UnitEntryId
   entries_in c = entry_of c.given.refs
@@ -67,7 +73,7 @@ module _ {R E : Type 0} {RG : Reader.Ghosts R E} {EG : Endianity.Ghosts E} where
   -- It is as it was handed out: the root alone was read, and the unit that is written has its root alone, without attributes, lists
   -- and line program, and is neither written nor skipped.
   pub record IsFresh (c : ConvertUnit R E RG EG) : Type 0 where
-    pub unit : IsNewUnit (held c).header.fields.encoding c.given.entries c.unit.now
+    pub unit : IsNewUnit (lines_of c.given.skeleton c.given.read).unit.now.header.fields.encoding (id_of (behind c) c.given.entries) c.unit.now
     pub first : c.rows.rows.count ≡ 1
     pub going : c.rows.rows.is_ended ≡ false
 
@@ -78,10 +84,12 @@ module _ {R E : Type 0} {RG : Reader.Ghosts R E} {EG : Endianity.Ghosts E} where
   -- the next entry of those that are left, as what is handed out, with the id that is reserved for it, if it is kept
   pub record HandsOutEntry (reading : R → Reading) (front rest : List Row) (new : ConvertUnit R E RG EG) (entry : ConvertUnitEntry R E) (id : Option UnitEntryId) : Type 0 where
     pub as_read : DebuggingInformationEntry R E
+    pub number : Option UnitEntryId
     pub parent : ℕ
-    pub row : HandsOutKept reading (held new) new.given.kept.now front rest new.rows as_read id parent
+    pub row : HandsOutKept reading (held new) new.given.kept.now front rest new.rows as_read number parent
+    pub id_is : id ≡ ids_of (behind new) number
     pub less : IsLess reading as_read entry
-    pub under : entry.parent ≡ above id parent
+    pub under : entry.parent ≡ above number (id_of (behind new) parent)
     pub read_unit : entry.read_unit ≡ new.read_unit
 
   -- the next entry is read, or none is left

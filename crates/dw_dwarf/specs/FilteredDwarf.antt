@@ -30,6 +30,12 @@ module _ {R E : Type 0} (reading : R → Reading) (f : FilterUnitSection R E) wh
     pub sorted : IsStrictlyIncreasing (map (λ e. e.0) kept)
     pub are : (q : UnitSectionOffset) → Contains kept q ↔ KeptIn reading f.dwarf.now units f.counts.items f.required.items q
 
+  -- which these are
+  pub record KeepsOf (units : List (UnitFields R E)) (kept : Option (List UnitSectionOffset)) : Type 0 where
+    pub places : List UnitSectionOffset
+    pub is : kept ≡ Some places
+    pub keeps : AreKept units places
+
   -- one of its units can't be read again, for this reason
   pub record CannotReadUnits (e : ConvertError) : Type 0 where
     pub reason : ReadError

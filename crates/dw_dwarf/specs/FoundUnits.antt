@@ -1,5 +1,5 @@
 -- What is given of a unit that was found.
-use Rattle.std.specs.Prelude.{◌≡◌, ℕ, Some, slice_get}
+use Rattle.std.specs.Prelude.{◌≡◌, ℕ, Some, None, slice_get}
 use Rattle.dw_base.specs.declared.endianity.Endianity as Endianity
 use Rattle.dw_read.specs.declared.reader.Reader as Reader
 use Rattle.dw_entry_ids.specs.declared.units.NumberedUnit.{NumberedUnit}
@@ -18,3 +18,5 @@ pub record IsGiven {R E : Type 0} {RG : Reader.Ghosts R E} {EG : Endianity.Ghost
   pub number : g.refs.unit.0 ≡ index
   pub start : g.refs.start ≡ numbered.unit.header.offset.0
   pub first_is : g.refs.first ≡ first
+  pub behind : g.refs.behind ≡ None
+  pub skeleton : g.skeleton ≡ None

@@ -9,6 +9,9 @@ pub mod ConvertedEntries
 pub mod ConvertSteps
 pub mod ConvertedPrograms
 pub mod ConvertedUnit
+pub mod Sums
+pub mod UnitIds
+pub mod Skeletons
 pub mod EntryRefs
 pub mod NewUnits
 pub mod ConvertedUnits
@@ -23,3 +26,5 @@ pub mod Converters
 pub mod UnitPrograms
 pub mod WholeUnits
 pub mod UnitSections
+pub mod SplitUnits
+pub mod SplitSections

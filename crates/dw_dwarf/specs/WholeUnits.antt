@@ -15,11 +15,11 @@ module _ {R E : Type 0} {RG : Reader.Ghosts R E} {EG : Endianity.Ghosts E} (read
   -- The unit that was read becomes the one that is written, with the strings of its file, and the ids of its files by the numbers that
   -- were read are kept.
   pub record ConvertsWhole (old new : ConvertUnit R E RG EG) : Type 0 where
-    pub unit : ConvertsUnit (keep_of old.given.kept.now) reading answers (entries_in old) (infos_in old) old.given.read old.unit.now (tables old.strings.now old.line_strings.now) new.unit.now (tables new.strings.now new.line_strings.now)
+    pub unit : ConvertsUnit old.given.skeleton (keep_of old.given.kept.now) reading answers (entries_in old) (infos_in old) old.given.read old.unit.now (tables old.strings.now old.line_strings.now) new.unit.now (tables new.strings.now new.line_strings.now)
     pub files : new.files.items ≡ unit.files
 
   -- it becomes nothing, for this reason
   abbrev pub RefusesWhole : ConvertUnit R E RG EG → ConvertError → Type 0
   RefusesWhole old e =
-      RefusesUnit (keep_of old.given.kept.now) reading answers (entries_in old) (infos_in old) old.given.read
+      RefusesUnit old.given.skeleton (keep_of old.given.kept.now) reading answers (entries_in old) (infos_in old) old.given.read
       old.unit.now (tables old.strings.now old.line_strings.now) e

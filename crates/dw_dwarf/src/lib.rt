@@ -9,7 +9,8 @@ mod line_string;
 mod rest;
 
 pub use convert::{
-    ConvertUnit, ConvertUnitEntry, ConvertUnitSection, convert_entries, convert_kept, convert_units,
+    ConvertSplitUnitSection, ConvertUnit, ConvertUnitEntry, ConvertUnitSection, convert_entries,
+    convert_kept, convert_units,
 };
 pub use dw_base::{
     Address, BigEndian, DebugInfoRef, DirectoryId, DwAt, DwAte, DwForm, DwLang, DwTag, Encoding,

@@ -13,6 +13,7 @@ ghost use Rattle.dw_dwarf.specs.Converters.{above, entries_in, infos_in, parent_
 use crate::convert::found::GivenUnit;
 use crate::convert::fresh::is_fresh_unit;
 use crate::convert::program::set_program;
+use crate::convert::skeleton::{first_of, id_of, ids_of, lines_of};
 use crate::convert::unit_entry::ConvertUnitEntry;
 use dw_base::{
     DebugInfoOffset, DebugInfoRef, DwTag, FileId, Result, UnitEntryId, UnitId, UnitOffset,
@@ -69,8 +70,10 @@ impl<'a, R: Reader> ConvertUnit<'a, R> {
     pub fn is_fresh(&self) -> bool
         ensures { IsTrue result ↔ IsFresh self.now }
     {
-        let encoding = self.given.read.encoding();
-        self.rows.is_behind_root() && is_fresh_unit(self.unit, encoding, self.given.entries)
+        let encoding = lines_of(self.given.skeleton, self.given.read).encoding();
+        let entries = UnitEntryId::new(self.given.entries);
+        let ids = id_of(first_of(self.given.skeleton), entries).index();
+        self.rows.is_behind_root() && is_fresh_unit(self.unit, encoding, ids)
     }
 
     /// The id of the unit that is written.
@@ -104,13 +107,14 @@ impl<'a, R: Reader> ConvertUnit<'a, R> {
         ensures ended { self.old.rows.rows.is_ended ≡ true → result ≡ Ok None }
         ensures others { self.new ≡ record self.old { rows = self.new.rows } }
     {
-        let Some((id, parent)) = self.rows.next(&mut entry.read_entry)? else {
+        let Some((number, parent)) = self.rows.next(&mut entry.read_entry)? else {
             return Ok(None);
         };
+        let behind = first_of(self.given.skeleton);
         entry.read_unit = self.read_unit;
-        entry.parent = above(id, parent);
+        entry.parent = above(number, id_of(behind, parent));
         entry.filter_attributes();
-        Ok(Some(id))
+        Ok(Some(ids_of(behind, number)))
     }
 
     /// Adds an entry with the tag that was read, under its parent, or under the root where that is

@@ -1,11 +1,12 @@
 //! The entries of a unit.
 
-ghost use Rattle.std.specs.Prelude.{◌≡◌, ◌⊎◌, IfErr, OnOk};
+ghost use Rattle.std.specs.Prelude.{◌≡◌, ◌⊎◌, None, IfErr, OnOk};
 ghost use Rattle.dw_sources.specs.declared.convert_error.ConvertError.TheVariants.{NoMemory};
 ghost use Rattle.dw_entry_ids.specs.KeptRows.{keep_of};
 ghost use Rattle.dw_dwarf.specs.ConvertSteps.{tables_in, CanConvert, ConvertsEntries, RefusesEntry};
 
 use crate::convert::entry::convert_entry;
+use crate::convert::skeleton::id_of;
 use dw_base::{Address, FileId};
 use dw_convert::ConvertDebugInfoRef;
 use dw_entry_ids::{Kept, KeptRows};
@@ -45,10 +46,48 @@ pub fn convert_entries<R: Reader, C: ConvertDebugInfoRef, F: Fn(u64) -> Option<A
     refs: &C,
 ) -> ConvertResult<()>
     requires callable { F.IsAlwaysCallable convert_address.now }
-    requires ready { CanConvert (keep_of kept.now) R.reading read unit.old }
+    requires ready { CanConvert None (keep_of kept.now) R.reading read unit.old }
     ensures ok { OnOk result (ConvertsEntries (keep_of kept.now) R.reading
         (F.post convert_address.now) (C.entries refs.now) (C.infos refs.now) read.entry files.now
-        unit.old (tables_in strings.old line_strings.old unit.old)
+        None unit.old (tables_in strings.old line_strings.old unit.old)
+        unit.new (tables_in strings.new line_strings.new unit.new)) }
+    ensures err { IfErr result (λ e. (e ≡ NoMemory) ⊎ RefusesEntry (keep_of kept.now) R.reading
+        (F.post convert_address.now) (C.entries refs.now) (C.infos refs.now) read.entry files.now
+        (tables_in strings.old line_strings.old unit.old) e) }
+{
+    convert_rows(
+        alloc,
+        read,
+        kept,
+        None,
+        files,
+        unit,
+        strings,
+        line_strings,
+        convert_address,
+        refs,
+    )
+}
+
+/// Does so where the ids of entries behind the root may begin at another than their own, which is
+/// then the first that the unit hasn't handed out for others.
+pub(crate) fn convert_rows<R: Reader, C: ConvertDebugInfoRef, F: Fn(u64) -> Option<Address>>(
+    alloc: Global,
+    read: UnitRef<'_, R>,
+    kept: &Kept,
+    behind: Option<usize>,
+    files: &[FileId],
+    unit: &mut Unit,
+    strings: &mut StringTable,
+    line_strings: &mut LineStringTable,
+    convert_address: &F,
+    refs: &C,
+) -> ConvertResult<()>
+    requires callable { F.IsAlwaysCallable convert_address.now }
+    requires ready { CanConvert behind (keep_of kept.now) R.reading read unit.old }
+    ensures ok { OnOk result (ConvertsEntries (keep_of kept.now) R.reading
+        (F.post convert_address.now) (C.entries refs.now) (C.infos refs.now) read.entry files.now
+        behind unit.old (tables_in strings.old line_strings.old unit.old)
         unit.new (tables_in strings.new line_strings.new unit.new)) }
     ensures err { IfErr result (λ e. (e ≡ NoMemory) ⊎ RefusesEntry (keep_of kept.now) R.reading
         (F.post convert_address.now) (C.entries refs.now) (C.infos refs.now) read.entry files.now
@@ -67,8 +106,8 @@ pub fn convert_entries<R: Reader, C: ConvertDebugInfoRef, F: Fn(u64) -> Option<A
             read,
             files,
             &entry,
-            id,
-            parent,
+            id_of(behind, id),
+            id_of(behind, parent),
             unit,
             strings,
             line_strings,

@@ -1,11 +1,14 @@
 //! The units of a file, all of which were read before one is converted.
 
-ghost use Rattle.std.specs.Prelude.{All};
+ghost use Rattle.std.specs.Prelude.{◌<◌, ◌^◌, All};
 ghost use Rattle.dw_entry_ids.specs.KeptRows.{keep_of};
 ghost use Rattle.dw_dwarf.specs.FileUnits.{AreFound};
 ghost use Rattle.dw_dwarf.specs.Readable.{IsReadable, IsReadableUnit};
+ghost use Rattle.dw_dwarf.specs.Skeletons.{first_of};
+ghost use Rattle.dw_dwarf.specs.UnitIds.{IsFree, id_of};
 
 use crate::convert::refs::UnitRefs;
+use crate::convert::skeleton::Skeleton;
 use dw_entry_ids::{Kept, NumberedUnits};
 use dw_read::Reader;
 use dw_read_units::{Dwarf, UnitRef};
@@ -29,5 +32,9 @@ pub(crate) struct GivenUnit<'a, R: Reader> {
     pub(crate) kept: &'a Kept,
     /// How many are, its root among them.
     pub(crate) entries: usize,
+    /// What it takes from its skeleton, where it was split off.
+    pub(crate) skeleton: Option<Skeleton<'a, R>>,
+    ghost free: { IsFree (first_of skeleton) },
+    ghost room: { id_of (first_of skeleton) entries < 2 ^ 64 },
     ghost readable: { IsReadable R.reading (keep_of kept.now) read.unit.now entries },
 }

@@ -3,8 +3,11 @@
 ghost use Rattle.std.specs.Prelude.{◌≡◌, ◌⊎◌, ◌<◌, ◌++◌, length, map, None, OnOk, IfOk, IfErr};
 ghost use Rattle.dw_entry_ids.specs.Units.{NumbersUnits};
 ghost use Rattle.dw_sources.specs.declared.convert_error.ConvertError.TheVariants.{NoMemory};
-ghost use Rattle.dw_dwarf.specs.ConvertedUnits.{CannotRead};
-ghost use Rattle.dw_dwarf.specs.FilteredDwarf.{CannotBegin, NumbersFiltered};
+ghost use Rattle.dw_dwarf.specs.ConvertedUnits.{AreClosed, CannotRead};
+ghost use Rattle.dw_dwarf.specs.FilteredDwarf.{AreFilterUnits, CannotBegin, CannotReadEntries, KeepsOf};
+ghost use Rattle.dw_dwarf.specs.FilteredDwarf.{NumbersFiltered};
+ghost use Rattle.dw_entry_ids.specs.KeptRows.{keep_of};
+ghost use Rattle.dw_entry_ids.specs.KeptUnits.{AreUnitsBehind};
 ghost use Rattle.dw_dwarf.specs.FoundUnits.{IsGiven};
 ghost use Rattle.dw_dwarf.specs.NewUnits.{unit_for};
 
@@ -12,10 +15,10 @@ use crate::convert::found::{FoundUnits, GivenUnit};
 use crate::convert::refs::UnitRefs;
 use crate::convert::units::new_unit;
 use dw_base::UnitId;
-use dw_entry_ids::{Kept, first_units, number_kept, number_units};
+use dw_entry_ids::{Kept, NumberedUnit, first_units, number_kept, number_units};
 use dw_filter::{FilterUnitSection, kept_entries};
 use dw_read::Reader;
-use dw_read_units::{Dwarf, UnitRef};
+use dw_read_units::{Dwarf, Unit, UnitRef};
 use dw_sources::{ConvertError, ConvertResult};
 use dw_unit::UnitTable;
 use std::alloc::Global;
@@ -49,8 +52,7 @@ impl<'a, R: Reader> FoundUnits<'a, R> {
     {
         let read = filter.dwarf();
         let units = first_units(alloc, read, filter.counts().len())?;
-        let places = kept_entries(alloc, read, &units, filter.counts(), filter.required())?;
-        let kept = Kept::at(places);
+        let kept = kept_of(alloc, &filter, &units)?;
         let found = number_kept(alloc, read, units, &kept)?;
         Ok(FoundUnits { read, found, kept })
     }
@@ -62,14 +64,16 @@ impl<'a, R: Reader> FoundUnits<'a, R> {
     {
         let numbered = &self.found.units[index];
         let start = numbered.unit.header.offset();
+        let entries = entries_of(numbered);
         GivenUnit {
             read: UnitRef {
                 dwarf: self.read,
                 unit: &numbered.unit,
             },
-            refs: UnitRefs::new(&self.found.ids, UnitId::new(index), start, first),
+            refs: UnitRefs::new(&self.found.ids, UnitId::new(index), start, first, None),
             kept: &self.kept,
-            entries: numbered.entries,
+            entries,
+            skeleton: None,
         }
     }
 
@@ -89,4 +93,28 @@ impl<'a, R: Reader> FoundUnits<'a, R> {
         }
         Ok(())
     }
+}
+
+/// How many entries of a unit are kept.
+pub(crate) fn entries_of<R: Reader>(numbered: &NumberedUnit<R>) -> usize
+    ensures { result ≡ numbered.now.entries }
+{
+    numbered.entries
+}
+
+/// Which entries of its units a filter keeps.
+pub(crate) fn kept_of<R: Reader>(
+    alloc: Global,
+    filter: &FilterUnitSection<'_, R>,
+    units: &[Unit<R>],
+) -> ConvertResult<Kept>
+    requires are { AreFilterUnits R.reading filter.now units.now }
+    requires in_order { AreUnitsBehind R.reading filter.now.dwarf.now 0 units.now }
+    ensures ok { IfOk result (KeepsOf R.reading filter.now units.now) }
+    ensures closed { IfOk result (λ k. AreClosed (keep_of k) R.reading units.now) }
+    ensures err { IfErr result (λ e. (e ≡ NoMemory) ⊎ CannotReadEntries R.reading filter.now e) }
+{
+    let (read, counts) = (filter.dwarf(), filter.counts());
+    let places = kept_entries(alloc, read, units, counts, filter.required())?;
+    Ok(Kept::at(places))
 }

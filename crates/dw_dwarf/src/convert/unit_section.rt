@@ -2,11 +2,13 @@
 
 ghost use Rattle.std.specs.Prelude.{◌≡◌, [], None};
 ghost use Rattle.dw_dwarf.specs.Readable.{rows_held};
+ghost use Rattle.dw_dwarf.specs.Skeletons.{skeleton_unit};
 ghost use Rattle.dw_entry_ids.specs.KeptWalk.{StandsKept};
 ghost use Rattle.dw_dwarf.specs.UnitSections.{PassesUnit, HandsOut};
 
 use crate::convert::convert_unit::ConvertUnit;
 use crate::convert::found::{FoundUnits, GivenUnit};
+use crate::convert::skeleton::skeleton_unit;
 use crate::convert::unit_entry::ConvertUnitEntry;
 use crate::dwarf::Dwarf;
 use dw_base::UnitId;
@@ -89,7 +91,7 @@ impl<'a, R: Reader> ConvertUnitSection<'a, R> {
 
 impl<'a, R: Reader> ConvertUnit<'a, R> {
     /// A unit of which nothing was read yet.
-    fn of(
+    pub(crate) fn of(
         alloc: Global,
         given: GivenUnit<'a, R>,
         id: UnitId,
@@ -105,7 +107,7 @@ impl<'a, R: Reader> ConvertUnit<'a, R> {
         ensures strings_now { result.strings.now ≡ strings.old }
         ensures given { result.given ≡ given.entry }
         ensures read_unit { result.read_unit ≡ given.entry.read }
-        ensures skeleton { result.read_skeleton_unit ≡ None }
+        ensures skeleton { result.read_skeleton_unit ≡ skeleton_unit given.entry.skeleton }
         ensures id { result.id ≡ id }
         ensures files { result.files.items ≡ [] }
         ensures rows { StandsKept R.reading given.entry.read.unit.now given.entry.kept.now
@@ -114,7 +116,7 @@ impl<'a, R: Reader> ConvertUnit<'a, R> {
         let (read, kept) = (given.read, given.kept);
         ConvertUnit {
             read_unit: read,
-            read_skeleton_unit: None,
+            read_skeleton_unit: skeleton_unit(given.skeleton),
             unit,
             line_strings,
             strings,

@@ -137,7 +137,7 @@ pub(crate) fn convert_found<R: Reader, F: Fn(u64) -> Option<Address>>(
     let first = UnitId::new(units.count());
     'units: for (index, numbered) in found.units.iter().enumerate() {
         let start = numbered.unit.header.offset();
-        let refs = UnitRefs::new(&found.ids, UnitId::new(index), start, first);
+        let refs = UnitRefs::new(&found.ids, UnitId::new(index), start, first, None);
         let unit = convert_numbered(
             alloc,
             dwarf,
@@ -158,10 +158,10 @@ pub(crate) fn convert_found<R: Reader, F: Fn(u64) -> Option<Address>>(
 
 /// The unit that one becomes of its entries that are kept, where these are the entries that it may
 /// name.
-fn convert_numbered<R: Reader, F: Fn(u64) -> Option<Address>>(
+fn convert_numbered<'r, R: Reader, F: Fn(u64) -> Option<Address>>(
     alloc: Global,
-    dwarf: &Dwarf<R>,
-    numbered: &NumberedUnit<R>,
+    dwarf: &'r Dwarf<R>,
+    numbered: &'r NumberedUnit<R>,
     kept: &Kept,
     strings: &mut StringTable,
     line_strings: &mut LineStringTable,
@@ -188,6 +188,7 @@ fn convert_numbered<R: Reader, F: Fn(u64) -> Option<Address>>(
         alloc,
         read,
         kept,
+        None,
         &mut unit,
         &mut files,
         strings,

@@ -57,6 +57,7 @@ impl<'a, R: Reader> ConvertUnit<'a, R> {
             self.alloc,
             self.given.read,
             self.given.kept,
+            self.given.skeleton,
             self.unit,
             &mut self.files,
             self.strings,

@@ -41,7 +41,7 @@ returns-in_err-unit-clause-err g c =
       before = subst (λ n. UnitsBecome keep reading answers c.args.dwarf.now ids n 0 (take c.units.index xs) old c.units.invariant.built now) (c.new-first.ensures ∙ c.count.ensures)
           (subst (λ ys. UnitsBecome keep reading answers c.args.dwarf.now ids c.new-first.result.0 0 (take c.units.index ys) old c.units.invariant.built now) items c.units.invariant.become);
       refuses = refs_as (λ entries infos. UnitRefuses keep reading answers c.args.dwarf.now entries infos c.numbered-item.result now c.in_err-unit.field-0.0) c.new-refs.result ids (length (take c.units.index xs)) c.numbered-item.result.unit.header.offset.0 (length c.args.units.now)
-          c.new-refs.ensures.ids (ap (λ u. u.0) c.new-refs.ensures.unit ∙ c.new.ensures ∙ sym (length_before xs c.units.index l)) (c.new-refs.ensures.start ∙ ap (λ o. o.0) c.offset-start.ensures) (c.new-refs.ensures.first ∙ c.new-first.ensures ∙ c.count.ensures) r;
+          c.new-refs.ensures.ids (ap (λ u. u.0) c.new-refs.ensures.unit ∙ c.new.ensures ∙ sym (length_before xs c.units.index l)) (c.new-refs.ensures.start ∙ ap (λ o. o.0) c.offset-start.ensures) (c.new-refs.ensures.first ∙ c.new-first.ensures ∙ c.count.ensures) c.new-refs.ensures.behind r;
     })) c.in_err-unit.ensures.err)
 
 pub units-preserved : goal.units-preserved
@@ -63,7 +63,7 @@ units-preserved g c =
           (ap (λ x. take c.units.index items ++ x ∷ []) c.numbered-item.is ∙ sym (take_more items c.units.index c.numbered-item.result c.units-test.true))
           (one_more (keep_of c.args.kept.now) reading answers c.args.dwarf.now ids c.new-first.result.0 0 (take c.units.index items) old c.units.invariant.built now c.numbered-item.result c.in_ok-unit.unit end c.units.invariant.become
           (refs_as (λ entries infos. UnitBecomes (keep_of c.args.kept.now) reading answers c.args.dwarf.now entries infos c.numbered-item.result now c.in_ok-unit.unit end) c.new-refs.result ids (0 + length (take c.units.index items)) c.numbered-item.result.unit.header.offset.0 c.new-first.result.0
-          c.new-refs.ensures.ids (ap (λ u. u.0) c.new-refs.ensures.unit ∙ c.new.ensures ∙ number) (c.new-refs.ensures.start ∙ ap (λ o. o.0) c.offset-start.ensures) c.new-refs.ensures.first c.in_ok-unit.ensures.ok));
+          c.new-refs.ensures.ids (ap (λ u. u.0) c.new-refs.ensures.unit ∙ c.new.ensures ∙ number) (c.new-refs.ensures.start ∙ ap (λ o. o.0) c.offset-start.ensures) c.new-refs.ensures.first c.new-refs.ensures.behind c.in_ok-unit.ensures.ok));
     }
 
 pub returns-clause-ok : goal.returns-clause-ok

@@ -3,6 +3,7 @@ use Rattle.std.specs.Prelude.{slice_get}
 use Rattle.dw_dwarf.proofs.SectionSteps.{root_or_refused}
 use Rattle.dw_dwarf.specs.Converters.{held}
 use Rattle.dw_dwarf.specs.FoundUnits.{IsGiven}
+use Rattle.dw_dwarf.specs.Skeletons.{skeleton_unit}
 use Rattle.dw_dwarf.specs.Readable.{rows_held}
 use Rattle.dw_entry_ids.specs.KeptWalk.{StandsKept}
 use Rattle.dw_dwarf.proofs.convert.unit_section.ConvertUnitSection.read_unit.Goals as goal
@@ -31,7 +32,7 @@ returns g c =
           (subst (λ n. IsGiven s.found c.in-Some.index n c.give-given.result) (c.new.ensures ∙ ap (λ x. x.first) p.3)
           (subst (λ x. IsGiven x.found c.in-Some.index c.new.result.0 c.give-given.result) p.3 c.give-given.ensures)));
       read_unit = ap (λ x. x.read_unit) same ∙ of.read_unit ∙ sym (ap (λ h. h.read) given);
-      skeleton = ap (λ x. x.read_skeleton_unit) same ∙ of.skeleton;
+      skeleton = ap (λ x. x.read_skeleton_unit) same ∙ of.skeleton ∙ ap skeleton_unit c.give-given.ensures.skeleton;
       id = ap (λ x. x.id.0) same ∙ ap (λ i. i.0) of.id ∙ p.2;
       unit =
           ap (λ x. slice_get x.dwarf.now.units (s.first + s.next)) (sym p.3)
