@@ -19,7 +19,8 @@ use Rattle.dw_dwarf.specs.ConvertedDwarf.{IsConverted, no_strings}
 use Rattle.dw_dwarf.specs.ConvertedUnit.{ConvertsUnit}
 use Rattle.dw_dwarf.specs.ConvertedUnits.{UnitBecomes, UnitsBecome}
 use Rattle.dw_dwarf.specs.DwarfValue.{DwarfValue}
-use Rattle.dw_dwarf.specs.EntryRefs.{id_at, entry_for, info_for, entry_from, own_entry, sum}
+use Rattle.dw_dwarf.specs.EntryRefs.{id_at, entry_for, info_for, entry_from, own_entry}
+use Rattle.dw_dwarf.specs.Sums.{sum}
 use Rattle.dw_dwarf.specs.NewUnits.{unit_for, unit_with}
 use Rattle.dw_dwarf_laws.proofs.Converted.{AreBuiltAlike, IsClosedUnit, settled_unit, unit_once}
 use Rattle.dw_dwarf_laws.proofs.ConvertedExpressions.{AnswersOnce}
@@ -54,10 +55,10 @@ module _ (one two : EntryIds) (same : (p : ℕ) → ids_at one p ≡ ids_at two 
   id_same (Some p) = same p
 
   entries_same : (k m n : ℕ) → m ≡ n → entry_for one k m ≡ entry_for two k n
-  entries_same k m n e = λ i p. (ap (own_entry k) (id_same (sum m p) ∙ ap (λ a. id_at two (sum a p)) e)) i
+  entries_same k m n e = λ i p. (ap (own_entry None k) (id_same (sum m p) ∙ ap (λ a. id_at two (sum a p)) e)) i
 
   infos_same : (first : ℕ) → info_for one first ≡ info_for two first
-  infos_same first = λ i p. ap (entry_from first) (same p) i
+  infos_same first = λ i p. ap (entry_from None first) (same p) i
 
 module _ {R E : Type 0} (keep : ℕ → Bool) (reading : R → Reading) (answers : ℕ → Option Address → Type 0) (functional : AnswersOnce answers) (d e : Dwarf R E) (sections : AreSameSections reading d e) where
   module _ (entries : ℕ → Option UnitEntryId) (infos : ℕ → Option DebugInfoRef) (x y : NumberedUnit R E) (r : ReadUnit) (m : IsNumbered keep reading d x r) (n : IsNumbered keep reading e y r) where
@@ -73,7 +74,7 @@ module _ {R E : Type 0} (keep : ℕ → Bool) (reading : R → Reading) (answers
         let encoding = numbered_encoding keep reading u v same x y h.of.unit k.of.unit r mine other order in
         let count : x.entries ≡ y.entries = m.count ∙ sym n.count in
         let fresh : unit_for y ≡ unit_for x = λ i. unit_with (sym encoding i) (sym count i) in
-        unit_once keep reading answers functional entries infos u v alike (unit_for x) a b old new new_too h.becomes (subst (λ w. ConvertsUnit keep reading answers entries infos v w old b new_too) fresh k.becomes)
+        unit_once keep reading answers functional entries infos u v alike (unit_for x) a b old new new_too h.becomes (subst (λ w. ConvertsUnit None keep reading answers entries infos v w old b new_too) fresh k.becomes)
 
   module _ (one two : EntryIds) (found : (p : ℕ) → ids_at one p ≡ ids_at two p) (first : ℕ) where
     pub units_once : (k : ℕ) (xs ys : List (NumberedUnit R E)) (rs : List ReadUnit) (t : Tables) (us vs : List UnitValue) (new new_too : Tables) → AreNumbered keep reading d xs rs → AreNumbered keep reading e ys rs

@@ -73,7 +73,7 @@ module _ {R E : Type 0} (reading : R → Reading) (answers : ℕ → Option Addr
         λ i. ((s i).0 ∷ (more i).0, (more i).1)
 
     -- what the entries of a unit become, with the tables behind them
-    tree_once : (keep : ℕ → Bool) (old : UnitTables) (before other after after_too : UnitValue) (m n : UnitTables) → settled_unit before ≡ settled_unit other → ConvertsEntries keep reading answers entries infos u files before old after m → ConvertsEntries keep reading answers entries infos v files other old after_too n
+    tree_once : (keep : ℕ → Bool) (old : UnitTables) (before other after after_too : UnitValue) (m n : UnitTables) → settled_unit before ≡ settled_unit other → ConvertsEntries keep reading answers entries infos u files None before old after m → ConvertsEntries keep reading answers entries infos v files None other old after_too n
         → (settled_unit after ≡ settled_unit after_too) × (m ≡ n)
     tree_once keep old before other after after_too m n same h k =
         let rows : k.rows ≡ h.rows = same_ok (rows_reading reading u.unit.now.header u.unit.now.abbreviations) k.rows h.rows (alike.rows ∙ k.are) h.are in
@@ -93,7 +93,7 @@ module _ {R E : Type 0} (reading : R → Reading) (answers : ℕ → Option Addr
         let between : built from h.rows (h.values, m) (settled_unit before) ≡ built v.unit.now.header.offset.0 k.rows (k.values, n) (settled_unit other) = λ i. built (alike.offset i) (sym rows i) (s i) (same i) in
         (first ∙ between ∙ sym last, ap (λ (z : Both (List Values)). z.1) s)
 
-    tree_closed : (keep : ℕ → Bool) (old : UnitTables) (before after : UnitValue) (m : UnitTables) → IsClosedUnit before → ConvertsEntries keep reading answers entries infos u files before old after m → IsClosedUnit after
+    tree_closed : (keep : ℕ → Bool) (old : UnitTables) (before after : UnitValue) (m : UnitTables) → IsClosedUnit before → ConvertsEntries keep reading answers entries infos u files None before old after m → IsClosedUnit after
     tree_closed keep old before after m closed h = ap (λ (w : UnitValue). is_in_sequence w.line_program.program) h.is ∙ closed
 
 -- two units that were built, with the strings behind them
@@ -104,12 +104,12 @@ pub record AreBuiltAlike (after after_too : UnitValue) (new new_too : Tables) : 
   pub tables : new ≡ new_too
 
 module _ {R E : Type 0} (keep : ℕ → Bool) (reading : R → Reading) (answers : ℕ → Option Address → Type 0) (functional : AnswersOnce answers) (entries : ℕ → Option UnitEntryId) (infos : ℕ → Option DebugInfoRef) (u v : UnitRef R E) (alike : AreUnitsAlike reading u v) where
-  pub unit_once : (before after after_too : UnitValue) (old new new_too : Tables) → ConvertsUnit keep reading answers entries infos u before old after new → ConvertsUnit keep reading answers entries infos v before old after_too new_too → AreBuiltAlike after after_too new new_too
+  pub unit_once : (before after after_too : UnitValue) (old new new_too : Tables) → ConvertsUnit None keep reading answers entries infos u before old after new → ConvertsUnit None keep reading answers entries infos v before old after_too new_too → AreBuiltAlike after after_too new new_too
   unit_once before after after_too old new new_too h k =
       let p = program_once reading answers functional u v alike old (record { program = h.program; ids = h.files; tables = h.between }) (record { program = k.program; ids = k.files; tables = k.between }) h.program_is k.program_is in
-      let moved : ConvertsEntries keep reading answers entries infos v h.files (with_program k.program before) (tables_in h.between.strings h.between.line_strings before) after_too (tables_in new_too.strings new_too.line_strings after_too) =
-      subst (λ (fs : List FileId). ConvertsEntries keep reading answers entries infos v fs (with_program k.program before) (tables_in h.between.strings h.between.line_strings before) after_too (tables_in new_too.strings new_too.line_strings after_too)) (sym p.ids)
-      (subst (λ (t : Tables). ConvertsEntries keep reading answers entries infos v k.files (with_program k.program before) (tables_in t.strings t.line_strings before) after_too (tables_in new_too.strings new_too.line_strings after_too)) (sym p.tables) k.tree) in
+      let moved : ConvertsEntries keep reading answers entries infos v h.files None (with_program k.program before) (tables_in h.between.strings h.between.line_strings before) after_too (tables_in new_too.strings new_too.line_strings after_too) =
+      subst (λ (fs : List FileId). ConvertsEntries keep reading answers entries infos v fs None (with_program k.program before) (tables_in h.between.strings h.between.line_strings before) after_too (tables_in new_too.strings new_too.line_strings after_too)) (sym p.ids)
+      (subst (λ (t : Tables). ConvertsEntries keep reading answers entries infos v k.files None (with_program k.program before) (tables_in t.strings t.line_strings before) after_too (tables_in new_too.strings new_too.line_strings after_too)) (sym p.tables) k.tree) in
       let same : settled_unit (with_program h.program before) ≡ settled_unit (with_program k.program before) = λ i. record before { line_program = p.program i } in
       let t = tree_once reading answers functional u v alike entries infos h.files keep (tables_in h.between.strings h.between.line_strings before) (with_program h.program before) (with_program k.program before) after after_too
       (tables_in new.strings new.line_strings after) (tables_in new_too.strings new_too.line_strings after_too) same h.tree moved in

@@ -11,6 +11,8 @@ pub(crate) struct File {
     pub(crate) strings: &'static [u8],
     pub(crate) line_strings: &'static [u8],
     pub(crate) line: &'static [u8],
+    /// `.debug_addr`.
+    pub(crate) addresses: &'static [u8],
 }
 
 /// No unit.
@@ -21,6 +23,7 @@ pub(crate) const NONE: File = File {
     strings: b"",
     line_strings: b"",
     line: b"",
+    addresses: b"",
 };
 
 /// A namespace at 13 holds functions at 16 and 28, and the first of them a variable at 19, within

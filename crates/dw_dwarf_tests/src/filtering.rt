@@ -15,7 +15,7 @@ use std::alloc::Global;
 
 /// What a filter does with a unit: how many entries behind the root it reads, and which offsets of
 /// the unit it requires.
-type Asked = (usize, &'static [usize]);
+pub(crate) type Asked = (usize, &'static [usize]);
 
 /// A file, what a filter does with its first units, and what is written of it, or why it isn't
 /// converted.
@@ -263,7 +263,7 @@ pub(crate) fn tables() -> [&'static [Row]; 8] {
 }
 
 /// A file's sections, to be read.
-fn sections_of(file: &'static File, endian: RunTimeEndian) -> ReadDwarf<Slice<'static>> {
+pub(crate) fn sections_of(file: &'static File, endian: RunTimeEndian) -> ReadDwarf<Slice<'static>> {
     ReadDwarf {
         debug_abbrev: reader(file.abbrev, endian),
         debug_str: reader(file.strings, endian),
@@ -274,7 +274,7 @@ fn sections_of(file: &'static File, endian: RunTimeEndian) -> ReadDwarf<Slice<'s
         debug_loc: reader(b"", endian),
         debug_loclists: reader(file.lists, endian),
         debug_info: reader(file.info, endian),
-        debug_addr: reader(b"", endian),
+        debug_addr: reader(file.addresses, endian),
         debug_str_offsets: reader(b"", endian),
     }
 }
@@ -307,7 +307,10 @@ fn read(unit: &mut FilterUnit<'_, Slice<'_>>, count: usize) {
 }
 
 /// Does what is asked with the next unit of a file, if it can be read.
-fn ask(filter: &mut FilterUnitSection<'_, Slice<'_>>, asked: &Asked) -> ConvertResult<()> {
+pub(crate) fn ask(
+    filter: &mut FilterUnitSection<'_, Slice<'_>>,
+    asked: &Asked,
+) -> ConvertResult<()> {
     let (count, offsets) = *asked;
     if let Ok(Some(mut unit)) = filter.read_unit() {
         require(&mut unit, offsets)?;
@@ -329,7 +332,7 @@ fn constant(address: u64) -> Option<Address> {
 }
 
 /// Converts all of a fresh unit.
-fn convert_unit<'a>(
+pub(crate) fn convert_unit<'a>(
     unit: &mut ConvertUnit<'a, Slice<'static>>,
     root: ConvertUnitEntry<'a, Slice<'static>>,
 ) -> ConvertResult<()> {
@@ -407,7 +410,7 @@ fn filtered(
 }
 
 /// Tells whether these are the sections of a file.
-fn holds(sections: &Written, file: &File) -> bool {
+pub(crate) fn holds(sections: &Written, file: &File) -> bool {
     sections.debug_abbrev.0.slice() == file.abbrev
         && sections.debug_info.0.slice() == file.info
         && sections.debug_loclists.0.slice() == file.lists

@@ -31,6 +31,10 @@ mod reading;
 #[cfg(test)]
 mod relocation_tests;
 #[cfg(test)]
+mod split_files;
+#[cfg(test)]
+mod splitting;
+#[cfg(test)]
 mod table_files;
 #[cfg(test)]
 mod tests;

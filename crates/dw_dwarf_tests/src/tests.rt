@@ -3,7 +3,7 @@
 use crate::filtering::Way;
 use crate::table_files::{FILES, endian};
 use crate::writing::{Job, write};
-use crate::{alone, converting, filtering, line_programs, units};
+use crate::{alone, converting, filtering, line_programs, splitting, units};
 use dw_dwarf::{Error, RunTimeEndian};
 use std::alloc::Global;
 
@@ -76,6 +76,25 @@ fn first_missed(alloc: Global, rows: &'static [filtering::Row]) -> Option<&'stat
 fn writes_what_a_filter_keeps(rt: HostRuntime) {
     for rows in filtering::tables() {
         let missed = first_missed(rt.alloc(), rows);
+        assert!(rt; missed.is_none(), "{}", missed.unwrap_or(""));
+    }
+}
+
+/// The name of the first row of a table of split units that is written otherwise.
+fn first_split_missed(alloc: Global, rows: &'static [splitting::Row]) -> Option<&'static str> {
+    for row in rows {
+        let (name, endian, splitting) = *row;
+        if !is_answered(alloc, endian, Job::Splitting(endian, splitting), None) {
+            return Some(name);
+        }
+    }
+    None
+}
+
+#[test]
+fn writes_split_units_that_it_puts_back(rt: HostRuntime) {
+    for rows in splitting::tables() {
+        let missed = first_split_missed(rt.alloc(), rows);
         assert!(rt; missed.is_none(), "{}", missed.unwrap_or(""));
     }
 }

@@ -8,6 +8,7 @@ use crate::filling::fill_in;
 use crate::filtering::{Filtering, Way, write_filtered};
 use crate::line_programs::{Program, write_program};
 use crate::plans::{Told, write_root};
+use crate::splitting::{Splitting, write_split};
 use crate::table_files::write_file;
 use crate::units::{Units, write_units};
 use dw_dwarf::{Dwarf, Error, Result, RunTimeEndian, Sections};
@@ -27,6 +28,7 @@ pub(crate) enum Job {
     Program(Program),
     Conversion(Conversion),
     Filtering(RunTimeEndian, Way, Filtering),
+    Splitting(RunTimeEndian, Splitting),
     /// The file of a number of `table_files`.
     File(usize),
     /// What `filling` writes step by step.
@@ -53,6 +55,7 @@ fn write_into(alloc: Global, job: Job, dwarf: &mut Dwarf, sections: &mut Written
         Job::Program(program) => write_program(program, dwarf, sections),
         Job::Conversion(conversion) => write_converted(alloc, conversion, dwarf, sections),
         Job::Filtering(endian, way, row) => write_filtered(alloc, endian, way, row, sections),
+        Job::Splitting(endian, row) => write_split(alloc, endian, row, dwarf, sections),
         Job::File(file) => write_file(alloc, file, dwarf, sections),
         Job::Filling => fill_in(alloc, dwarf, sections),
     }
