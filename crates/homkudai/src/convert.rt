@@ -7,7 +7,8 @@ pub use dw_convert::{
 };
 pub use dw_convert_lines::{ConvertLineProgram, convert_line_program, read_line_program};
 pub use dw_dwarf::{
-    ConvertUnit, ConvertUnitEntry, ConvertUnitSection, convert_entries, convert_kept, convert_units,
+    ConvertSplitUnitSection, ConvertUnit, ConvertUnitEntry, ConvertUnitSection, convert_entries,
+    convert_kept, convert_units,
 };
 pub use dw_filter::{
     FilterDependencies, FilterUnit, FilterUnitEntry, FilterUnitSection, add_attribute_places,

@@ -47,7 +47,8 @@ use std::alloc::Global;
 pub struct ConvertUnit<'a, R: Reader> {
     /// The unit that is read.
     pub read_unit: UnitRef<'a, R>,
-    /// The unit that has the addresses and line program of a split one; no unit here is one.
+    /// The unit that has the addresses, the encoding and the line program of one that was split
+    /// off; None for others.
     pub read_skeleton_unit: Option<UnitRef<'a, R>>,
     /// The unit that is written.
     pub unit: &'a mut Unit,
