@@ -1,35 +1,43 @@
 -- The rows of a unit, one entry after the other, and the graph that they make.
-use Rattle.std.proofs.Common.{◌≡◌, ◌∙◌, sym, ap, ap₂, subst, ℕ, ◌+◌, ◌-◌, ◌^◌, ◌<◌, ◌≤◌, List, [], ◌∷◌, ◌++◌, length, map, slice_get, Option, Some, None, IfSome, Bool, true, false, if◌then◌else◌, Ok, ◌⊎◌, inl, inr, ⊎_elim, ◌↔◌, append_assoc, refl, arith}
+use Rattle.std.proofs.Common.{◌≡◌, ◌∙◌, sym, ap, ap₂, subst, ℕ, ◌+◌, ◌-◌, ◌^◌, ◌<◌, ◌≤◌, List, [], ◌∷◌, ◌++◌, length, map, slice_get, Option, Some, None, IfSome, Bool, true, false, if◌then◌else◌, zero, suc, Result, Ok, Err, ◌⊎◌, inl, inr, ⊎_elim, ◌↔◌, append_assoc, refl, arith}
 use Rattle.std.specs.List.{Contains, zip}
 use Rattle.std.specs.Option.{option_map}
 use Rattle.std.proofs.lemmas.Bool.{cases_eq, eq-eqb, ne_eqb}
 use Rattle.std.proofs.lemmas.List.{map-append}
-use Rattle.std.proofs.lemmas.List.Elements.{Contains-append_left, Contains-push, Contains-push_cases}
+use Rattle.std.proofs.lemmas.List.Elements.{Contains-append_cases, Contains-append_left, Contains-push, Contains-push_cases}
 use Rattle.std.proofs.lemmas.Option.{slice_get-map}
-use Rattle.dw_base.specs.Entries.{Mark, Null, Open, ReadEntry, Row}
+use Rattle.dw_base.specs.Entries.{Mark, ReadEntry, Row, next_depth}
 use Rattle.dw_base.specs.declared.offsets.UnitSectionOffset.{UnitSectionOffset}
-use Rattle.dw_read.proofs.Chain.{took_of}
-use Rattle.dw_read.proofs.FormLaws.{mark_law}
+use Rattle.dw_base.specs.Abbreviations.{Declaration}
+use Rattle.dw_base.specs.declared.common.Encoding.{Encoding}
+use Rattle.dw_read.proofs.Lefts.{length-left}
+use Rattle.dw_read.proofs.Shorter.{mark_shorter}
+use Rattle.dw_read.specs.FormReasons.{mark_read}
 use Rattle.dw_read.specs.Reading.{IsReading, Reading, left}
-use Rattle.dw_read.specs.Rows.{ReadsRow, entry_of, row_at, row_read}
-use Rattle.dw_read.specs.declared.entries.EntriesRaw.{EntriesRaw}
+use Rattle.dw_read.specs.Rows.{entry_of}
+use Rattle.dw_read.specs.UnitHeaders.{header_size}
+use Rattle.dw_read.specs.declared.error.ReadError.{ReadError}
+use Rattle.dw_read.specs.declared.error.ReadError.TheVariants.{NoMemory as ReadNoMemory}
 use Rattle.dw_read.specs.declared.entry.DebuggingInformationEntry.{DebuggingInformationEntry}
-use Rattle.dw_read_units.proofs.RowWalk.{WalkedRows, row_here, walked_end, walked_more}
-use Rattle.dw_read_units.specs.Passes.{PassesRow}
+use Rattle.dw_read_units.specs.Passes.{rows_reading}
 use Rattle.dw_read_units.specs.declared.dwarf.Unit.{Unit as UnitFields}
 use Rattle.dw_read_units.specs.declared.unit_ref.UnitRef.{UnitRef}
 use Rattle.dw_entry_ids.proofs.Planning.{count_more, parent_below, plans_none}
 use Rattle.dw_entry_ids.proofs.Steps.{count_one}
 use Rattle.dw_entry_ids.specs.Ids.{entry_count, is_entry}
 use Rattle.dw_entry_ids.specs.Plans.{Plan, parent_behind}
-use Rattle.dw_entry_ids.specs.UnitCursor.{HandsOutNone, HandsOutRow, StandsBetween}
+use Rattle.dw_entry_ids.proofs.Until.{none_missing, read_is, until_of, whole}
+use Rattle.dw_entry_ids.specs.AnyUnit.{HandsOutNext, HandsOutNoMore, StandsAmong, StopsAtFault}
+use Rattle.dw_entry_ids.specs.RowsUntil.{RowsUntil, rows_from, rows_until, unit_rows_until}
 use Rattle.dw_entry_ids.specs.declared.unit_rows.UnitRows.{UnitRows}
+use Rattle.dw_sources.specs.ConvertErrors.{from_read}
 use Rattle.dw_sources.specs.declared.convert_error.ConvertError.{ConvertError}
+use Rattle.dw_sources.specs.declared.convert_error.ConvertError.TheVariants.{NoMemory}
 use Rattle.dw_filter.specs.AttributePlaces.{AddsAttributes, RefusesOne}
 use Rattle.dw_filter.specs.Children.{leads_to_child}
 use Rattle.dw_filter.specs.Dependencies.{Dependencies, Known, targets}
-use Rattle.dw_filter.specs.FileGraph.{CanName, Names}
-use Rattle.dw_filter.specs.Links.{Adds, AddsUnit, AreLinks, Grows, HasRows, RefusesLinks, RefusesUnit, is_led_to, parent_at}
+use Rattle.dw_filter.specs.FileGraph.{CanName, CannotRead, Names}
+use Rattle.dw_filter.specs.Links.{Adds, AddsUnit, AreLinks, Grows, HasRows, RefusesLinks, RefusesUnit, StandsInUnit, is_led_to, parent_at}
 use Rattle.dw_filter.specs.UnitGraph.{AddsEdge, BeginsAt, HasEdge, IsKnown, IsLedTo, IsRead, IsUnder, LeadsUp, Placed, placed_in, tag_of}
 use Rattle.dw_filter.specs.declared.links.Links.{Links}
 use Rattle.dw_filter.specs.declared.links.Parent.{Parent}
@@ -37,52 +45,77 @@ use Rattle.dw_filter.proofs.Growing.{Progress, get_front, get_here, get_still, n
 use Rattle.dw_filter.proofs.LinkSteps.{same_place}
 use Rattle.dw_filter.proofs.Naming.{counting_same, names_same}
 
--- ---- all rows of a unit are read
-module _ {R E : Type 0} (reading : R → Reading) where
-  -- a row that is read is passed
-  pub passes_any : (old new : EntriesRaw R E) (before after : DebuggingInformationEntry R E) (b : Bool) → ReadsRow reading old new before after (Ok b) → (m : Mark ReadEntry) × PassesRow reading old new m
-  passes_any old new before after true e = (
-    Open (entry_of reading e.code after),
-    record {
-      unit = e.unit;
-      took = took_of (Mark ReadEntry) (row_at reading old new) (row_read reading old new) (reading old.input) (reading new.input) (Open (entry_of reading e.code after)) (mark_law (reading old.input).is_big old.fields.now.encoding old.abbreviations.now) e.row;
-      lists = e.lists;
-    },
-  )
-  passes_any old new before after false e = (
-    Null,
-    record {
-      unit = e.0.unit;
-      took = took_of (Mark ReadEntry) (row_at reading old new) (row_read reading old new) (reading old.input) (reading new.input) Null (mark_law (reading old.input).is_big old.fields.now.encoding old.abbreviations.now) e.0.row;
-      lists = e.0.lists;
-    },
-  )
+-- ---- the rows of a unit that can be read
+only_one : (x r : Row) → Contains (x ∷ []) r → x ≡ r
+only_one x r m = ⊎_elim (λ n. absurd (omega (arith, n.1))) (λ s. s) (Contains-push_cases [] x r m)
 
-  module _ (u : UnitFields R E) where
-    -- the rows so far, each of which begins in the section
-    pub record AllSoFar (now : EntriesRaw R E) : Type 0 where
-      pub front : List Row
-      pub walked : WalkedRows reading u.header u.abbreviations now front
-      pub room : (r : Row) → Contains front r → u.header.offset.0 + r.from < 2 ^ 64
+-- rows begin within the bytes from which they are read
+module _ (big : Bool) (e : Encoding) (table : List Declaration) where
+  row_within : (fuel from depth : ℕ) (bytes : List ℕ) (r : Row) → Contains (rows_until big e table fuel from depth bytes).rows r → r.from < from + length bytes
+  unfolding rows_until
+  row_within zero from depth [] r c = absurd (omega (arith, c.1))
+  row_within (suc fuel) from depth [] r c = absurd (omega (arith, c.1))
+  row_within zero from depth (b ∷ bs) r c = absurd (omega (arith, c.1))
+  row_within (suc fuel) from depth (b ∷ bs) r c = go (row_within fuel) (mark_read big e table (b ∷ bs)) refl c
+    where
+      go : ((f d : ℕ) (rest : List ℕ) (r : Row) → Contains (rows_until big e table fuel f d rest).rows r → r.from < f + length rest) → (x : Result (Mark ReadEntry × List ℕ) ReadError) → mark_read big e table (b ∷ bs) ≡ x → Contains (rows_from big e table (rows_until big e table fuel) from depth (b ∷ bs) x).rows r → r.from < from + length (b ∷ bs)
+      go less (Err why) h k = absurd (omega (arith, k.1))
+      go less (Ok x) h k =
+          let to : ℕ = from + (length (b ∷ bs) - length x.1) in
+          let one : Row = record { from = from; depth = depth; mark = x.0; to = to } in
+          let shorter : length x.1 < length (b ∷ bs) = mark_shorter big e table (b ∷ bs) x h in
+          ⊎_elim
+          (λ o. let same : from ≡ r.from = ap (λ (y : Row). y.from) (only_one one r o) in omega (arith, same, shorter))
+          (λ m. let below : r.from < to + length x.1 = less to (next_depth x.0 depth) x.1 r m in omega (arith, below, shorter))
+          (Contains-append_cases (one ∷ []) (rows_until big e table fuel to (next_depth x.0 depth) x.1).rows r k)
 
-    pub all_none : (now : EntriesRaw R E) → WalkedRows reading u.header u.abbreviations now [] → AllSoFar now
-    all_none now w = record { front = []; walked = w; room = λ r c. absurd (omega (arith, c.1)) }
+module _ {R E : Type 0} (reading : R → Reading) (u : UnitFields R E) where
+  -- they begin at places in the section
+  pub row_room : IsReading (reading u.header.body) → u.header.offset.0 ≤ (reading u.header.body).place → (r : Row) → Contains (unit_rows_until reading u).rows r → u.header.offset.0 + r.from < 2 ^ 64
+  row_room i behind r c =
+      let body = reading u.header.body in
+      let from : r.from < header_size reading u.header + length (left body) =
+      row_within body.is_big u.header.fields.encoding u.abbreviations (length (left body)) (header_size reading u.header) 0 (left body) r c in
+      let long : length (left body) ≡ body.end - body.place = length-left body i in
+      let place : body.place ≤ body.end = i.place in
+      let small : body.end < 2 ^ 64 = i.small in
+      omega (arith, from, long, place, small, behind)
 
-    pub all_more : (old new : EntriesRaw R E) (m : Mark ReadEntry) → IsReading (reading old.input) → IsReading (reading new.input) → AllSoFar old → PassesRow reading old new m → AllSoFar new
-    all_more old new m i j w p =
-        let row = row_here reading u.header u.abbreviations old new m in
-        let began : u.header.offset.0 ≤ (reading old.input).place = w.walked.began in
-        let place : (reading old.input).place ≤ (reading old.input).end = i.place in
-        let small : (reading old.input).end < 2 ^ 64 = i.small in
-        let here : u.header.offset.0 + row.from < 2 ^ 64 = omega arith in
-        record {
-          front = w.front ++ row ∷ [];
-          walked = walked_more reading u.header u.abbreviations old new w.front m i j w.walked p;
-          room = λ r c. ⊎_elim (λ k. w.room r k) (λ (e : row ≡ r). subst (λ (x : Row). u.header.offset.0 + x.from < 2 ^ 64) e here) (Contains-push_cases w.front row r c);
-        }
+  all_read : rows_reading reading u.header u.abbreviations ≡ whole (unit_rows_until reading u)
+  all_read = read_is (reading u.header.body).is_big u.header.fields.encoding u.abbreviations (length (left (reading u.header.body))) (header_size reading u.header) 0 (left (reading u.header.body))
 
-    pub all_end : (now : EntriesRaw R E) → AllSoFar now → length (left (reading now.input)) ≡ 0 → HasRows reading u
-    all_end now w z = record { rows = w.front; are = walked_end reading u.header u.abbreviations now w.front w.walked z; room = w.room }
+  module _ (c : UnitRows R E) (front rest : List Row) (fault : Option ReadError) (s : StandsAmong reading u c front rest fault) where
+    -- those behind a cursor can be read, too
+    pub read_whole : fault ≡ None → rows_reading reading u.header u.abbreviations ≡ Ok (front ++ rest)
+    read_whole n = all_read ∙ ap whole s.all ∙ ap (λ (f : Option ReadError). whole (until_of (front ++ rest) f)) n
+
+    pub read_faulty : (e : ReadError) → fault ≡ Some e → rows_reading reading u.header u.abbreviations ≡ Err e
+    read_faulty e n = all_read ∙ ap whole s.all ∙ ap (λ (f : Option ReadError). whole (until_of (front ++ rest) f)) n
+
+    -- all of them are those of the unit
+    pub whole_read : (rows : List Row) → rows_reading reading u.header u.abbreviations ≡ Ok rows → rows_reading reading u.header u.abbreviations ≡ Ok (front ++ rest)
+    whole_read rows h =
+        let is : unit_rows_until reading u ≡ record { rows = rows; fault = None } = none_missing (unit_rows_until reading u) rows (sym all_read ∙ h) in
+        read_whole (ap (λ (x : RowsUntil). x.fault) (sym s.all ∙ is))
+
+    -- a row that can't be read is told
+    pub stopped : (e : ReadError) → (e ≡ ReadNoMemory) ⊎ StopsAtFault reading u front rest fault e → (from_read e ≡ NoMemory) ⊎ CannotRead reading u (from_read e)
+    stopped e h = ⊎_elim (λ n. inl (ap from_read n)) (λ (f : StopsAtFault reading u front rest fault e). inr (record { reason = e; read = read_faulty e f.why; is = refl })) h
+
+  -- one entry more was counted, where there is room
+  pub counts_on : (old new : UnitRows R E) (front rest : List Row) (fault : Option ReadError) → StandsAmong reading u old front rest fault → IsReading (reading old.rows.input) → (d : DebuggingInformationEntry R E) (id parent : ℕ) → HandsOutNext reading u front rest fault new d id parent
+      → 2 ^ 64 - new.count < 2 ^ 64 - old.count
+  counts_on old new front rest fault s i d id parent h =
+      let nulls = h.next.nulls in
+      let before_is : old.count ≡ entry_count front = s.counted in
+      let after_is : new.count ≡ entry_count ((front ++ nulls) ++ h.next.row ∷ []) = h.stands.counted in
+      let more : entry_count ((front ++ nulls) ++ h.next.row ∷ []) ≡ entry_count (front ++ nulls) + 1 = count_one (front ++ nulls) h.next.row ∙ ap (λ (k : Mark ReadEntry). entry_count (front ++ nulls) + (if is_entry k then 1 else 0)) h.next.mark in
+      let z : entry_count nulls ≡ 0 = h.next.none in
+      let both = count_more front nulls in
+      let few : old.count ≤ (reading old.rows.input).place = s.few in
+      let place : (reading old.rows.input).place ≤ (reading old.rows.input).end = i.place in
+      let small : (reading old.rows.input).end < 2 ^ 64 = i.small in
+      omega (arith, before_is, after_is, more, z, both, few, place, small)
 
 -- ---- an entry as those under it see it
 abbrev pub as_told : Placed → Parent
@@ -192,7 +225,8 @@ module _ {R E : Type 0} (reading : R → Reading) (unit : UnitRef R E) (count : 
   pub record SoFar (rows : UnitRows R E) (read : List Parent) (now : Dependencies) : Type 0 where
     pub front : List Row
     pub rest : List Row
-    pub stands : StandsBetween reading unit.unit.now rows front rest
+    pub fault : Option ReadError
+    pub stands : StandsAmong reading unit.unit.now rows front rest fault
     pub room : (r : Row) → Contains (front ++ rest) r → from + r.from < 2 ^ 64
     pub told : read ≡ map as_told (placed_in from front)
     pub progress : Progress named_there count old (placed_in from front) now
@@ -201,12 +235,17 @@ module _ {R E : Type 0} (reading : R → Reading) (unit : UnitRef R E) (count : 
   none_placed : placed_in from [] ≡ []
   none_placed = ap (λ (ps : List Plan). zip ps []) plans_none
 
-  pub so_far_none : (rows : UnitRows R E) (all : HasRows reading unit.unit.now) (read : List Parent) → read ≡ [] → StandsBetween reading unit.unit.now rows [] all.rows → SoFar rows read old
-  so_far_none rows all read none s = record {
+  -- all the rows that are left stand behind the first
+  abbrev there : RowsUntil
+  there = unit_rows_until reading unit.unit.now
+
+  pub so_far_none : (rows : UnitRows R E) (read : List Parent) → read ≡ [] → IsReading (reading unit.unit.now.header.body) → from ≤ (reading unit.unit.now.header.body).place → StandsAmong reading unit.unit.now rows [] there.rows there.fault → SoFar rows read old
+  so_far_none rows read none i behind s = record {
     front = [];
-    rest = all.rows;
+    rest = there.rows;
+    fault = there.fault;
     stands = s;
-    room = all.room;
+    room = row_room reading unit.unit.now i behind;
     told = none ∙ ap (map as_told) (sym none_placed);
     progress = subst (λ ps. Progress named_there count old ps old) (sym none_placed) (progress_none named_there count old);
     names = λ n x r. absurd (no_read count n x (subst (λ ps. IsRead ps count n x) none_placed r));
@@ -214,62 +253,66 @@ module _ {R E : Type 0} (reading : R → Reading) (unit : UnitRef R E) (count : 
 
   module _ (rows next : UnitRows R E) (read : List Parent) (now : Dependencies) (w : SoFar rows read now) where
     -- none is left
-    pub so_far_end : HandsOutNone reading unit.unit.now w.front w.rest next → AddsUnit reading unit.dwarf.now unit.unit.now count old now
+    pub so_far_end : HandsOutNoMore reading unit.unit.now w.front w.rest w.fault next → AddsUnit reading unit.dwarf.now unit.unit.now count old now
     so_far_end h = record {
       rows = w.front ++ w.rest;
-      are = w.stands.all;
+      are = read_whole reading unit.unit.now rows w.front w.rest w.fault w.stands h.whole;
       grows = subst (λ ps. Grows old now (IsKnown ps count) (HasEdge ps named_there count)) (sym (placed_more from w.front w.rest))
           (progress_whole named_there count old (placed_in from w.front) (placed_behind from w.front w.rest) now w.progress (inr (none_behind from w.front w.rest h.none)));
       names = λ n x r. w.names n x (read_there named_there count old (placed_in from w.front) (placed_behind from w.front w.rest) (inr (none_behind from w.front w.rest h.none)) n x (subst (λ ps. IsRead ps count n x) (placed_more from w.front w.rest) r));
     }
 
-    module _ (d : DebuggingInformationEntry R E) (id parent : ℕ) (h : HandsOutRow reading unit.unit.now w.front w.rest next d id parent) where
+    module _ (d : DebuggingInformationEntry R E) (id parent : ℕ) (h : HandsOutNext reading unit.unit.now w.front w.rest w.fault next d id parent) where
       abbrev before : List Row
-      before = w.front ++ h.nulls
+      before = w.front ++ h.next.nulls
 
       abbrev pub one : Placed
-      one = placed_at from before h.row (entry_of reading h.code d)
+      one = placed_at from before h.next.row (entry_of reading h.next.code d)
 
       abbrev pub placed : List Placed
       placed = placed_in from w.front ++ one ∷ []
 
       no_more : entry_count before ≡ entry_count w.front
-      no_more = let z : entry_count h.nulls ≡ 0 = h.none in omega (arith, count_more w.front h.nulls)
+      no_more = let z : entry_count h.next.nulls ≡ 0 = h.next.none in omega (arith, count_more w.front h.next.nulls)
 
-      pub placed_now : placed_in from (before ++ h.row ∷ []) ≡ placed
-      placed_now = placed_entry from before h.row (entry_of reading h.code d) h.mark ∙ ap (λ (ps : List Placed). ps ++ one ∷ []) (placed_nulls from w.front h.nulls h.none)
+      pub placed_now : placed_in from (before ++ h.next.row ∷ []) ≡ placed
+      placed_now = placed_entry from before h.next.row (entry_of reading h.next.code d) h.next.mark ∙ ap (λ (ps : List Placed). ps ++ one ∷ []) (placed_nulls from w.front h.next.nulls h.next.none)
 
       pub many : length (placed_in from w.front) ≡ id
-      many = placed_count from w.front ∙ sym h.id_is
+      many = placed_count from w.front ∙ sym h.next.id_is
 
       -- one entry more is counted
       pub one_fewer : id ≤ count → (count + 1) - next.count < (count + 1) - rows.count
       one_fewer l =
           let before_is : rows.count ≡ entry_count w.front = w.stands.counted in
-          let after_is : next.count ≡ entry_count (before ++ h.row ∷ []) = h.stands.counted in
-          let is : id ≡ entry_count w.front = h.id_is in
-          let more : entry_count (before ++ h.row ∷ []) ≡ entry_count before + 1 = count_one before h.row ∙ ap (λ (k : Mark ReadEntry). entry_count before + (if is_entry k then 1 else 0)) h.mark in
+          let after_is : next.count ≡ entry_count (before ++ h.next.row ∷ []) = h.stands.counted in
+          let is : id ≡ entry_count w.front = h.next.id_is in
+          let more : entry_count (before ++ h.next.row ∷ []) ≡ entry_count before + 1 = count_one before h.next.row ∙ ap (λ (k : Mark ReadEntry). entry_count before + (if is_entry k then 1 else 0)) h.next.mark in
           omega (arith, before_is, after_is, is, more, no_more, l)
 
       under : (one.0.parent ≡ 0) ⊎ (one.0.parent < length (placed_in from w.front))
-      under = ⊎_elim (λ z. inl z) (λ (l : parent_behind before h.row.depth < entry_count before). inr (omega (arith, l, no_more, placed_count from w.front))) (parent_below before h.row.depth)
+      under = ⊎_elim (λ z. inl z) (λ (l : parent_behind before h.next.row.depth < entry_count before). inr (omega (arith, l, no_more, placed_count from w.front))) (parent_below before h.next.row.depth)
 
-      all_rows : w.front ++ w.rest ≡ (before ++ h.row ∷ []) ++ h.back
+      all_rows : w.front ++ w.rest ≡ (before ++ h.next.row ∷ []) ++ h.next.back
       all_rows =
-          ap (λ (xs : List Row). w.front ++ xs) h.is ∙ sym (append_assoc w.front h.nulls (h.row ∷ h.back)) ∙ sym (append_assoc before (h.row ∷ []) h.back)
+          ap (λ (xs : List Row). w.front ++ xs) h.next.is ∙ sym (append_assoc w.front h.next.nulls (h.next.row ∷ h.next.back)) ∙ sym (append_assoc before (h.next.row ∷ []) h.next.back)
 
       pub room_here : from + d.offset.0 < 2 ^ 64
       room_here =
-          let here : Contains (w.front ++ w.rest) h.row = subst (λ (xs : List Row). Contains xs h.row) (sym all_rows) (Contains-append_left (before ++ h.row ∷ []) h.back h.row (Contains-push before h.row)) in
-          let l : from + h.row.from < 2 ^ 64 = w.room h.row here in
-          let same : d.offset.0 ≡ h.row.from = h.offset in
+          let here : Contains (w.front ++ w.rest) h.next.row = subst (λ (xs : List Row). Contains xs h.next.row) (sym all_rows) (Contains-append_left (before ++ h.next.row ∷ []) h.next.back h.next.row (Contains-push before h.next.row)) in
+          let l : from + h.next.row.from < 2 ^ 64 = w.room h.next.row here in
+          let same : d.offset.0 ≡ h.next.row.from = h.next.offset in
           omega arith
 
+      -- the cursor stands among the rows, and what is left can be read
+      pub among_now : StandsInUnit reading unit.unit.now next
+      among_now = record { front = before ++ h.next.row ∷ []; rest = h.next.back; fault = w.fault; stands = h.stands }
+
       -- those that count are all known
-      pub so_far_enough : count < id → AddsUnit reading unit.dwarf.now unit.unit.now count old now
-      so_far_enough l = record {
+      pub so_far_enough : count < id → HasRows reading unit.unit.now → AddsUnit reading unit.dwarf.now unit.unit.now count old now
+      so_far_enough l all = record {
         rows = w.front ++ w.rest;
-        are = w.stands.all;
+        are = whole_read reading unit.unit.now rows w.front w.rest w.fault w.stands all.rows all.are;
         grows = subst (λ ps. Grows old now (IsKnown ps count) (HasEdge ps named_there count)) (sym (placed_more from w.front w.rest))
             (progress_whole named_there count old (placed_in from w.front) (placed_behind from w.front w.rest) now w.progress (inl (omega (arith, l, many))));
         names = λ n x r. w.names n x (read_there named_there count old (placed_in from w.front) (placed_behind from w.front w.rest) (inl (omega (arith, l, many))) n x (subst (λ ps. IsRead ps count n x) (placed_more from w.front w.rest) r));
@@ -278,15 +321,16 @@ module _ {R E : Type 0} (reading : R → Reading) (unit : UnitRef R E) (count : 
       -- what those under it see
       module _ (seen : Parent) (read' : List Parent) (place : seen.place.0 ≡ from + d.offset.0) (tag : seen.tag ≡ d.tag) (pushed : read' ≡ read ++ seen ∷ []) where
         seen_is : seen ≡ as_told one
-        seen_is = ap₂ (λ (n : ℕ) t. let p : Parent = record { place = record { 0 = n }; tag = t } in p) (place ∙ ap (λ (n : ℕ). from + n) h.offset) tag
+        seen_is = ap₂ (λ (n : ℕ) t. let p : Parent = record { place = record { 0 = n }; tag = t } in p) (place ∙ ap (λ (n : ℕ). from + n) h.next.offset) tag
 
         pub told_now : read' ≡ map as_told placed
         told_now = pushed ∙ ap₂ (λ (xs : List Parent) (p : Parent). xs ++ p ∷ []) w.told seen_is ∙ sym (map-append as_told (placed_in from w.front) (one ∷ []))
 
         so_far : (new : Dependencies) → Progress named_there count old placed new → ((n : ℕ) (x : Placed) → IsRead placed count n x → CanName reading unit.dwarf.now unit.unit.now x.0.entry) → SoFar next read' new
         so_far new p named = record {
-          front = before ++ h.row ∷ [];
-          rest = h.back;
+          front = before ++ h.next.row ∷ [];
+          rest = h.next.back;
+          fault = w.fault;
           stands = h.stands;
           room = subst (λ (xs : List Row). (r : Row) → Contains xs r → from + r.from < 2 ^ 64) all_rows w.room;
           told = told_now ∙ ap (map as_told) (sym placed_now);
@@ -302,7 +346,7 @@ module _ {R E : Type 0} (reading : R → Reading) (unit : UnitRef R E) (count : 
         -- the parent is known
         module _ (behind : 1 ≤ id) (within : id ≤ count) (above : Option Parent) (is : above ≡ parent_at read' parent) where
           at_parent : above ≡ parent_at (map as_told placed) one.0.parent
-          at_parent = is ∙ ap₂ parent_at told_now h.parent_is
+          at_parent = is ∙ ap₂ parent_at told_now h.next.parent_is
 
           pub parent_known : IfSome (option_map (λ (p : Parent). p.place) above) (λ p. Known (targets now) p)
           parent_known = subst (λ (o : Option Parent). IfSome (option_map (λ (p : Parent). p.place) o) (λ p. Known (targets now) p)) (sym at_parent) (go (parent_cases placed one.0.parent))
@@ -320,37 +364,37 @@ module _ {R E : Type 0} (reading : R → Reading) (unit : UnitRef R E) (count : 
           -- an entry that counts
           pub so_far_more : (l : Links) (new : Dependencies) → AreLinks reading unit d seen.place above l → Grows now new (λ q. l.place ≡ q) (Adds l) → SoFar next read' new
           so_far_more l new a g =
-              let begin : l.place.0 ≡ one.1 = ap (λ (u : UnitSectionOffset). u.0) a.place ∙ place ∙ ap (λ (n : ℕ). from + n) h.offset in
-              let led : l.is_led_to ≡ leads_under (entry_of reading h.code d) above = a.led ∙ same_led above in
+              let begin : l.place.0 ≡ one.1 = ap (λ (u : UnitSectionOffset). u.0) a.place ∙ place ∙ ap (λ (n : ℕ). from + n) h.next.offset in
+              let led : l.is_led_to ≡ leads_under (entry_of reading h.next.code d) above = a.led ∙ same_led above in
               so_far new (progress_more named_there count old (placed_in from w.front) one now w.progress under new (λ q. l.place ≡ q) (Adds l) (omega (arith, behind, many)) (omega (arith, within, many)) g
               (λ q. (λ e. sym begin ∙ ap (λ (u : UnitSectionOffset). u.0) e, λ e. same_place l.place q (begin ∙ e)))
-              (adds_edge named_there placed one l begin (a.parent ∙ ap (option_map (λ (p : Parent). p.place)) at_parent) (led ∙ ap (leads_under (entry_of reading h.code d)) at_parent)
-              (names_same reading unit d h.code h.encoded h.in_order l.named.items a.named)))
+              (adds_edge named_there placed one l begin (a.parent ∙ ap (option_map (λ (p : Parent). p.place)) at_parent) (led ∙ ap (leads_under (entry_of reading h.next.code d)) at_parent)
+              (names_same reading unit d h.next.code h.next.encoded h.next.in_order l.named.items a.named)))
               (λ n x r. ⊎_elim (λ k. w.names n x k) (λ (e : one ≡ x). subst (λ (y : Placed). CanName reading unit.dwarf.now unit.unit.now y.0.entry) e named_here) (read_which named_there count (placed_in from w.front) one n x r))
             where
               named_here : CanName reading unit.dwarf.now unit.unit.now one.0.entry
-              named_here = record { read = unit; of = record { file = refl; unit = refl }; places = l.named.items; adds = subst (λ xs. AddsAttributes reading unit xs [] l.named.items) (counting_same reading unit d h.code h.encoded h.in_order) a.named }
+              named_here = record { read = unit; of = record { file = refl; unit = refl }; places = l.named.items; adds = subst (λ xs. AddsAttributes reading unit xs [] l.named.items) (counting_same reading unit d h.next.code h.next.encoded h.next.in_order) a.named }
 
-              same_led : (o : Option Parent) → is_led_to reading d o ≡ leads_under (entry_of reading h.code d) o
+              same_led : (o : Option Parent) → is_led_to reading d o ≡ leads_under (entry_of reading h.next.code d) o
               same_led None = refl
               same_led (Some p) = refl
 
           -- its location list is refused
-          pub so_far_refused : (e : ConvertError) → RefusesLinks reading unit d e → RefusesUnit reading unit.dwarf.now unit.unit.now count e
-          so_far_refused e r = record {
+          pub so_far_refused : HasRows reading unit.unit.now → (e : ConvertError) → RefusesLinks reading unit d e → RefusesUnit reading unit.dwarf.now unit.unit.now count e
+          so_far_refused all e r = record {
             rows = w.front ++ w.rest;
-            are = w.stands.all;
+            are = whole_read reading unit.unit.now rows w.front w.rest w.fault w.stands all.rows all.are;
             refuses = record {
               number = id;
               entry = one;
               counted = record {
                 stands = ap (λ (xs : List Row). slice_get (placed_in from xs) id) all_rows
-                    ∙ ap (λ (ps : List Placed). slice_get ps id) (placed_more from (before ++ h.row ∷ []) h.back)
-                    ∙ get_still (placed_in from (before ++ h.row ∷ [])) (placed_behind from (before ++ h.row ∷ []) h.back) id one
+                    ∙ ap (λ (ps : List Placed). slice_get ps id) (placed_more from (before ++ h.next.row ∷ []) h.next.back)
+                    ∙ get_still (placed_in from (before ++ h.next.row ∷ [])) (placed_behind from (before ++ h.next.row ∷ []) h.next.back) id one
                     (ap (λ (ps : List Placed). slice_get ps id) placed_now ∙ ap (λ (n : ℕ). slice_get placed n) (sym many) ∙ get_here (placed_in from w.front) one);
                 behind_root = behind;
                 counted = within;
               };
-              cannot = record { read = unit; of = record { file = refl; unit = refl }; places = r.places; refuses = subst (λ xs. RefusesOne reading unit xs [] r.places e) (counting_same reading unit d h.code h.encoded h.in_order) r.refuses };
+              cannot = record { read = unit; of = record { file = refl; unit = refl }; places = r.places; refuses = subst (λ xs. RefusesOne reading unit xs [] r.places e) (counting_same reading unit d h.next.code h.next.encoded h.next.in_order) r.refuses };
             };
           }

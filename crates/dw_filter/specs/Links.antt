@@ -1,12 +1,15 @@
 -- What an entry that is read adds to the known entries and their edges.
-use Rattle.std.specs.Prelude.{◌≡◌, ◌⊎◌, ◌↔◌, ◌+◌, ◌<◌, ◌^◌, ℕ, ◌==◌, Bool, false, List, [], ◌++◌, Option, Some, None, Ok, true, map, filter, not, slice_get, if◌then◌else◌}
+use Rattle.std.specs.Prelude.{◌≡◌, ◌⊎◌, ◌↔◌, ℕ, ◌==◌, Bool, false, List, [], ◌++◌, Option, Some, None, Ok, true, map, filter, not, slice_get, if◌then◌else◌}
 use Rattle.std.specs.Option.{option_map}
 use Rattle.std.specs.List.{Contains}
 use Rattle.dw_base.specs.Entries.{Row}
 use Rattle.dw_base.specs.declared.offsets.UnitSectionOffset.{UnitSectionOffset}
 use Rattle.dw_read.specs.Reading.{Reading}
 use Rattle.dw_read.specs.Rows.{entry_of}
+use Rattle.dw_entry_ids.specs.AnyUnit.{StandsAmong}
+use Rattle.dw_entry_ids.specs.declared.unit_rows.UnitRows.{UnitRows}
 use Rattle.dw_read.specs.declared.attribute.Attribute.{Attribute}
+use Rattle.dw_read.specs.declared.error.ReadError.{ReadError}
 use Rattle.dw_read.specs.declared.entry.DebuggingInformationEntry.{DebuggingInformationEntry}
 use Rattle.dw_read_units.specs.Passes.{rows_reading}
 use Rattle.dw_read_units.specs.declared.dwarf.Dwarf.{Dwarf}
@@ -59,11 +62,17 @@ module _ {R E : Type 0} (reading : R → Reading) where
       pub places : List UnitSectionOffset
       pub refuses : RefusesOne reading u (counting_of x) [] places e
 
-  -- all rows of a unit can be read, and they begin at places in the section
+  -- all rows of a unit can be read
   pub record HasRows (u : UnitFields R E) : Type 0 where
     pub rows : List Row
     pub are : rows_reading reading u.header u.abbreviations ≡ Ok rows
-    pub room : (r : Row) → Contains rows r → u.header.offset.0 + r.from < 2 ^ 64
+
+  -- a cursor stands among the rows of a unit, which may have one that can't be read
+  pub record StandsInUnit (u : UnitFields R E) (c : UnitRows R E) : Type 0 where
+    pub front : List Row
+    pub rest : List Row
+    pub fault : Option ReadError
+    pub stands : StandsAmong reading u c front rest fault
 
   -- the first so many entries of a unit behind its root are known, with their edges
   pub record AddsUnit (d : Dwarf R E) (u : UnitFields R E) (count : ℕ) (old new : Dependencies) : Type 0 where

@@ -11,7 +11,7 @@ ghost use Rattle.dw_sources.specs.declared.convert_error.ConvertError.TheVariant
 ghost use Rattle.dw_filter.specs.FileGraph.{KeptIn, IsLeastKeptIn, MissesRows, MissesPlaces};
 ghost use Rattle.dw_filter.specs.FileGraph.{KnownIn, LeadsIn, IsWhole, IsClosedIn, CannotRead};
 ghost use Rattle.dw_filter.specs.Dependencies.{Known, Leads, targets};
-ghost use Rattle.dw_filter.specs.Links.{AddsUnit, RefusesUnit, IsRequired, HasRows};
+ghost use Rattle.dw_filter.specs.Links.{AddsUnit, RefusesUnit, IsRequired, HasRows, StandsInUnit};
 
 use crate::dependencies::FilterDependencies;
 use crate::links::{add_links, as_parent, links_of, parent_at};
@@ -105,13 +105,12 @@ fn add_unit<R: Reader>(
         ⊎ (CannotRead R.reading unit.entry.unit.now e
         ⊎ RefusesUnit R.reading unit.entry.dwarf.now unit.entry.unit.now count e)) }
 {
-    read_all_rows(alloc, unit)?;
     let mut rows = UnitRows::new(alloc, unit.unit);
     let mut entry = DebuggingInformationEntry::new(alloc);
     let mut read = Vec::new(alloc);
     'rows: while let Some((id, parent)) = rows.next(&mut entry)? {
         if id.index() > count {
-            return Ok(());
+            return pass_rest(unit, &mut rows, &mut entry);
         }
         let seen = as_parent(unit, &entry);
         read.push(seen)?;
@@ -119,24 +118,31 @@ fn add_unit<R: Reader>(
             continue;
         }
         let parent = parent_at(&read, parent);
-        let links = links_of(alloc, unit, &mut entry, seen.place, parent)?;
+        let links = match links_of(alloc, unit, &mut entry, seen.place, parent) {
+            Ok(links) => links,
+            Err(error) => {
+                // A row that can't be read is the reason before a location list is.
+                pass_rest(unit, &mut rows, &mut entry)?;
+                return Err(error);
+            }
+        };
         add_links(dependencies, links)?;
     }
     Ok(())
 }
 
-/// Reads all rows of a unit once, so that it is known that they can be read.
-fn read_all_rows<R: Reader>(alloc: Global, unit: UnitRef<'_, R>) -> ConvertResult<()>
-    requires { unit.unit.now.header.offset.0 ≤ (R.reading unit.unit.now.header.body).place }
+/// Passes the rows of a unit that are left, so that it is known that they can be read.
+fn pass_rest<R: Reader>(
+    unit: UnitRef<'_, R>,
+    rows: &mut UnitRows<'_, R>,
+    entry: &mut DebuggingInformationEntry<R>,
+) -> ConvertResult<()>
+    requires { StandsInUnit R.reading unit.unit.now rows.old }
     ensures ok { OnOk result (HasRows R.reading unit.entry.unit.now) }
     ensures err { IfErr result (λ e. (e ≡ NoMemory)
         ⊎ CannotRead R.reading unit.entry.unit.now e) }
 {
-    let mut rows = unit.entries_raw(alloc, None)?;
-    let mut entry = DebuggingInformationEntry::new(alloc);
-    'rows: while !rows.is_empty() {
-        rows.read_entry(&mut entry)?;
-    }
+    'rows: while let Some(_) = rows.next(entry)? {}
     Ok(())
 }
 
