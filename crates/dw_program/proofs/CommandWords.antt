@@ -4,7 +4,7 @@ use Rattle.std.specs.Prelude.{Option, Some, None, codes, nat_lt, string_bytes, b
 use Rattle.std.specs.Option.{option_and_then}
 use Rattle.std.proofs.lemmas.Bool.{ltb-true}
 use Rattle.dw_ends.specs.Numbers.{below, number_of, number_below}
-use Rattle.dw_make.specs.Generated.{most_variables}
+use Rattle.dw_build.specs.Generated.{most_variables}
 use Rattle.dw_program.specs.Answers.{made_of}
 
 -- words that are one

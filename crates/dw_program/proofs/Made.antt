@@ -6,7 +6,7 @@ use Rattle.dw_writer.specs.declared.sections.Sections.{Sections}
 use Rattle.dw_dwarf.specs.DwarfValue.{DwarfValue}
 use Rattle.dw_dwarf.specs.Written.{AreTextsOf, HoldsDwarf, orders_of, one_order}
 use Rattle.dw_program.specs.Answers.{SaysMade}
-use Rattle.dw_make.specs.Generated.{generated}
+use Rattle.dw_build.specs.Generated.{generated}
 use Rattle.dw_program.specs.Texts.{counts_text}
 
 same_told : {a b : List ℕ} {o : Option (List ℕ)} → o ≡ Some a → o ≡ Some b → a ≡ b

@@ -9,7 +9,7 @@ use Rattle.dw_base.specs.Faults.{HasRisen}
 use Rattle.dw_ends.specs.Ends.{Input, Intake, used_up, with_after, TakesPrefix}
 use Rattle.dw_ends.specs.Sections.{ListingValue, sections_of}
 use Rattle.dw_ends.specs.Numbers.{number_below}
-use Rattle.dw_make.specs.Generated.{generated, most_variables}
+use Rattle.dw_build.specs.Generated.{generated, most_variables}
 use Rattle.dw_build.specs.Script.{script}
 use Rattle.dw_build.specs.Sets.{sets}
 use Rattle.dw_build.specs.SetsValue.{SetsValue}

@@ -6,7 +6,7 @@ use Rattle.dw_program.specs.declared.command.Reading.TheVariants.{Build, Convert
 use Rattle.dw_program.proofs.CommandWords.{asked_few}
 use Rattle.dw_program.proofs.Completeness.{IsDone, build_only, convert_only, link_only, printed_complete, printed_made, not_both}
 use Rattle.dw_program.proofs.Runs.{printed_answers, source_failed_answers, no_memory_answers}
-use Rattle.dw_make.proofs.MadeValid.{generated_valid}
+use Rattle.dw_build.proofs.MadeValid.{generated_valid}
 use Rattle.dw_program.proofs.run.run.Goals.{in-Ok, in-Err-SourceFailed, in-Err-NoMemory}
 use Rattle.dw_program.proofs.run.run.Goals as goal
 

@@ -1,8 +1,8 @@
 use Rattle.std.proofs.Common.{◌≡◌, ◌∙◌, ap, arith, suc, ◌+◌, ◌*◌, ◌∷◌, [], ◌++◌, List}
 use Rattle.dw_tree.specs.UnitValue.{UnitValue}
-use Rattle.dw_make.specs.Generated.{generated_unit, generated_units, unit_variables}
-use Rattle.dw_make.proofs.Refusals.{is_err}
-use Rattle.dw_make.proofs.make.add_units.Goals as goal
+use Rattle.dw_build.specs.Generated.{generated_unit, generated_units, unit_variables}
+use Rattle.dw_build.proofs.Refusals.{is_err}
+use Rattle.dw_build.proofs.make.add_units.Goals as goal
 
 pub loop-index-init : goal.loop-index-init
 loop-index-init c = c.requires

@@ -7,7 +7,7 @@ use Rattle.dw_base.specs.declared.address.DebugInfoRef.TheVariants.{Entry}
 use Rattle.dw_entries.specs.Attributes.{named}
 use Rattle.dw_entries.specs.Entries.{blank_entry, new_root}
 use Rattle.dw_entries.specs.declared.value.AttributeValue.TheVariants.{Data1, Udata, UnitRef, DebugInfoRef}
-use Rattle.dw_make.specs.Generated.{generated}
+use Rattle.dw_build.specs.Generated.{generated}
 
 -- no variable: the base type is the root's one child
 none_generated : (generated 0).units ≡ record (new_unit (record { address_size = 8; format = Dwarf32; version = 5 }) no_line_program) {

@@ -1,10 +1,10 @@
 use Rattle.std.proofs.Common.{◌∙◌, ap, [], ◌∷◌, ◌++◌}
 use Rattle.std.proofs.lemmas.Result.{on_ok_weaker}
 use Rattle.dw_tree.specs.UnitValue.{UnitValue, new_unit}
-use Rattle.dw_make.specs.Generated.{generated_encoding}
-use Rattle.dw_make.proofs.Lists.{got_last, set_last}
-use Rattle.dw_make.proofs.Refusals.{is_err}
-use Rattle.dw_make.proofs.make.add_unit.Goals as goal
+use Rattle.dw_build.specs.Generated.{generated_encoding}
+use Rattle.dw_build.proofs.Lists.{got_last, set_last}
+use Rattle.dw_build.proofs.Refusals.{is_err}
+use Rattle.dw_build.proofs.make.add_unit.Goals as goal
 
 pub returns-in_err-unit-clause-ok : goal.returns-in_err-unit-clause-ok
 returns-in_err-unit-clause-ok c = rw (is_err _ _ c.from_residual.ensures) tt

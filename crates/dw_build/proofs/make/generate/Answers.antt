@@ -3,11 +3,11 @@ use Rattle.std.specs.Prelude.{true}
 use Rattle.dw_dwarf.specs.DwarfValue.{DwarfValue, dwarf_in}
 use Rattle.dw_dwarf.specs.Valid.{AreUnwritten, IsValid}
 use Rattle.dw_tree.specs.UnitValue.{UnitValue}
-use Rattle.dw_make.specs.Generated.{generated}
-use Rattle.dw_make.proofs.MadeValid.{generated_valid}
-use Rattle.dw_make.proofs.Refusals.{is_err}
-use Rattle.dw_make.proofs.Unwritten.{generated_unwritten}
-use Rattle.dw_make.proofs.make.generate.Goals as goal
+use Rattle.dw_build.specs.Generated.{generated}
+use Rattle.dw_build.proofs.MadeValid.{generated_valid}
+use Rattle.dw_build.proofs.Refusals.{is_err}
+use Rattle.dw_build.proofs.Unwritten.{generated_unwritten}
+use Rattle.dw_build.proofs.make.generate.Goals as goal
 
 abbrev of_units : List UnitValue → DwarfValue
 of_units units = record { units = units; line_programs = []; line_strings = []; strings = [] }

@@ -23,9 +23,9 @@ use Rattle.dw_tree.specs.Laid.{entry_size, size_of, sizes_of, sized}
 use Rattle.dw_tree.specs.Places.{found}
 use Rattle.dw_tree.specs.Shapes.{shape_of_entry}
 use Rattle.dw_tree.specs.Whole.{tree_shapes, tree_declared, tree_table, tree_size}
-use Rattle.dw_make.specs.Generated.{generated_encoding, base_type}
-use Rattle.dw_make.proofs.Drafts.{variable_that}
-use Rattle.dw_make.proofs.MadeTrees.{made_root, made_entries, made_marks, IfOpen, each_mark, length-marks, made_tree}
+use Rattle.dw_build.specs.Generated.{generated_encoding, base_type}
+use Rattle.dw_build.proofs.Drafts.{variable_that}
+use Rattle.dw_build.proofs.MadeTrees.{made_root, made_entries, made_marks, IfOpen, each_mark, length-marks, made_tree}
 
 -- Entries
 

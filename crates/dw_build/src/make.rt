@@ -7,8 +7,8 @@ ghost use Rattle.dw_dwarf.specs.DwarfValue.{dwarf_in};
 ghost use Rattle.dw_dwarf.specs.Valid.{AreUnwritten, IsValid};
 ghost use Rattle.dw_line.specs.LinePrograms.{no_line_program};
 ghost use Rattle.dw_tree.specs.UnitValue.{IsReserved, new_unit, with_entry};
-ghost use Rattle.dw_make.specs.Drafted.{with_base_type, with_described, with_variable};
-ghost use Rattle.dw_make.specs.Generated.{first_root, generated, generated_encoding, generated_unit};
+ghost use Rattle.dw_build.specs.Drafted.{with_base_type, with_described, with_variable};
+ghost use Rattle.dw_build.specs.Generated.{first_root, generated, generated_encoding, generated_unit};
 
 use dw_base::constants::{
     DW_AT_byte_size, DW_AT_sibling, DW_AT_specification, DW_AT_type, DW_TAG_base_type,

@@ -29,12 +29,12 @@ use Rattle.dw_tree.specs.Whole.{settled, tree_shapes}
 use Rattle.dw_tree.specs.Written.{past_table}
 use Rattle.dw_tree.proofs.Faults.{neither}
 use Rattle.dw_dwarf.specs.Valid.{IsValid, empty_ends}
-use Rattle.dw_make.specs.Generated.{most_variables}
-use Rattle.dw_make.specs.Generated.{generated, generated_encoding, generated_unit, generated_units, unit_variables, base_type}
-use Rattle.dw_make.proofs.Drafts.{variable_that}
-use Rattle.dw_make.proofs.MadeTrees.{made_root, made_entries, made_marks, made_unit, IfOpen, each_mark, made_tree, made_settled}
-use Rattle.dw_make.proofs.MadeSizes.{table_bounded}
-use Rattle.dw_make.proofs.MadeUnits.{made_places, made_writable, made_stands, root_place}
+use Rattle.dw_build.specs.Generated.{most_variables}
+use Rattle.dw_build.specs.Generated.{generated, generated_encoding, generated_unit, generated_units, unit_variables, base_type}
+use Rattle.dw_build.proofs.Drafts.{variable_that}
+use Rattle.dw_build.proofs.MadeTrees.{made_root, made_entries, made_marks, made_unit, IfOpen, each_mark, made_tree, made_settled}
+use Rattle.dw_build.proofs.MadeSizes.{table_bounded}
+use Rattle.dw_build.proofs.MadeUnits.{made_places, made_writable, made_stands, root_place}
 
 -- a unit as it is generated, of which the last number is known to be small
 record IsMade (u : UnitValue) : Type 0 where

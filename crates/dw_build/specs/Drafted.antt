@@ -4,7 +4,7 @@ use Rattle.dw_base.specs.declared.constants.TheConstants.{DW_TAG_variable, DW_TA
 use Rattle.dw_entries.specs.declared.value.AttributeValue.TheVariants.{Data1, Udata, UnitRef}
 use Rattle.dw_entries.specs.Entries.{with_added, with_attribute}
 use Rattle.dw_tree.specs.UnitValue.{UnitValue, with_entry}
-use Rattle.dw_make.specs.Generated.{first_root}
+use Rattle.dw_build.specs.Generated.{first_root}
 
 -- a unit with a variable behind the root's other children, without attributes
 abbrev pub with_bare_variable : UnitValue → UnitValue

@@ -39,10 +39,10 @@ use Rattle.dw_tree.proofs.Faults.{neither}
 use Rattle.dw_tree.proofs.OnePlacement.{AgreeOn, place_agree, past_agree}
 use Rattle.dw_tree.proofs.ReadMarks.{tree_draft-size}
 use Rattle.dw_tree.proofs.TreeWritten.{tree_is_one}
-use Rattle.dw_make.specs.Generated.{generated_encoding, base_type, base_type_id}
-use Rattle.dw_make.proofs.Drafts.{variable_that}
-use Rattle.dw_make.proofs.MadeTrees.{made_root, made_entries, made_marks, IfOpen, each_mark, each_entry, entry_of, made_tree}
-use Rattle.dw_make.proofs.MadeSizes.{tree_few, tree_bounded, table_declared}
+use Rattle.dw_build.specs.Generated.{generated_encoding, base_type, base_type_id}
+use Rattle.dw_build.proofs.Drafts.{variable_that}
+use Rattle.dw_build.proofs.MadeTrees.{made_root, made_entries, made_marks, IfOpen, each_mark, each_entry, entry_of, made_tree}
+use Rattle.dw_build.proofs.MadeSizes.{tree_few, tree_bounded, table_declared}
 
 -- Faults
 

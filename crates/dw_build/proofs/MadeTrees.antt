@@ -12,8 +12,8 @@ use Rattle.dw_entries.specs.Tree.{closed, tree_from, has_entry, preorder}
 use Rattle.dw_line.specs.LinePrograms.{no_line_program}
 use Rattle.dw_tree.specs.UnitValue.{UnitValue, new_unit}
 use Rattle.dw_tree.specs.Whole.{settled}
-use Rattle.dw_make.specs.Generated.{generated_encoding, generated_unit, base_type, base_type_id, variable, variables, variable_ids}
-use Rattle.dw_make.proofs.Drafts.{variable_that, length-variables}
+use Rattle.dw_build.specs.Generated.{generated_encoding, generated_unit, base_type, base_type_id, variable, variables, variable_ids}
+use Rattle.dw_build.proofs.Drafts.{variable_that, length-variables}
 
 -- the root with the base type first among its children
 abbrev pub made_root : ℕ → EntryValue

@@ -1,7 +1,7 @@
 use Rattle.std.proofs.Common.{◌≡◌}
-use Rattle.dw_make.proofs.Drafts.{IsDraft}
-use Rattle.dw_make.specs.Generated.{base_type_id}
-use Rattle.dw_make.proofs.make.add_entries.Given as goal
+use Rattle.dw_build.proofs.Drafts.{IsDraft}
+use Rattle.dw_build.specs.Generated.{base_type_id}
+use Rattle.dw_build.proofs.make.add_entries.Given as goal
 
 abbrev pub invariant-loop-index : goal.invariant-loop-index
 invariant-loop-index l = record {

@@ -10,8 +10,8 @@ use Rattle.dw_entries.specs.Entries.{EntryValue, blank_entry, new_root, filled_u
 use Rattle.dw_entries.proofs.Filled.{filled_up-push, filled_up-same, seen_filled}
 use Rattle.dw_line.specs.LinePrograms.{no_line_program}
 use Rattle.dw_tree.specs.UnitValue.{UnitValue, new_unit, with_entry, IsReserved}
-use Rattle.dw_make.specs.Drafted.{with_bare_variable, with_base_type, with_described, with_variable}
-use Rattle.dw_make.specs.Generated.{generated_encoding, generated_unit, first_root, base_type_id, variable, variables, variable_ids}
+use Rattle.dw_build.specs.Drafted.{with_bare_variable, with_base_type, with_described, with_variable}
+use Rattle.dw_build.specs.Generated.{generated_encoding, generated_unit, first_root, base_type_id, variable, variables, variable_ids}
 
 -- what the entries come to, once the base type has a blank one
 abbrev pub drafted_entries : ℕ → ℕ → List EntryValue

@@ -1,9 +1,9 @@
 use Rattle.std.proofs.Common.{◌∙◌, sym, ap, subst, arith, suc, ◌+◌}
 use Rattle.dw_tree.specs.UnitValue.{UnitValue, IsReserved}
-use Rattle.dw_make.specs.Drafted.{with_variable}
-use Rattle.dw_make.proofs.Drafts.{IsDraft, none_drafted, one_drafted, base_reserved}
-use Rattle.dw_make.proofs.Refusals.{is_err}
-use Rattle.dw_make.proofs.make.add_entries.Goals as goal
+use Rattle.dw_build.specs.Drafted.{with_variable}
+use Rattle.dw_build.proofs.Drafts.{IsDraft, none_drafted, one_drafted, base_reserved}
+use Rattle.dw_build.proofs.Refusals.{is_err}
+use Rattle.dw_build.proofs.make.add_entries.Goals as goal
 
 pub loop-index-init : goal.loop-index-init
 loop-index-init c = record {

@@ -3,7 +3,7 @@ use Rattle.std.proofs.Common.{refl, arith, ℕ, zero, suc, ◌+◌, ◌-◌, ◌
 use Rattle.std.specs.Prelude.{All, min}
 use Rattle.std.proofs.lemmas.List.Elements.{All-append}
 use Rattle.dw_dwarf.specs.Valid.{IsUnwritten, AreUnwritten}
-use Rattle.dw_make.specs.Generated.{generated, generated_unit, generated_units, unit_variables}
+use Rattle.dw_build.specs.Generated.{generated, generated_unit, generated_units, unit_variables}
 
 one_unwritten : (from n : ℕ) → All IsUnwritten (generated_unit from n ∷ [])
 one_unwritten from n zero d within = refl
