@@ -1,7 +1,7 @@
 -- The reasons for which a line is refused, as they are printed.
 use Rattle.std.specs.Prelude.{ℕ, List, codes}
 use Rattle.dw_ends.specs.declared.reason.Reason.{Reason}
-use Rattle.dw_ends.specs.declared.reason.Reason.TheVariants.{BadByte, UnknownWord, BadNumber, BadHex, TooDeep, BadTarget, WrongFields, OrderNotFirst, WrongLength, Twice, NoSuchUnit, NoSuchEntry, BadTag, BadName, NotReserved, ZeroByte, NoLineProgram, EmptyName, NoSuchDirectory, InSequence, NotInSequence, NoSuchFile, AddressBack, BadSymbol}
+use Rattle.dw_ends.specs.declared.reason.Reason.TheVariants.{BadByte, UnknownWord, BadNumber, BadHex, TooDeep, BadTarget, WrongFields, OrderNotFirst, WrongLength, Twice, NoSuchUnit, NoSuchEntry, BadTag, BadName, NotReserved, ZeroByte, NoLineProgram, EmptyName, NoSuchDirectory, InSequence, NotInSequence, NoSuchFile, AddressBack, BadSymbol, EmptyRange, LiveNotFirst}
 
 -- a reason's text
 abbrev pub reason_text : Reason → List ℕ
@@ -29,3 +29,5 @@ reason_text NotInSequence = codes "not in sequence"
 reason_text NoSuchFile = codes "no such file"
 reason_text AddressBack = codes "address back"
 reason_text BadSymbol = codes "bad symbol"
+reason_text EmptyRange = codes "empty range"
+reason_text LiveNotFirst = codes "live not first"

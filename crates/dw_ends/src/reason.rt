@@ -61,6 +61,10 @@ pub enum Reason {
     AddressBack,
     /// A symbol's number isn't that of the symbols so far.
     BadSymbol,
+    /// A live range's end isn't above its begin.
+    EmptyRange,
+    /// A live range stands behind a line of the listing.
+    LiveNotFirst,
 }
 
 impl Reason {
@@ -93,6 +97,8 @@ impl Reason {
             Reason::NoSuchFile => "no such file",
             Reason::AddressBack => "address back",
             Reason::BadSymbol => "bad symbol",
+            Reason::EmptyRange => "empty range",
+            Reason::LiveNotFirst => "live not first",
         }
     }
 }
