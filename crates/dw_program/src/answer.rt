@@ -76,7 +76,7 @@ fn variable_count(field: &[u8]) -> Option<u64>
 }
 
 /// An answer with this text.
-pub(crate) fn answer_with(alloc: Global, status: Status, text: &[u8]) -> Result<Answer, AllocError>
+pub fn answer_with(alloc: Global, status: Status, text: &[u8]) -> Result<Answer, AllocError>
     ensures { IfOk result (λ a. (a.status ≡ status) × (a.text.items ≡ text.now)) }
 {
     Ok(Answer {
@@ -86,7 +86,7 @@ pub(crate) fn answer_with(alloc: Global, status: Status, text: &[u8]) -> Result<
 }
 
 /// The line of the script or the listing that is refused, and why.
-pub(crate) fn answer_refusal(alloc: Global, refusal: Refusal) -> Result<Answer, AllocError>
+pub fn answer_refusal(alloc: Global, refusal: Refusal) -> Result<Answer, AllocError>
     ensures { IfOk result (λ a.
         (a.status ≡ Status.ScriptRefused) × (a.text.items ≡ refusal_text refusal)) }
 {
@@ -136,7 +136,7 @@ pub(crate) fn answer_listed(
 }
 
 /// Writes what was built into new sections of a byte order, and lists them.
-pub(crate) fn answer_dwarf(
+pub fn answer_dwarf(
     alloc: Global,
     endian: RunTimeEndian,
     dwarf: &mut Dwarf,

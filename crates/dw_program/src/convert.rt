@@ -43,15 +43,15 @@ fn convert_sections(alloc: Global, listing: &Listing) -> Result<Answer, AllocErr
     }
 }
 
-// What an address becomes: itself.
-fn constant(address: u64) -> Option<Address>
+/// What an address becomes: itself.
+pub fn constant(address: u64) -> Option<Address>
     ensures { result ≡ Some (Address.Constant address) }
 {
     Some(Address::Constant(address))
 }
 
-// Why converting was refused. Want of memory is no refusal of what was read.
-fn answer_convert_refusal(alloc: Global, error: ConvertError) -> Result<Answer, AllocError>
+/// Why converting was refused. Want of memory is no refusal of what was read.
+pub fn answer_convert_refusal(alloc: Global, error: ConvertError) -> Result<Answer, AllocError>
     ensures says { IfOk result (λ a.
         (a.status ≡ Status.WriteRefused) × (a.text.items ≡ convert_refused_text error)) }
     ensures other { IfOk result (λ _. error ≢ NoMemory) }

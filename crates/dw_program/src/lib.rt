@@ -12,6 +12,8 @@ mod status;
 mod summary;
 mod write;
 
+pub use crate::answer::{Answer, Stop, answer_dwarf, answer_refusal, answer_with};
+pub use crate::convert::{answer_convert_refusal, constant};
 pub use crate::status::Status;
 pub use dw_ends::{
     EndError, Failed, FailingSink, FailingSource, LineError, Listing, ListingReader, Reason, Sink,

@@ -12,8 +12,8 @@ use dw_ends::{Sink, SinkError, Source, tell_status, write_all};
 use std::alloc::Global;
 use std::process::ExitCode;
 
-// Prints an answer's text, and answers its status where the sink takes the text whole.
-fn print<K: Sink>(answer: &Answer, sink: &mut K) -> Status
+/// Prints an answer's text, and answers its status where the sink takes the text whole.
+pub fn print<K: Sink>(answer: &Answer, sink: &mut K) -> Status
     ensures prints { Prints answer.now.status answer.now.text.items
         (K.intake sink.old) (K.intake sink.new) result }
     ensures faults { (K.intake sink.old).faults ≤ (K.intake sink.new).faults }
