@@ -14,3 +14,15 @@ mod Numbers
 mod Operands
 mod Law
 mod Worked
+mod OperandReading
+mod InstructionReading
+mod AdvanceReading
+mod ProgramReading
+mod PointerReading
+mod HeadReading
+mod Widths
+mod AugmentationReading
+mod CieReading
+mod FdeReading
+mod SectionReading
+mod SectionFinding

@@ -4,3 +4,9 @@ pub mod Laws
 pub mod ReadLists
 pub mod ReadAs
 pub mod ReadBack
+pub mod Instructions
+pub mod Programs
+pub mod Pointers
+pub mod Heads
+pub mod Entries
+pub mod Sections

@@ -1,5 +1,0 @@
-use Rattle.dw_frames_read_back.proofs.CieReading.{cie_back}
-use Rattle.dw_frames_read_back.proofs.entries.cies_read_back.Goals as goal
-
-pub returns : goal.returns
-returns c = cie_back
