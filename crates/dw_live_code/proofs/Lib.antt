@@ -1,0 +1,8 @@
+mod FewRows
+mod WholeFile
+mod LiveEntries
+mod Pruning
+mod Refusals
+mod InputLines
+mod Answered
+mod Runs
