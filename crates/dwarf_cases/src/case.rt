@@ -2,8 +2,9 @@
 
 use crate::fault::fault_of;
 use crate::head::{Head, bare, head_of, takes};
-use crate::input::{push_cut, push_script, script_bytes};
+use crate::input::{push_cut, push_live, push_script, script_bytes};
 use crate::listing::{push_listing, push_section};
+use crate::names::is_named;
 use crate::program::push_run;
 use crate::text::Text;
 use crate::words::{
@@ -54,6 +55,9 @@ fn run_sound(alloc: Global, report: &mut Text, case: Case<'_>) -> usize {
         run_cuts(alloc, report, case)
     } else if count_of(case.lines, "units") != 0 {
         run_units(alloc, report, case)
+    } else if count_of(case.lines, "stays") != 0 {
+        run_named(alloc, report, case);
+        1
     } else {
         run_once(alloc, report, case, bare());
         1
@@ -103,14 +107,36 @@ fn run_cut(alloc: Global, report: &mut Text, case: Case<'_>, size: usize) {
     run_once(alloc, report, case, bare());
 }
 
-/// Runs a case for a head. A listing that was converted is converted again, to itself, unless the
+/// Runs a case that tells names, and once more over what was printed. From then on nothing changes:
+/// the first run may have moved base types to the front, and with them their names.
+fn run_named(alloc: Global, report: &mut Text, case: Case<'_>) {
+    let input = input_of(alloc, case, bare());
+    let first = named_of(alloc, report, case, &input);
+    let again = again_of(alloc, case, &first);
+    let second = named_of(alloc, report, case, &again);
+    let again = again_of(alloc, case, &second);
+    compare(alloc, report, (case, bare()), &again, &second);
+}
+
+/// What a run over an input shows, which is reported where it has other names than the case tells.
+fn named_of(alloc: Global, report: &mut Text, case: Case<'_>, input: &Text) -> Text {
+    let shown = shown_of(alloc, case, input);
+    if !is_named(alloc, case.lines, shown.as_str()) || shown.is_cut() {
+        report_difference(report, case.name, bare());
+        report_text(report, "came ", &shown);
+    }
+    shown
+}
+
+/// Runs a case for a head. A listing that was converted or pruned is so again, to itself, unless the
 /// case says that it is done `once`.
 fn run_once(alloc: Global, report: &mut Text, case: Case<'_>, head: Head) {
     let wanted = wanted_of(alloc, case, head);
     let input = input_of(alloc, case, head);
     compare(alloc, report, (case, head), &input, &wanted);
-    if command_of(case) == "convert" && count_of_all(case.lines, &["text", "once"]) == 0 {
-        let again = again_of(alloc, &wanted);
+    let is_done_twice = command_of(case) == "convert" || is_pruned(case);
+    if is_done_twice && count_of_all(case.lines, &["text", "once"]) == 0 {
+        let again = again_of(alloc, case, &wanted);
         compare(alloc, report, (case, head), &again, &wanted);
     }
 }
@@ -130,6 +156,7 @@ fn input_of(alloc: Global, case: Case<'_>, head: Head) -> Text {
     if case.read.is_empty() {
         push_script(alloc, &mut input, case.lines, head);
     } else {
+        push_live(&mut input, case.lines);
         push_listing(alloc, &mut input, case.read, head, read_sections());
     }
     input
@@ -157,9 +184,15 @@ fn push_output(alloc: Global, wanted: &mut Text, case: Case<'_>, head: Head) {
     }
 }
 
+/// Tells whether a listing is pruned.
+fn is_pruned(case: Case<'_>) -> bool {
+    command_of(case) == "prune" && !case.read.is_empty()
+}
+
 /// What is to be printed, as an input.
-fn again_of(alloc: Global, wanted: &Text) -> Text {
+fn again_of(alloc: Global, case: Case<'_>, wanted: &Text) -> Text {
     let mut again = Text::new(alloc);
+    push_live(&mut again, case.lines);
     match wanted.as_str().split_once('\n') {
         Some((_, printed)) => again.push(printed),
         None => {}

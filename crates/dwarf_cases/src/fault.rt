@@ -3,7 +3,7 @@
 use crate::words::{MADE_SECTION, count_of, count_of_all, printed_sections, read_sections};
 
 /// The words that a case's line may begin with, besides sections.
-const WORDS: [&str; 16] = [
+const WORDS: [&str; 19] = [
     "",
     "#",
     "command",
@@ -11,6 +11,7 @@ const WORDS: [&str; 16] = [
     "script",
     "repeat",
     "count",
+    "live",
     "read",
     "cut",
     "status",
@@ -19,6 +20,8 @@ const WORDS: [&str; 16] = [
     "same",
     "once",
     "nothing",
+    "stays",
+    "gone",
     MADE_SECTION,
 ];
 
@@ -56,6 +59,7 @@ fn outputs(lines: &str) -> usize {
         count_of(lines, "same"),
         count_of(lines, "text"),
         count_of(lines, "nothing"),
+        count_of(lines, "stays"),
     ];
     is_told.iter().filter(|count| **count != 0).count()
 }

@@ -60,6 +60,17 @@ fn push_counted(alloc: Global, script: &mut Text, rest: &str) {
     }
 }
 
+/// Appends the lines of live ranges that stand before a listing.
+pub fn push_live(input: &mut Text, lines: &str) {
+    for line in lines.lines() {
+        let (word, _) = parts(line);
+        if word == "live" {
+            input.push(line);
+            input.push("\n");
+        }
+    }
+}
+
 /// Appends what lines tell of a listing, whose `.debug_info` has its first bytes alone.
 pub fn push_cut(read: &mut Text, lines: &str, size: usize) {
     for line in lines.lines() {

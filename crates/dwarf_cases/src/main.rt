@@ -1,6 +1,6 @@
-//! Runs the programs `dwarf_build` and `dw_aranges` over tables of cases, the files that the
-//! command line names, and prints how many runs each table had, and before it each run that shows
-//! something else than its case tells, and each case that is faulty.
+//! Runs the programs `dwarf_build`, `dw_aranges` and `dw_prune` over tables of cases, the files that
+//! the command line names, and prints how many runs each table had, and before it each run that
+//! shows something else than its case tells, and each case that is faulty.
 //!
 //! A table is text, of one topic. Its lines are empty, remarks behind `# `, or begin with one of
 //! these words and a space:
@@ -8,14 +8,15 @@
 //! - `case NAME` begins a case.
 //! - `command link` says that this command is run, or `convert`. Else it is `convert` where a
 //!   listing is read by `read`, and `build` elsewhere. What follows `command aranges` are the words
-//!   that `dw_aranges` is run with.
+//!   that `dw_aranges` is run with, and what follows `command prune` those of `dw_prune`.
 //! - `script LINES` is what follows in the script. ` / ` stands between lines, as well as the end
 //!   of the line, so that an empty one at the end closes the script's last line. `\x` and two hex
 //!   digits are a byte.
 //! - `repeat N LINES` is so many times the same in the script, and `count FROM TO LINE` a line for
 //!   each number from one up to another, which stands at its `@`.
 //! - `read .debug_info HEX`, or another section, tells its bytes in a listing that is the input in
-//!   place of a script, and `read order big` the listing's order.
+//!   place of a script, and `read order big` the listing's order. `live BEGIN END` is a line that
+//!   stands before the listing.
 //! - `cut FROM TO` runs the case for each number from one up to another: of the `.debug_info` that
 //!   is read, in one line without spaces, there are so many bytes.
 //! - `units ORDERS VERSIONS SIZES FORMATS` puts `order O` and `unit V A F` before the script, and
@@ -27,12 +28,13 @@
 //!   or several; `HEX*N` is so many times the same. The text is to be a listing; the sections that
 //!   aren't named are empty. `.debug_aranges HEX` is a line of its own.
 //! - `order big` says that the listing begins with `order big`, and else with `order little`.
+//! - `stays NAMES` and `gone NAMES` are strings that the listing is to have, and such that it isn't.
 //! - `same` says that the listing has the sections that were read, but for the two of indices.
-//! - `once` says that a listing that was converted isn't the same when it is converted again. Each
-//!   other one is looked at for that, too.
+//! - `once` says that a listing that was converted or pruned isn't the same when it is so again.
+//!   Each other one is looked at for that, too.
 //! - `end N` is the last line: the table has so many runs.
 //!
-//! A case has either `text`, `nothing`, `same` or sections. In one with `units` the fields of a
+//! A case has either `text`, `nothing`, `same`, `stays` or sections. In one with `units` the fields of a
 //! section may begin with `root`, which stands for the unit's header and its root's code, its
 //! length counting all that follows; and a number behind `=` stands in the unit's byte order, with
 //! as many bytes as it has pairs of digits.
@@ -47,6 +49,7 @@ mod fault;
 mod head;
 mod input;
 mod listing;
+mod names;
 mod program;
 mod table;
 mod text;

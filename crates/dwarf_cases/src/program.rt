@@ -3,6 +3,7 @@
 use crate::text::Text;
 use crate::words::parts;
 use dw_arange_table::run as make_aranges;
+use dw_live_code::run as prune;
 use dw_program::run::run as build;
 use dw_program::{SliceSource, VecSink};
 use std::alloc::{AllocError, Global};
@@ -12,6 +13,7 @@ use std::alloc::{AllocError, Global};
 enum Program {
     DwarfBuild,
     DwAranges,
+    DwPrune,
 }
 
 /// Runs a command over an input, and appends the status that its program ends with and all that it
@@ -33,6 +35,7 @@ pub fn push_run(
 fn program_of(command: &str) -> (Program, &str) {
     match parts(command) {
         ("aranges", words) => (Program::DwAranges, words),
+        ("prune", words) => (Program::DwPrune, words),
         _ => (Program::DwarfBuild, command),
     }
 }
@@ -50,6 +53,7 @@ fn push_ended(
     let status = match program {
         Program::DwarfBuild => build(alloc, words, &mut source, &mut sink),
         Program::DwAranges => make_aranges(alloc, words, &mut source, &mut sink),
+        Program::DwPrune => prune(alloc, words, &mut source, &mut sink),
     };
     shown.push_made(format!(in alloc; "status {status}\n"));
     shown.push_made(String::from_utf8_lossy(alloc, sink.slice()));
