@@ -14,8 +14,8 @@ use std::process::ExitCode;
 /// The words of the command line couldn't be had, for another cause than memory.
 const NO_WORDS: u8 = 8;
 
-// The words after the program's name, or the exit status. Where one isn't UTF-8 an empty word stands
-// for them, since there are some.
+// The words after the program's name, or the exit status. Where one isn't UTF-8 an empty word
+// stands for them, since there are some.
 fn words(rt: &HostRuntime) -> Result<Vec<String>, u8>
     ensures { IfErr result (λ status. (status ≡ 6) ⊎ (status ≡ 8)) }
 {

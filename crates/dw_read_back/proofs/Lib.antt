@@ -2,7 +2,7 @@ mod Walks
 mod Items
 mod Fewer
 mod There
-mod Entries
+mod ListEntries
 mod Lists
 mod Locations
 mod Steps

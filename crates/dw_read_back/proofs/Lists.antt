@@ -7,7 +7,7 @@ use Rattle.dw_lists.specs.Items.{Item, items_up_to, item_at, items_at, is_five}
 use Rattle.dw_lists.specs.Tables.{IsFound, offsets_from}
 use Rattle.dw_read_back.specs.Laws.{ItemsAreOne, ListsAreOne, TablesAreReadBack}
 use Rattle.dw_read_back.proofs.Walks.{some_same, walked, fuelled, worded, unworded}
-use Rattle.dw_read_back.proofs.Entries.{found_whole}
+use Rattle.dw_read_back.proofs.ListEntries.{found_whole}
 use Rattle.dw_read_back.proofs.Fewer.{item_fewer}
 use Rattle.dw_read_back.proofs.There.{table_there}
 

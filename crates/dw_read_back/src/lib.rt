@@ -1,12 +1,12 @@
-//! What is written is read as what it was: expressions, range lists, location lists and call frames.
+//! What is written is read as what it was: expressions, range lists, location lists and call
+//! frames.
 //!
 //! `dw_expr` has a table by which operations are spelled and `dw_sources` one by which they are
 //! read (DWARF 5, 2.5); `dw_lists` says what a section of lists tells that it has written and
 //! `dw_sources` reads lists item by item (DWARF 4, 2.6.2 and 2.17.3; DWARF 5, 2.6.2, 2.17.3, 7.7.3
-//! and 7.25). `dw_frame`
-//! and `dw_read_frames` say what a section of call frames holds (DWARF 5, 6.4). Here each two
-//! definitions are proved to be one, or laws tie them; each function does nothing, and its clauses
-//! are the laws.
+//! and 7.25); `dw_frame` says what the writer of call frames writes, and `dw_read_frames` what
+//! their reader reads (DWARF 5, 6.4). Here each two definitions are proved to be one. Most
+//! functions do nothing; their clauses are the laws.
 #![tactic(auto)]
 
 mod entries;

@@ -128,8 +128,8 @@ fn named_of(alloc: Global, report: &mut Text, case: Case<'_>, input: &Text) -> T
     shown
 }
 
-/// Runs a case for a head. A listing that was converted or pruned is so again, to itself, unless the
-/// case says that it is done `once`.
+/// Runs a case for a head. A listing that was converted or pruned is so again, to itself, unless
+/// the case says that it is done `once`.
 fn run_once(alloc: Global, report: &mut Text, case: Case<'_>, head: Head) {
     let wanted = wanted_of(alloc, case, head);
     let input = input_of(alloc, case, head);

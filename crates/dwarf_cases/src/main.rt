@@ -1,6 +1,6 @@
-//! Runs the programs `dwarf_build`, `dw_aranges` and `dw_prune` over tables of cases, the files that
-//! the command line names, and prints how many runs each table had, and before it each run that
-//! shows something else than its case tells, and each case that is faulty.
+//! Runs the programs `dwarf_build`, `dw_aranges` and `dw_prune` over tables of cases, the files
+//! that the command line names, and prints how many runs each table had, and before it each run
+//! that shows something else than its case tells, and each case that is faulty.
 //!
 //! A table is text, of one topic. Its lines are empty, remarks behind `# `, or begin with one of
 //! these words and a space:
@@ -28,14 +28,15 @@
 //!   or several; `HEX*N` is so many times the same. The text is to be a listing; the sections that
 //!   aren't named are empty. `.debug_aranges HEX` is a line of its own.
 //! - `order big` says that the listing begins with `order big`, and else with `order little`.
-//! - `stays NAMES` and `gone NAMES` are strings that the listing is to have, and such that it isn't.
+//! - `stays NAMES` and `gone NAMES` are strings that the listing is to have, and such that it isn't
+//!   to have.
 //! - `same` says that the listing has the sections that were read, but for the two of indices.
 //! - `once` says that a listing that was converted or pruned isn't the same when it is so again.
 //!   Each other one is looked at for that, too.
 //! - `end N` is the last line: the table has so many runs.
 //!
-//! A case has either `text`, `nothing`, `same`, `stays` or sections. In one with `units` the fields of a
-//! section may begin with `root`, which stands for the unit's header and its root's code, its
+//! A case has either `text`, `nothing`, `same`, `stays` or sections. In one with `units` the fields
+//! of a section may begin with `root`, which stands for the unit's header and its root's code, its
 //! length counting all that follows; and a number behind `=` stands in the unit's byte order, with
 //! as many bytes as it has pairs of digits.
 //!
