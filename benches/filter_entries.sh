@@ -18,7 +18,7 @@ mkdir -p "$work/crates/filter_entries/src"
 cp benches/filter_entries/program.txt "$work/crates/filter_entries/src/main.rt"
 echo "filter_entries: dw_base dw_read dw_read_units dw_ends dw_filter dw_dwarf anyhow" >> "$work/crates.txt"
 (cd "$work/crates/dwarf_build" && rt run -- build < stdin > /dev/null)
-(cd "$work/crates/filter_entries" && rt run -- read < ../dwarf_build/stdin > /dev/null)
+(cd "$work/crates/filter_entries" && rt run -- read < ../dw_aranges/stdin > /dev/null)
 program=$work/crates/filter_entries/out/filter_entries
 benches/mixed_script.sh "$entries" | "$work/crates/dwarf_build/out/dwarf_build" build > "$work/mixed"
 
