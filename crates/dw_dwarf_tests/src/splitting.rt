@@ -9,12 +9,12 @@ use crate::split_files::*;
 use crate::writing::{Written, drop, refusal};
 use dw_base::RunTimeEndian;
 use dw_dwarf::{
-    ConvertError, ConvertResult, ConvertSplitUnitSection, ConvertUnit, ConvertUnitEntry, Dwarf,
-    Result,
+    ConvertError, ConvertResult, ConvertSplitUnitSection, ConvertUnit, ConvertUnitEntry,
+    ConvertUnitSection, Dwarf, Result,
 };
 use dw_filter::FilterUnitSection;
 use dw_read::ReadError;
-use dw_read_units::Dwarf as ReadDwarf;
+use dw_read_units::{Dwarf as ReadDwarf, UnitRef};
 use std::alloc::Global;
 
 /// A skeleton and a split file, what a filter of that does with its first unit, if there is one,
@@ -153,9 +153,38 @@ const FAULTS: &[Row] = &[
     ),
 ];
 
-/// The tables, so that no other proof looks into them.
+fn rows() -> &'static [Row] {
+    ROWS
+}
+
+fn filtered() -> &'static [Row] {
+    FILTERED
+}
+
+fn faults() -> &'static [Row] {
+    FAULTS
+}
+
+/// The tables. Each stands behind a function, so that no other proof looks into it.
 pub(crate) fn tables() -> [&'static [Row]; 3] {
-    [ROWS, FILTERED, FAULTS]
+    [rows(), filtered(), faults()]
+}
+
+/// A filter of the split unit of a file, which was asked for entries.
+fn filter_of<'b>(
+    alloc: Global,
+    skeleton: UnitRef<'b, Slice<'static>>,
+    file: &'b ReadDwarf<Slice<'static>>,
+    asked: &Asked,
+) -> ConvertResult<FilterUnitSection<'b, Slice<'static>>> {
+    let mut filter = FilterUnitSection::new_split(alloc, file, skeleton)?;
+    match ask(&mut filter, asked) {
+        Ok(()) => Ok(filter),
+        Err(error) => {
+            drop(filter);
+            Err(error)
+        }
+    }
 }
 
 /// Begins to put back the split unit of a file.
@@ -171,9 +200,10 @@ fn begin<'b>(
     let Some(asked) = asked else {
         return skeleton.convert_split(file);
     };
-    let mut filter = FilterUnitSection::new_split(alloc, file, skeleton.read_unit)?;
-    ask(&mut filter, &asked)?;
-    skeleton.convert_split_with_filter(filter)
+    match filter_of(alloc, skeleton.read_unit, file, &asked) {
+        Ok(filter) => skeleton.convert_split_with_filter(filter),
+        Err(error) => Err(error),
+    }
 }
 
 /// Whether the next entry has an id, if one is left; one that isn't kept has none.
@@ -190,19 +220,47 @@ fn has_next_id<'a>(
     Ok(is_next)
 }
 
+/// Whether the entries of a unit that are left have the ids from one on.
+fn are_numbered<'a>(
+    unit: &mut ConvertUnit<'a, Slice<'static>>,
+    entry: &mut ConvertUnitEntry<'a, Slice<'static>>,
+    first: usize,
+) -> ConvertResult<bool> {
+    let mut next = first;
+    for _ in 0..4 {
+        if !has_next_id(unit, entry, &mut next)? {
+            return Ok(false);
+        }
+    }
+    Ok(true)
+}
+
 /// Whether the entries behind the root have the ids from one on.
 fn has_ids(
     split: &mut ConvertSplitUnitSection<'_, Slice<'static>>,
     first: usize,
 ) -> ConvertResult<bool> {
-    let (mut unit, mut entry) = split.read_unit()?;
-    let mut next = first;
-    for _ in 0..4 {
-        if !has_next_id(&mut unit, &mut entry, &mut next)? {
-            return Ok(false);
+    match split.read_unit() {
+        Ok((mut unit, mut entry)) => {
+            let are_numbered = are_numbered(&mut unit, &mut entry, first);
+            drop(entry);
+            drop(unit);
+            are_numbered
         }
+        Err(error) => Err(error),
     }
-    Ok(true)
+}
+
+/// Converts the split unit.
+fn convert(split: &mut ConvertSplitUnitSection<'_, Slice<'static>>) -> ConvertResult<()> {
+    match split.read_unit() {
+        Ok((mut unit, root)) => {
+            let converted = convert_unit(&mut unit, root);
+            drop(unit);
+            converted
+        }
+        Err(error) => Err(error),
+    }
 }
 
 /// Converts the split unit, if its entries have the ids from one on.
@@ -210,13 +268,11 @@ fn put_back(
     split: &mut ConvertSplitUnitSection<'_, Slice<'static>>,
     first: usize,
 ) -> ConvertResult<()> {
-    if !has_ids(split, first)? {
-        return Err(WRONG);
+    match has_ids(split, first) {
+        Ok(true) => convert(split),
+        Ok(false) => Err(WRONG),
+        Err(error) => Err(error),
     }
-    let (mut unit, root) = split.read_unit()?;
-    let converted = convert_unit(&mut unit, root);
-    drop(unit);
-    converted
 }
 
 /// Puts the split unit of a file back into the unit of its skeleton.
@@ -227,10 +283,33 @@ fn rejoin(
     asked: Option<Asked>,
     first: usize,
 ) -> ConvertResult<()> {
-    let mut split = begin(alloc, skeleton, file, asked)?;
-    let put = put_back(&mut split, first);
-    drop(split);
-    put
+    match begin(alloc, skeleton, file, asked) {
+        Ok(mut split) => {
+            let put = put_back(&mut split, first);
+            drop(split);
+            put
+        }
+        Err(error) => Err(error),
+    }
+}
+
+/// Puts a split unit back into the first unit of its skeleton's file.
+fn rejoin_first(
+    alloc: Global,
+    section: &mut ConvertUnitSection<'_, Slice<'static>>,
+    file: &ReadDwarf<Slice<'static>>,
+    row: Splitting,
+) -> ConvertResult<()> {
+    match section.read_unit() {
+        Ok(Some((mut unit, root))) => {
+            drop(root);
+            let put = rejoin(alloc, &mut unit, file, row.2, row.3);
+            drop(unit);
+            put
+        }
+        Ok(None) => Err(WRONG),
+        Err(error) => Err(error),
+    }
 }
 
 /// What a skeleton's file becomes with its split unit.
@@ -240,18 +319,15 @@ fn joined(
     row: Splitting,
     dwarf: &mut Dwarf,
 ) -> ConvertResult<()> {
-    let (skeleton, split, asked, first, _) = row;
-    let read = sections_of(skeleton, endian);
-    let file = sections_of(split, endian);
-    let mut section = dwarf.convert(&read)?;
-    match section.read_unit()? {
-        Some((mut unit, root)) => {
-            drop(root);
-            let put = rejoin(alloc, &mut unit, &file, asked, first);
-            drop(unit);
+    let read = sections_of(row.0, endian);
+    let file = sections_of(row.1, endian);
+    match dwarf.convert(&read) {
+        Ok(mut section) => {
+            let put = rejoin_first(alloc, &mut section, &file, row);
+            drop(section);
             put
         }
-        None => Err(WRONG),
+        Err(error) => Err(error),
     }
 }
 
