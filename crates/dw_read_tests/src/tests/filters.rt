@@ -92,29 +92,34 @@ fn are_read(unit: &mut FilterUnit<'_, Slice<'_>>, row: &Row) -> bool {
     unit.read_entry(&mut entry) == end && unit.read_entry(&mut entry) == end
 }
 
-fn is_met(alloc: Global, dwarf: &Dwarf<Slice<'_>>, row: &Row) -> bool {
-    let Ok(mut section) = FilterUnitSection::new(alloc, dwarf) else {
-        return false;
-    };
+/// The sections of a file of these units.
+fn file_of(info: &'static [u8]) -> Dwarf<Slice<'static>> {
+    sections(&Bytes {
+        info,
+        abbrev: ABBREV,
+        ..NONE
+    })
+}
+
+fn is_met_in(section: &mut FilterUnitSection<'_, Slice<'_>>, row: &Row) -> bool {
     match section.read_unit() {
         Ok(Some(mut unit)) => are_read(&mut unit, row),
         _ => false,
     }
 }
 
+fn is_met(alloc: Global, row: &Row) -> bool {
+    let dwarf = file_of(row.0);
+    match FilterUnitSection::new(alloc, &dwarf) {
+        Ok(mut section) => is_met_in(&mut section, row),
+        Err(_) => false,
+    }
+}
+
 #[test]
 fn reads_entries_with_their_parents(rt: HostRuntime) {
-    for row in rows() {
-        let dwarf = sections(&Bytes {
-            info: row.0,
-            abbrev: ABBREV,
-            ..NONE
-        });
-        assert!(rt;
-            is_met(rt.alloc(), &dwarf, row),
-            "a unit of {} bytes",
-            row.0.len()
-        );
+    for (number, row) in rows().iter().enumerate() {
+        assert!(rt; is_met(rt.alloc(), row), "{number}");
     }
 }
 
@@ -158,22 +163,35 @@ fn files() -> &'static [File] {
     FILES
 }
 
-/// Hands out the next unit, reads its next entry and requires the one at an offset. It answers the
-/// low address and whether an entry was read.
+/// Reads a unit's next entry and requires the one at an offset, and tells whether an entry was read.
+fn read_and_require(
+    unit: &mut FilterUnit<'_, Slice<'_>>,
+    offset: UnitOffset,
+) -> ConvertResult<bool> {
+    let read = unit.read_unit;
+    if read.contains(offset) {
+        unit.require_entry(offset)?;
+    }
+    let mut entry = unit.null_entry();
+    unit.read_entry(&mut entry)
+}
+
+/// Hands out the next unit, and does this. It answers the low address and whether an entry was read.
 fn pass(
     section: &mut FilterUnitSection<'_, Slice<'_>>,
     offset: UnitOffset,
 ) -> ConvertResult<Option<(u64, bool)>> {
-    let Some(mut unit) = section.read_unit()? else {
-        return Ok(None);
-    };
-    let read = unit.read_unit;
-    let mut entry = unit.null_entry();
-    let is_read = unit.read_entry(&mut entry)?;
-    if read.contains(offset) {
-        unit.require_entry(offset)?;
+    match section.read_unit() {
+        Ok(Some(mut unit)) => {
+            let low_pc = unit.read_unit.unit.low_pc;
+            match read_and_require(&mut unit, offset) {
+                Ok(is_read) => Ok(Some((low_pc, is_read))),
+                Err(error) => Err(error),
+            }
+        }
+        Ok(None) => Ok(None),
+        Err(error) => Err(error),
     }
-    Ok(Some((read.unit.low_pc, is_read)))
 }
 
 /// Tells whether two units come, with a skeleton's low address where there is one, and then what
@@ -221,11 +239,20 @@ fn is_kept(section: &FilterUnitSection<'_, Slice<'_>>) -> bool {
             .all(|(place, wanted)| place.0 == *wanted)
 }
 
+/// Tells whether a section hands out what it is to.
+fn hands_out(
+    section: &mut FilterUnitSection<'_, Slice<'_>>,
+    low_pc: u64,
+    end: &Option<ReadError>,
+) -> bool {
+    come(section, low_pc, end) && is_kept(section)
+}
+
 fn are_handed_out(alloc: Global, dwarf: &Dwarf<Slice<'_>>, end: &Option<ReadError>) -> bool {
-    let Ok(mut section) = FilterUnitSection::new(alloc, dwarf) else {
-        return false;
-    };
-    come(&mut section, 0x1234_5678, end) && is_kept(&section)
+    match FilterUnitSection::new(alloc, dwarf) {
+        Ok(mut section) => hands_out(&mut section, 0x1234_5678, end),
+        Err(_) => false,
+    }
 }
 
 /// The same of split units, whose skeleton has another low address.
@@ -235,43 +262,33 @@ fn are_split(
     skeleton: UnitRef<'_, Slice<'_>>,
     end: &Option<ReadError>,
 ) -> bool {
-    let Ok(mut section) = FilterUnitSection::new_split(alloc, dwarf, skeleton) else {
-        return false;
-    };
-    come(&mut section, skeleton.unit.low_pc, end) && is_kept(&section)
+    match FilterUnitSection::new_split(alloc, dwarf, skeleton) {
+        Ok(mut section) => hands_out(&mut section, skeleton.unit.low_pc, end),
+        Err(_) => false,
+    }
+}
+
+/// The same of the skeleton above.
+fn are_split_off(alloc: Global, dwarf: &Dwarf<Slice<'_>>, end: &Option<ReadError>) -> bool {
+    let held = file_of(SKELETON);
+    match &first(alloc, &held) {
+        Ok(unit) => {
+            let skeleton = UnitRef { dwarf: &held, unit };
+            are_split(alloc, dwarf, skeleton, end)
+        }
+        Err(_) => false,
+    }
+}
+
+/// Tells whether the units of a file are handed out, and as split units, too.
+fn is_handed_out(alloc: Global, (info, end): &File) -> bool {
+    let dwarf = file_of(info);
+    are_handed_out(alloc, &dwarf, end) && are_split_off(alloc, &dwarf, end)
 }
 
 #[test]
 fn hands_out_units_in_order(rt: HostRuntime) {
-    let held = sections(&Bytes {
-        info: SKELETON,
-        abbrev: ABBREV,
-        ..NONE
-    });
-    let skeleton = first(rt.alloc(), &held);
-    let Ok(skeleton) = &skeleton else {
-        panic!(rt; "the skeleton isn't read");
-    };
-    let skeleton = UnitRef {
-        dwarf: &held,
-        unit: skeleton,
-    };
-    for file in files() {
-        let (info, end) = file;
-        let dwarf = sections(&Bytes {
-            info,
-            abbrev: ABBREV,
-            ..NONE
-        });
-        assert!(rt;
-            are_handed_out(rt.alloc(), &dwarf, end),
-            "units of {} bytes",
-            info.len()
-        );
-        assert!(rt;
-            are_split(rt.alloc(), &dwarf, skeleton, end),
-            "split, {} bytes",
-            info.len()
-        );
+    for (number, file) in files().iter().enumerate() {
+        assert!(rt; is_handed_out(rt.alloc(), file), "{number}");
     }
 }
