@@ -1,27 +1,21 @@
 //! Files whose units are converted behind another unit, and written.
 
+use crate::filtered_files::{File, NONE};
+use crate::filtering::{constant, convert_next, holds, sections_of};
 use crate::plans::{ONE_ROOT, Told, add_units};
+use crate::reading;
 use crate::writing::{Written, drop, refusal};
-use dw_base::{Address, UnitEntryId};
+use dw_base::{DwAt, RunTimeEndian, UnitEntryId};
 use dw_dwarf::{
-    ConvertResult, ConvertUnit, ConvertUnitEntry, ConvertUnitSection, Dwarf, LittleEndian, Result,
-    convert_units,
+    AttributeValue, ConvertResult, ConvertUnit, ConvertUnitEntry, ConvertUnitSection, Dwarf,
+    Result, Unit, convert_units,
 };
-use dw_read::{Attribute, EndianSlice};
+use dw_read::Attribute;
 use dw_read_units::{Dwarf as ReadDwarf, UnitRef};
 use dw_sources::ConvertError;
 use std::alloc::Global;
 
-pub(crate) type Slice = EndianSlice<'static, LittleEndian>;
-
-/// The sections of a file that units and line programs are in.
-pub(crate) struct File {
-    abbrev: &'static [u8],
-    strings: &'static [u8],
-    line_strings: &'static [u8],
-    line: &'static [u8],
-    info: &'static [u8],
-}
+pub(crate) type Slice = reading::Slice<'static>;
 
 /// How a file is converted.
 #[derive(Clone, Copy)]
@@ -48,12 +42,11 @@ const TYPED: &[u8] = b"\x01\x11\x01\x03\x0e\x00\x00\
 pub(crate) const TWO_UNITS: File = File {
     abbrev: TYPED,
     strings: b"a\x00b\x00",
-    line_strings: b"",
-    line: b"",
     info: b"\x17\x00\x00\x00\x05\x00\x01\x08\x00\x00\x00\x00\
 \x01\x00\x00\x00\x00\x02\x02\x00\x00\x00\x2c\x00\x00\x00\x00\
 \x15\x00\x00\x00\x05\x00\x01\x08\x00\x00\x00\x00\
 \x01\x02\x00\x00\x00\x03\x04\x04\x11\x00\x00\x00\x00",
+    ..NONE
 };
 
 /// Each unit has a table of its own, at 6 and at 23; the base type is at 57.
@@ -62,25 +55,24 @@ const TWO_BEHIND: File = File {
 \x01\x11\x01\x03\x0e\x00\x00\x02\x34\x00\x03\x0e\x49\x10\x00\x00\x00\
 \x01\x11\x01\x03\x0e\x00\x00\x02\x24\x00\x0b\x0b\x00\x00\x03\x34\x00\x49\x13\x00\x00\x00",
     strings: b"a\x00b\x00",
-    line_strings: b"",
-    line: b"",
     info: b"\x09\x00\x00\x00\x05\x00\x01\x08\x00\x00\x00\x00\x01\
 \x17\x00\x00\x00\x05\x00\x01\x08\x06\x00\x00\x00\
 \x01\x00\x00\x00\x00\x02\x02\x00\x00\x00\x39\x00\x00\x00\x00\
 \x15\x00\x00\x00\x05\x00\x01\x08\x17\x00\x00\x00\
 \x01\x02\x00\x00\x00\x02\x04\x03\x11\x00\x00\x00\x00",
+    ..NONE
 };
 
 /// The program of a unit of version 5, with a directory and a file by their places among the line
 /// strings (DWARF 5, 6.2.4), which the root's `DW_AT_decl_file` names.
 const ONE_PROGRAM: File = File {
     abbrev: b"\x01\x11\x00\x3a\x0f\x10\x17\x00\x00\x00",
-    strings: b"",
     line_strings: b"/tmp\x00a.c\x00",
     line: b"\x2d\x00\x00\x00\x05\x00\x08\x00\x25\x00\x00\x00\x01\x01\x01\xfb\x0e\x0d\
 \x00\x01\x01\x01\x01\x00\x00\x00\x01\x00\x00\x01\
 \x01\x01\x1f\x01\x00\x00\x00\x00\x02\x01\x1f\x02\x0f\x01\x05\x00\x00\x00\x00",
     info: b"\x0e\x00\x00\x00\x05\x00\x01\x08\x00\x00\x00\x00\x01\x00\x00\x00\x00\x00",
+    ..NONE
 };
 
 /// The unit before it has no line program, and so the program stays where it is.
@@ -123,54 +115,6 @@ pub(crate) fn rows() -> &'static [(&'static str, Conversion)] {
 /// What is wrong with a unit or its converter that isn't as it has to be.
 const WRONG: ConvertError = ConvertError::UnsupportedOperation;
 
-fn reader(bytes: &'static [u8]) -> Slice {
-    EndianSlice::new(bytes, LittleEndian)
-}
-
-pub(crate) fn read_sections(file: &File) -> ReadDwarf<Slice> {
-    ReadDwarf {
-        debug_abbrev: reader(file.abbrev),
-        debug_str: reader(file.strings),
-        debug_line_str: reader(file.line_strings),
-        debug_line: reader(file.line),
-        debug_ranges: reader(b""),
-        debug_rnglists: reader(b""),
-        debug_loc: reader(b""),
-        debug_loclists: reader(b""),
-        debug_info: reader(file.info),
-        debug_addr: reader(b""),
-        debug_str_offsets: reader(b""),
-    }
-}
-
-/// The same address.
-fn constant(address: u64) -> Option<Address> {
-    Some(Address::Constant(address))
-}
-
-/// Converts all of a fresh unit.
-fn convert_unit<'a>(
-    unit: &mut ConvertUnit<'a, Slice>,
-    root: ConvertUnitEntry<'a, Slice>,
-) -> ConvertResult<()> {
-    if !unit.is_fresh() {
-        return Err(WRONG);
-    }
-    unit.convert(root, &|address| constant(address))
-}
-
-/// Converts the next unit at once, if there is one.
-fn convert_next(section: &mut ConvertUnitSection<'_, Slice>) -> ConvertResult<()> {
-    match section.read_unit()? {
-        Some((mut unit, root)) => {
-            let converted = convert_unit(&mut unit, root);
-            drop(unit);
-            converted
-        }
-        None => Ok(()),
-    }
-}
-
 /// Adds an entry that was read, under the id that is reserved for it.
 fn add(
     unit: &mut ConvertUnit<'_, Slice>,
@@ -191,6 +135,17 @@ fn add(
     }
 }
 
+/// Gives an entry that was added a value.
+fn put(unit: &mut Unit, id: UnitEntryId, name: DwAt, value: AttributeValue) -> ConvertResult<()> {
+    if name.0 < 2 || id.index() >= unit.count() {
+        return Err(WRONG);
+    }
+    match unit.get_mut(id).set(name, value) {
+        Ok(()) => Ok(()),
+        Err(_) => Err(ConvertError::NoMemory),
+    }
+}
+
 /// Sets one attribute of an entry that was added.
 fn set(
     unit: &mut ConvertUnit<'_, Slice>,
@@ -198,14 +153,9 @@ fn set(
     read_unit: UnitRef<'_, Slice>,
     attribute: &Attribute<Slice>,
 ) -> ConvertResult<()> {
-    let value = unit.convert_attribute_value(read_unit, attribute, &|address| constant(address))?;
-    let written = &mut *unit.unit;
-    if attribute.name().0 < 2 || id.index() >= written.count() {
-        return Err(WRONG);
-    }
-    match written.get_mut(id).set(attribute.name(), value) {
-        Ok(()) => Ok(()),
-        Err(_) => Err(ConvertError::NoMemory),
+    match unit.convert_attribute_value(read_unit, attribute, &|address| constant(address)) {
+        Ok(value) => put(unit.unit, id, attribute.name(), value),
+        Err(error) => Err(error),
     }
 }
 
@@ -223,11 +173,17 @@ fn set_all(
 
 /// Converts the line program of a unit, if it has one.
 fn convert_lines(unit: &mut ConvertUnit<'_, Slice>) -> ConvertResult<()> {
-    if let Some(program) = unit.read_line_program(None, None)? {
-        let (program, files) = program.convert(&|address| constant(address))?;
-        unit.set_line_program(program, files);
+    match unit.read_line_program(None, None) {
+        Ok(Some(program)) => match program.convert(&|address| constant(address)) {
+            Ok((program, files)) => {
+                unit.set_line_program(program, files);
+                Ok(())
+            }
+            Err(error) => Err(error),
+        },
+        Ok(None) => Ok(()),
+        Err(error) => Err(error),
     }
-    Ok(())
 }
 
 /// Adds the next entry with its attributes, if one is left.
@@ -275,14 +231,15 @@ fn add_unit<'a>(
 
 /// Converts the next unit entry by entry, if there is one.
 fn add_next_unit(section: &mut ConvertUnitSection<'_, Slice>) -> ConvertResult<()> {
-    match section.read_unit()? {
-        Some((mut unit, mut root)) => {
+    match section.read_unit() {
+        Ok(Some((mut unit, mut root))) => {
             let added = add_unit(&mut unit, &mut root);
             drop(root);
             drop(unit);
             added
         }
-        None => Ok(()),
+        Ok(None) => Ok(()),
+        Err(error) => Err(error),
     }
 }
 
@@ -299,15 +256,19 @@ fn convert_each(section: &mut ConvertUnitSection<'_, Slice>, way: Way) -> Conver
 
 /// Converts the units of a file one after the other.
 fn convert_by_section(read: &ReadDwarf<Slice>, dwarf: &mut Dwarf, way: Way) -> ConvertResult<()> {
-    let mut section = dwarf.convert(read)?;
-    let converted = convert_each(&mut section, way);
-    drop(section);
-    converted
+    match dwarf.convert(read) {
+        Ok(mut section) => {
+            let converted = convert_each(&mut section, way);
+            drop(section);
+            converted
+        }
+        Err(error) => Err(error),
+    }
 }
 
 /// Converts a file in a way.
-fn convert(alloc: Global, way: Way, file: &File, dwarf: &mut Dwarf) -> ConvertResult<()> {
-    let read = read_sections(file);
+fn convert(alloc: Global, way: Way, file: &'static File, dwarf: &mut Dwarf) -> ConvertResult<()> {
+    let read = sections_of(file, RunTimeEndian::Little);
     match way {
         Way::AtOnce => convert_units(
             alloc,
@@ -319,15 +280,6 @@ fn convert(alloc: Global, way: Way, file: &File, dwarf: &mut Dwarf) -> ConvertRe
         ),
         _ => convert_by_section(&read, dwarf, way),
     }
-}
-
-/// Tells whether these are the sections of a file.
-fn holds(sections: &Written, file: &File) -> bool {
-    sections.debug_info.0.slice() == file.info
-        && sections.debug_abbrev.0.slice() == file.abbrev
-        && sections.debug_str.0.slice() == file.strings
-        && sections.debug_line_str.0.slice() == file.line_strings
-        && sections.debug_line.0.slice() == file.line
 }
 
 /// Converts a file behind another unit, and writes both.

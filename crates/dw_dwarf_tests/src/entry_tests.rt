@@ -1,11 +1,12 @@
 //! Entries of units that are read, one at a time and all of them.
 
 use crate::building::{How, Value, put};
-use crate::converting::{Slice, TWO_UNITS, read_sections};
+use crate::converting::{Slice, TWO_UNITS};
+use crate::filtering::sections_of;
 use crate::plans::VERSION_4;
 use crate::writing::drop;
 use dw_base::constants::{DW_AT_producer, DW_TAG_compile_unit, DW_TAG_variable};
-use dw_base::{DwTag, UnitEntryId, UnitOffset};
+use dw_base::{DwTag, RunTimeEndian, UnitEntryId, UnitOffset};
 use dw_dwarf::{
     AttributeValue, Bytes, ConvertError, ConvertResult, ConvertUnitEntry, LineProgram, Result,
     Unit, UnitTable,
@@ -64,7 +65,7 @@ fn tag_at(alloc: Global, read: &ReadDwarf<Slice>, offset: usize) -> ConvertResul
 
 #[test]
 fn reads_entries_at_their_offsets(rt: HostRuntime) {
-    let read = read_sections(&TWO_UNITS);
+    let read = sections_of(&TWO_UNITS, RunTimeEndian::Little);
     for (offset, tag) in offsets() {
         assert!(rt; tag_at(rt.alloc(), &read, *offset) == *tag, "at {offset}");
     }

@@ -280,7 +280,10 @@ pub(crate) fn sections_of(file: &'static File, endian: RunTimeEndian) -> ReadDwa
 }
 
 /// Requires an offset of a unit, if it lies inside.
-fn require_one(unit: &mut FilterUnit<'_, Slice<'_>>, offset: UnitOffset) -> ConvertResult<()> {
+pub(crate) fn require_one(
+    unit: &mut FilterUnit<'_, Slice<'_>>,
+    offset: UnitOffset,
+) -> ConvertResult<()> {
     let read = unit.read_unit;
     if read.contains(offset) {
         unit.require_entry(offset)?;
@@ -327,7 +330,7 @@ pub(crate) enum Way {
 }
 
 /// The same address.
-fn constant(address: u64) -> Option<Address> {
+pub(crate) fn constant(address: u64) -> Option<Address> {
     Some(Address::Constant(address))
 }
 
@@ -342,15 +345,18 @@ pub(crate) fn convert_unit<'a>(
     unit.convert(root, &|address| constant(address))
 }
 
-/// Converts the next unit of a filter, if there is one.
-fn convert_next(section: &mut ConvertUnitSection<'_, Slice<'static>>) -> ConvertResult<()> {
-    match section.read_unit()? {
-        Some((mut unit, root)) => {
+/// Converts the next unit at once, if there is one.
+pub(crate) fn convert_next(
+    section: &mut ConvertUnitSection<'_, Slice<'static>>,
+) -> ConvertResult<()> {
+    match section.read_unit() {
+        Ok(Some((mut unit, root))) => {
             let converted = convert_unit(&mut unit, root);
             drop(unit);
             converted
         }
-        None => Ok(()),
+        Ok(None) => Ok(()),
+        Err(error) => Err(error),
     }
 }
 
@@ -371,10 +377,14 @@ fn convert_units(
     filter: FilterUnitSection<'_, Slice<'static>>,
     count: usize,
 ) -> ConvertResult<()> {
-    let mut section = dwarf.convert_with_filter(filter)?;
-    let converted = convert_each(&mut section, count);
-    drop(section);
-    converted
+    match dwarf.convert_with_filter(filter) {
+        Ok(mut section) => {
+            let converted = convert_each(&mut section, count);
+            drop(section);
+            converted
+        }
+        Err(error) => Err(error),
+    }
 }
 
 /// What a filter keeps.
@@ -393,6 +403,14 @@ fn converted(
     }
 }
 
+/// Does what is asked with the units of a file.
+fn ask_all(filter: &mut FilterUnitSection<'_, Slice<'_>>, asked: &[Asked]) -> ConvertResult<()> {
+    for asked in asked {
+        ask(filter, asked)?;
+    }
+    Ok(())
+}
+
 /// What a file becomes.
 fn filtered(
     alloc: Global,
@@ -403,10 +421,13 @@ fn filtered(
     let (file, asked, _) = row;
     let sections = sections_of(file, endian);
     let mut filter = FilterUnitSection::new(alloc, &sections)?;
-    for asked in asked {
-        ask(&mut filter, asked)?;
+    match ask_all(&mut filter, asked) {
+        Ok(()) => converted(alloc, way, filter, asked.len()),
+        Err(error) => {
+            drop(filter);
+            Err(error)
+        }
     }
-    converted(alloc, way, filter, asked.len())
 }
 
 /// Tells whether these are the sections of a file.

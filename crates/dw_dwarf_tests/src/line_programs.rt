@@ -1,16 +1,14 @@
 //! Line programs that were read, converted over the strings of a `Dwarf`, and written by it.
 
+use crate::filtered_files::{File, NONE};
+use crate::filtering::sections_of;
 use crate::plans::{Told, VERSION_4};
+use crate::reading::Slice;
 use crate::writing::{Written, refusal};
-use dw_base::DebugLineOffset;
-use dw_dwarf::{
-    Address, ConvertLineProgram, ConvertResult, Dwarf, Encoding, LineString, LittleEndian, Result,
-};
-use dw_read::EndianSlice;
+use dw_base::{DebugLineOffset, RunTimeEndian};
+use dw_dwarf::{Address, ConvertLineProgram, ConvertResult, Dwarf, Encoding, LineString, Result};
 use dw_read_lines::IncompleteLineProgram;
 use dw_read_units::Dwarf as ReadDwarf;
-
-type Slice = EndianSlice<'static, LittleEndian>;
 
 /// The strings that the program names: its working directory at 0, its file at 5.
 const READ_STRINGS: &[u8] = b"/tmp\x00a.c\x00";
@@ -63,27 +61,12 @@ pub(crate) fn rows() -> &'static [(&'static str, Program)] {
     ROWS
 }
 
-/// A reader of these bytes.
-fn reader(bytes: &'static [u8]) -> Slice {
-    EndianSlice::new(bytes, LittleEndian)
-}
-
 /// Sections that hold the program and its strings alone.
-fn read_sections() -> ReadDwarf<Slice> {
-    ReadDwarf {
-        debug_abbrev: reader(b""),
-        debug_str: reader(b""),
-        debug_line_str: reader(READ_STRINGS),
-        debug_line: reader(READ),
-        debug_ranges: reader(b""),
-        debug_rnglists: reader(b""),
-        debug_loc: reader(b""),
-        debug_loclists: reader(b""),
-        debug_info: reader(b""),
-        debug_addr: reader(b""),
-        debug_str_offsets: reader(b""),
-    }
-}
+const PROGRAM: File = File {
+    line_strings: READ_STRINGS,
+    line: READ,
+    ..NONE
+};
 
 /// The same address 0x200000 further on.
 fn moved(address: u64) -> Option<Address> {
@@ -93,16 +76,16 @@ fn moved(address: u64) -> Option<Address> {
 /// Begins to convert the program.
 fn begin<'a>(
     dwarf: &mut Dwarf,
-    read: &'a ReadDwarf<Slice>,
+    read: &'a ReadDwarf<Slice<'static>>,
     target: Option<Encoding>,
-) -> ConvertResult<ConvertLineProgram<'a, Slice>> {
+) -> ConvertResult<ConvertLineProgram<'a, Slice<'static>>> {
     let program = IncompleteLineProgram::new(read, DebugLineOffset(0), 8)?;
     dwarf.read_line_program(read, program, target, None)
 }
 
 /// Adds the converted program.
 fn convert_into(dwarf: &mut Dwarf, target: Option<Encoding>) -> ConvertResult<()> {
-    let read = read_sections();
+    let read = sections_of(&PROGRAM, RunTimeEndian::Little);
     let (program, _) = begin(dwarf, &read, target)?.convert(&|address| moved(address))?;
     dwarf.line_programs.push(program)?;
     Ok(())

@@ -2,12 +2,13 @@
 //! (DWARF 5, 7.5).
 
 use crate::building::{Call, How, Value};
+use crate::filtering::require_one;
 use crate::plans::{Told, add_unit};
 use crate::reading::Slice;
 use crate::writing::{Written, drop, refusal};
 use crate::{finding, reading};
 use dw_base::constants::{DW_AT_name, DW_AT_producer, DW_TAG_compile_unit, DW_TAG_subprogram};
-use dw_base::{DwAt, DwTag};
+use dw_base::{DwAt, DwTag, UnitOffset};
 use dw_dwarf::{Address, ConvertResult, Dwarf, Encoding, Format, Result, RunTimeEndian, StringId};
 use dw_filter::{FilterUnit, FilterUnitSection};
 use std::alloc::Global;
@@ -137,24 +138,53 @@ fn come_back(alloc: Global, file: usize, sections: &Written) -> bool {
     }
 }
 
+/// Reads the next entry of a unit, and gives its offset, if one is left.
+fn next_offset(unit: &mut FilterUnit<'_, Slice<'_>>) -> ConvertResult<Option<UnitOffset>> {
+    let mut entry = unit.null_entry();
+    let is_read = unit.read_entry(&mut entry);
+    let offset = entry.read_entry.offset;
+    drop(entry);
+    match is_read {
+        Ok(true) => Ok(Some(offset)),
+        Ok(false) => Ok(None),
+        Err(error) => Err(error),
+    }
+}
+
 /// Reads the next entry of a unit, and requires it.
 fn require_next(unit: &mut FilterUnit<'_, Slice<'_>>) -> ConvertResult<()> {
-    let read = unit.read_unit;
-    let mut entry = unit.null_entry();
-    let is_read = unit.read_entry(&mut entry)?;
-    if is_read && read.contains(entry.read_entry.offset) {
-        unit.require_entry(entry.read_entry.offset)?;
+    match next_offset(unit) {
+        Ok(Some(offset)) => require_one(unit, offset),
+        Ok(None) => Ok(()),
+        Err(error) => Err(error),
+    }
+}
+
+/// Requires each entry of a unit behind its root.
+fn require_entries(unit: &mut FilterUnit<'_, Slice<'_>>) -> ConvertResult<()> {
+    for _ in FAMILY {
+        require_next(unit)?;
     }
     Ok(())
 }
 
-/// Requires each entry of the next unit of a file behind its root.
+/// The same of the next unit of a file.
 fn require_unit(filter: &mut FilterUnitSection<'_, Slice<'_>>) -> ConvertResult<()> {
-    let Some(mut unit) = filter.read_unit()? else {
-        return Ok(());
-    };
-    for _ in FAMILY {
-        require_next(&mut unit)?;
+    match filter.read_unit() {
+        Ok(Some(mut unit)) => {
+            let required = require_entries(&mut unit);
+            drop(unit);
+            required
+        }
+        Ok(None) => Ok(()),
+        Err(error) => Err(error),
+    }
+}
+
+/// The same of each unit of a file.
+fn require_units(filter: &mut FilterUnitSection<'_, Slice<'_>>) -> ConvertResult<()> {
+    for _ in unit_rows() {
+        require_unit(filter)?;
     }
     Ok(())
 }
@@ -163,10 +193,13 @@ fn require_unit(filter: &mut FilterUnitSection<'_, Slice<'_>>) -> ConvertResult<
 fn filtered(alloc: Global, file: usize, sections: &Written) -> ConvertResult<Dwarf> {
     let read = reading::read(sections, endian(file));
     let mut filter = FilterUnitSection::new(alloc, &read)?;
-    for _ in unit_rows() {
-        require_unit(&mut filter)?;
+    match require_units(&mut filter) {
+        Ok(()) => Dwarf::from_filter(alloc, filter, &|address| Some(Address::Constant(address))),
+        Err(error) => {
+            drop(filter);
+            Err(error)
+        }
     }
-    Dwarf::from_filter(alloc, filter, &|address| Some(Address::Constant(address)))
 }
 
 /// Tells whether a filter that keeps all leads to what was built.
