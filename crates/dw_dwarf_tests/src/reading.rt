@@ -4,8 +4,8 @@ use crate::table_files::{Kept, Named, Row, encoding, unit_rows};
 use crate::writing::Written;
 use dw_base::{Encoding, RunTimeEndian};
 use dw_read::{
-    Attribute, AttributeValue, DebuggingInformationEntry, EndianSlice, EntriesRaw, ReadError,
-    ReadResult, Reader, UnitHeader, UnitHeadersIter,
+    Attribute, AttributeValue, DebuggingInformationEntry, EndianSlice, EntriesRaw, Reader,
+    UnitHeader, UnitHeadersIter,
 };
 use dw_read_units::{Dwarf, UnitRef};
 use std::alloc::Global;
@@ -34,26 +34,21 @@ pub(crate) fn read(sections: &Written, endian: RunTimeEndian) -> Dwarf<Slice<'_>
     }
 }
 
-/// The text that a value is, and where it is kept.
-fn text<'a>(
-    unit: UnitRef<'_, Slice<'a>>,
-    value: AttributeValue<Slice<'a>>,
-) -> ReadResult<(Kept, Slice<'a>)> {
-    match value {
-        AttributeValue::String(text) => Ok((Kept::InEntry, text)),
-        AttributeValue::DebugStrRef(offset) => Ok((Kept::InTable, unit.string(offset)?)),
-        _ => Err(ReadError::UnexpectedEof),
-    }
-}
-
-/// Whether an attribute is that of a row.
-fn is_named(
+/// Whether a value is a text that is kept so.
+fn is_text(
     unit: UnitRef<'_, Slice<'_>>,
-    attribute: &Attribute<Slice<'_>>,
-    named: &Named,
-) -> ReadResult<bool> {
-    let (kept, found) = text(unit, attribute.raw_value())?;
-    Ok((attribute.name(), kept, found.to_slice()) == *named)
+    value: AttributeValue<Slice<'_>>,
+    kept: Kept,
+    wanted: &[u8],
+) -> bool {
+    match (value, kept) {
+        (AttributeValue::String(text), Kept::InEntry) => text.to_slice() == wanted,
+        (AttributeValue::DebugStrRef(offset), Kept::InTable) => match unit.string(offset) {
+            Ok(text) => text.to_slice() == wanted,
+            Err(_) => false,
+        },
+        _ => false,
+    }
 }
 
 /// Whether the attributes are the one that a row has, or none.
@@ -61,11 +56,13 @@ fn are_named(
     unit: UnitRef<'_, Slice<'_>>,
     attributes: &[Attribute<Slice<'_>>],
     named: &Option<Named>,
-) -> ReadResult<bool> {
+) -> bool {
     match (attributes, named) {
-        ([], None) => Ok(true),
-        ([attribute], Some(named)) => is_named(unit, attribute, named),
-        _ => Ok(false),
+        ([], None) => true,
+        ([attribute], Some((name, kept, wanted))) => {
+            attribute.name() == *name && is_text(unit, attribute.raw_value(), *kept, wanted)
+        }
+        _ => false,
     }
 }
 
@@ -82,11 +79,10 @@ fn reads_row<'a>(
     entries: &mut EntriesRaw<'_, Slice<'a>>,
     entry: &mut DebuggingInformationEntry<Slice<'a>>,
     row: &Row,
-) -> ReadResult<bool> {
-    if !entries.read_entry(entry)? || !is_row(entry, row) {
-        return Ok(false);
-    }
-    are_named(unit, &entry.attrs, &row.3)
+) -> bool {
+    entries.read_entry(entry) == Ok(true)
+        && is_row(entry, row)
+        && are_named(unit, &entry.attrs, &row.3)
 }
 
 /// Whether the entries are as the rows have them, and end behind a null entry, where the root has
@@ -96,23 +92,27 @@ fn reads_rows<'a>(
     entries: &mut EntriesRaw<'_, Slice<'a>>,
     entry: &mut DebuggingInformationEntry<Slice<'a>>,
     rows: &[Row],
-) -> ReadResult<bool> {
+) -> bool {
     for row in rows {
-        if !reads_row(unit, entries, entry, row)? {
-            return Ok(false);
+        if !reads_row(unit, entries, entry, row) {
+            return false;
         }
     }
-    if rows.len() > 1 && entries.read_entry(entry)? {
-        return Ok(false);
+    if rows.len() > 1 && entries.read_entry(entry) != Ok(false) {
+        return false;
     }
-    Ok(entries.is_empty())
+    entries.is_empty()
 }
 
 /// Whether the entries of a unit are those of the rows.
-fn reads_entries(alloc: Global, unit: UnitRef<'_, Slice<'_>>, rows: &[Row]) -> ReadResult<bool> {
-    let mut entries = unit.entries_raw(alloc, None)?;
-    let mut entry = DebuggingInformationEntry::new(alloc);
-    reads_rows(unit, &mut entries, &mut entry, rows)
+fn reads_entries(alloc: Global, unit: UnitRef<'_, Slice<'_>>, rows: &[Row]) -> bool {
+    match unit.entries_raw(alloc, None) {
+        Ok(mut entries) => {
+            let mut entry = DebuggingInformationEntry::new(alloc);
+            reads_rows(unit, &mut entries, &mut entry, rows)
+        }
+        Err(_) => false,
+    }
 }
 
 /// Whether a unit is read with this encoding and the entries of the rows.
@@ -122,12 +122,14 @@ fn reads_unit(
     header: UnitHeader<Slice<'_>>,
     encoding: Encoding,
     rows: &[Row],
-) -> ReadResult<bool> {
+) -> bool {
     if header.encoding() != encoding {
-        return Ok(false);
+        return false;
     }
-    let unit = dwarf.unit(alloc, header)?;
-    reads_entries(alloc, UnitRef { dwarf, unit: &unit }, rows)
+    match &dwarf.unit(alloc, header) {
+        Ok(unit) => reads_entries(alloc, UnitRef { dwarf, unit }, rows),
+        Err(_) => false,
+    }
 }
 
 /// Whether the next unit is so.
@@ -137,20 +139,20 @@ fn reads_next(
     headers: &mut UnitHeadersIter<Slice<'_>>,
     encoding: Encoding,
     rows: &[Row],
-) -> ReadResult<bool> {
-    match headers.next()? {
-        Some(header) => reads_unit(alloc, dwarf, header, encoding, rows),
-        None => Ok(false),
+) -> bool {
+    match headers.next() {
+        Ok(Some(header)) => reads_unit(alloc, dwarf, header, encoding, rows),
+        _ => false,
     }
 }
 
 /// Whether the units are read as their file has them, and no others.
-pub(crate) fn are_read(alloc: Global, file: usize, dwarf: &Dwarf<Slice<'_>>) -> ReadResult<bool> {
+pub(crate) fn are_read(alloc: Global, file: usize, dwarf: &Dwarf<Slice<'_>>) -> bool {
     let mut headers = dwarf.units();
     for (number, rows) in unit_rows().iter().enumerate() {
-        if !reads_next(alloc, dwarf, &mut headers, encoding(file, number), rows)? {
-            return Ok(false);
+        if !reads_next(alloc, dwarf, &mut headers, encoding(file, number), rows) {
+            return false;
         }
     }
-    Ok(headers.next()?.is_none())
+    matches!(headers.next(), Ok(None))
 }

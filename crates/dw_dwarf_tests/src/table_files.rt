@@ -217,7 +217,7 @@ fn are_kept(alloc: Global, file: usize, sections: &Written) -> bool {
 /// Tells whether the sections of a file are read as what was built.
 fn are_read(alloc: Global, file: usize, sections: &Written) -> bool {
     let dwarf = reading::read(sections, endian(file));
-    reading::are_read(alloc, file, &dwarf) == Ok(true)
+    reading::are_read(alloc, file, &dwarf)
 }
 
 /// Builds the units of a file, writes, reads and converts them.
