@@ -46,6 +46,21 @@ found_code xs s i e =
     let within : i < length xs = grind arith in
     (ap (λ k. k + 1) at ∙ position-code xs s, present xs s (omega arith))
 
+at_step : (b : Bool) (i n : ℕ) (s x : Shape) (xs ys : List Shape) → (b ≡ true → s ≡ x) → x ≢ s → (i + 1 ≡ n) × (ys ≡ xs) → (suc i + 1 ≡ (if b then 1 else suc n)) × ((if b then x ∷ xs else x ∷ ys) ≡ x ∷ xs)
+at_step true i n s x xs ys same apart rest = absurd (apart (sym (same refl)))
+at_step false i n s x xs ys same apart rest = let k = rest.0 in (omega arith, ap (λ l. x ∷ l) rest.1)
+
+-- a shape that stands at a place has the code of that place, and is not added
+pub code_at_place : (xs : List Shape) (s : Shape) (i : ℕ) → AllDiffer xs → i < length xs → slice_index_or xs i s ≡ s → (i + 1 ≡ code_in xs s) × (with_shape xs s ≡ xs)
+code_at_place [] s i differ within is = absurd (omega arith)
+code_at_place (x ∷ xs) s zero differ within is =
+    let same : shape_eq s x ≡ true = (shape_Decides s x).1 (sym is) in
+    (sym (ap (λ b. if b then 1 else suc (code_in xs s)) same), ap (λ b. if b then x ∷ xs else x ∷ with_shape xs s) same)
+code_at_place (x ∷ xs) s (suc i) differ within is =
+    at_step (shape_eq s x) i (code_in xs s) s x xs (with_shape xs s) (shape_Decides s x).0
+    (λ same. differ 0 (suc i) s (omega arith) within (same ∙ sym is))
+    (code_at_place xs s i (λ j k d before inside. differ (suc j) (suc k) d (omega arith) (omega arith)) (omega arith) is)
+
 -- keys of an ordered set differ
 pub distinct_differ : (xs : List Shape) → IsDistinct shape_eq xs → AllDiffer xs
 unfolding IsDistinct

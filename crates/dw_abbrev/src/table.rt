@@ -21,6 +21,10 @@ use std::marker::Model;
 #[derive(Drop)]
 pub struct AbbreviationTable {
     abbreviations: IndexSet<Abbreviation>,
+
+    // The code that was looked up last, or 0: entries of one shape often follow each other, and
+    // need no hash then.
+    last: u64,
 }
 
 impl Model for AbbreviationTable {
@@ -43,6 +47,7 @@ impl AbbreviationTable {
     {
         AbbreviationTable {
             abbreviations: IndexSet::new(alloc),
+            last: 0,
         }
     }
 
@@ -75,6 +80,20 @@ impl AbbreviationTable {
         Some(index as u64 + 1)
     }
 
+    /// The code that was looked up last, if its abbreviation equals this one.
+    fn code_again(&self, abbrev: &Abbreviation) -> Option<u64>
+        ensures code { IfSome result (λ code. code ≡ code_in self.now «abbrev».now) }
+        ensures there { IfSome result (λ code. with_shape self.now «abbrev».now ≡ self.now) }
+    {
+        let place = (self.last as usize).checked_sub(1)?;
+        let abbreviations = self.abbreviations.as_slice();
+        if place < abbreviations.len() && &abbreviations[place] == abbrev {
+            Some(self.last)
+        } else {
+            None
+        }
+    }
+
     /// The code of an abbreviation, of which a copy is added if none equals it. So one abbreviation
     /// serves for many look-ups.
     pub fn add_copy(&mut self, abbrev: &Abbreviation) -> Result<u64>
@@ -83,10 +102,15 @@ impl AbbreviationTable {
         ensures err { IfErr result (λ e. e ≡ NoMemory) }
         ensures kept { OnErr result (self.new ≡ self.old) }
     {
-        match self.code_of(abbrev) {
-            Some(code) => Ok(code),
-            None => self.add(abbrev.try_clone()?),
+        if let Some(code) = self.code_again(abbrev) {
+            return Ok(code);
         }
+        let code = match self.code_of(abbrev) {
+            Some(code) => code,
+            None => self.add(abbrev.try_clone()?)?,
+        };
+        self.last = code;
+        Ok(code)
     }
 
     /// How many abbreviations there are. No two of them are equal.
