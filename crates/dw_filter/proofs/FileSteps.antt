@@ -3,8 +3,7 @@ use Rattle.std.proofs.Common.{◌≡◌, ◌∙◌, sym, ap, subst, ℕ, ◌<◌
 use Rattle.std.specs.List.{Contains}
 use Rattle.std.proofs.lemmas.Option.{slice_get_within}
 use Rattle.std.specs.Map.{lookup}
-use Rattle.std.specs.BTreeMap.{is_at}
-use Rattle.std.specs.Ordering.{nat_cmp}
+use Rattle.std.specs.Prelude.{nat_eq}
 use Rattle.dw_base.specs.Entries.{Row}
 use Rattle.dw_base.specs.declared.offsets.UnitSectionOffset.{UnitSectionOffset}
 use Rattle.dw_entry_ids.proofs.Found.{at_end}
@@ -113,7 +112,7 @@ module _ {R E : Type 0} (reading : R → Reading) (counts : List ℕ) where
         → ((p q : UnitSectionOffset) → Leads (targets now) p q ↔ LeadsIn reading d units counts p q) → now.required ≡ [] → IsRequired now end required
         → (q : UnitSectionOffset) → Kept end q ↔ KeptIn reading d units counts required q
     kept_in units now end required known leads none is =
-        let same : (p : ℕ) → targets now p ≡ targets end p = λ p. ap (λ ks. lookup (is_at (nat_cmp p)) ks) (sym is.known) in
+        let same : (p : ℕ) → targets now p ≡ targets end p = λ p. ap (λ ks. lookup (nat_eq p) ks) (sym is.known) in
         let all : end.required ≡ required = is.required ∙ ap (λ (xs : List UnitSectionOffset). xs ++ required) none in
         kept_alike (Known (targets end)) (KnownIn reading units counts) (Leads (targets end)) (LeadsIn reading d units counts) (Contains end.required) (Contains required)
         (λ q. (λ k. (known q).0 (subst (λ (o : Option (List UnitSectionOffset)). IsSome o) (sym (same q.0)) k), λ k. subst (λ (o : Option (List UnitSectionOffset)). IsSome o) (same q.0) ((known q).1 k)))

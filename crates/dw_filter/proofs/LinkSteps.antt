@@ -2,6 +2,7 @@
 use Rattle.std.proofs.Common.{◌≡◌, ◌∙◌, sym, ap, subst, ℕ, List, [], ◌∷◌, ◌++◌, Option, None, Some, IsSome, Result, Ok, Err, OnOk, Bool, true, false, not, ◌⊎◌, inl, inr, ⊎_elim, ◌↔◌, refl, arith}
 use Rattle.std.specs.List.{Contains}
 use Rattle.std.specs.Option.{is_some}
+use Rattle.std.proofs.lemmas.Bool.{cases_eq}
 use Rattle.std.proofs.lemmas.List.Elements.{Contains-append_left, Contains-push, Contains-push_cases}
 use Rattle.dw_base.specs.declared.offsets.UnitSectionOffset.{UnitSectionOffset}
 use Rattle.dw_filter.specs.Dependencies.{Dependencies, IsPut, Known, targets}
@@ -73,6 +74,36 @@ entry_put old new place deps absent put = record {
     λ h. l.1 (⊎_elim (λ h. inl h) (λ (h : (p ≡ place) × Contains deps q). inr (ap (λ (u : UnitSectionOffset). u.0) h.0, h.1)) h),
   );
   required = put.required;
+}
+
+-- an entry is put that was known, and then led to where it led before
+pub entry_joined : (old mid new : Dependencies) (place : UnitSectionOffset) (deps earlier : List UnitSectionOffset) → targets old place.0 ≡ Some earlier → IsPut old mid place.0 deps
+    → Grows mid new (λ q. place ≡ q) (λ p q. (p ≡ place) × Contains earlier q) → Grows old new (λ q. place ≡ q) (λ p q. (p ≡ place) × Contains deps q)
+entry_joined old mid new place deps earlier was put g = record {
+  known = λ q. let k = known_new old mid place deps put q in (
+    λ h. ⊎_elim (λ h. k.0 h) (λ h. inr h) ((g.known q).0 h),
+    λ h. (g.known q).1 (inl (k.1 h)),
+  );
+  leads = λ p q. ⊎_elim
+      (λ same. let at_mid : targets mid p.0 ≡ Some deps = ap (targets mid) same ∙ put.here in
+      let at_old : targets old p.0 ≡ Some earlier = ap (targets old) same ∙ was in (
+        λ h. ⊎_elim
+            (λ l. inr (same_place p place same, (let e : l.0 ≡ deps = (let u = l.1 in cc) in subst (λ (xs : List UnitSectionOffset). Contains xs q) e l.2)))
+            (λ (c : (p ≡ place) × Contains earlier q). inl (earlier, at_old, c.1)) ((g.leads p q).0 h),
+        λ h. (g.leads p q).1 (⊎_elim
+            (λ l. inr (same_place p place same, (let e : l.0 ≡ earlier = (let u = l.1 in cc) in subst (λ (xs : List UnitSectionOffset). Contains xs q) e l.2)))
+            (λ (c : (p ≡ place) × Contains deps q). inl (deps, at_mid, c.1)) h),
+      ))
+      (λ apart. let at : targets mid p.0 ≡ targets old p.0 = put.elsewhere p.0 apart in (
+        λ h. ⊎_elim
+            (λ l. inl (l.0, sym at ∙ l.1, l.2))
+            (λ (c : (p ≡ place) × Contains earlier q). absurd (apart (ap (λ (u : UnitSectionOffset). u.0) c.0))) ((g.leads p q).0 h),
+        λ h. (g.leads p q).1 (⊎_elim
+            (λ l. inl (l.0, at ∙ l.1, l.2))
+            (λ (c : (p ≡ place) × Contains deps q). absurd (apart (ap (λ (u : UnitSectionOffset). u.0) c.0))) h),
+      ))
+      (cases_eq p.0 place.0);
+  required = g.required ∙ put.required;
 }
 
 -- an edge is added

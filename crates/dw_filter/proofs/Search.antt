@@ -40,6 +40,10 @@ module _ (t : Targets) (required : List UnitSectionOffset) where
         (Contains-push_cases rest x q (subst (λ (xs : List UnitSectionOffset). Contains xs q) e h)))
         found
 
+    -- where it is left, it wasn't reached
+    pub not_reached : (leads : List UnitSectionOffset) → left x.0 ≡ Some leads → reached x.0 ≡ false
+    not_reached leads is = ⊎_elim (λ yes. absurd (let n = p.reached_left x.0 yes in cc)) (λ no. no) (cases_Bool (reached x.0))
+
     -- it was reached before, or isn't known
     pub skip : left x.0 ≡ None → (left' : Targets) → ((q : ℕ) → left' q ≡ left q) → Progress left' reached rest
     skip gone left' same = record {
@@ -68,7 +72,7 @@ module _ (t : Targets) (required : List UnitSectionOffset) where
 
       pub step : Progress left' reached' (rest ++ leads)
       step =
-          let new : reached x.0 ≡ false = ⊎_elim (λ yes. absurd (let n = p.reached_left x.0 yes in cc)) (λ no. no) (cases_Bool (reached x.0)) in
+          let new = not_reached leads is in
           let targets : t x.0 ≡ Some leads = sym (p.other_left x.0 new) ∙ is in
           let known : IsSome (t x.0) = subst (λ (o : Option (List UnitSectionOffset)). IsSome o) (sym targets) (search arith) in
           let kept : KeptAmong t required x = p.pending_kept x (subst (λ (xs : List UnitSectionOffset). Contains xs x) (sym e) (Contains-push rest x)) known in

@@ -1,9 +1,8 @@
 -- The look-ups of a map, in its entries with plain lists.
 use Rattle.std.proofs.Common.{◌≡◌, ◌∙◌, sym, ap, ℕ, Bool, true, false, cond, List, [], ◌∷◌, Some, refl}
 use Rattle.std.specs.Option.{option_map}
-use Rattle.std.specs.Ordering.{nat_cmp}
+use Rattle.std.specs.Prelude.{nat_eq}
 use Rattle.std.specs.Map.{lookup, set_value}
-use Rattle.std.specs.BTreeMap.{is_at}
 use Rattle.std.specs.declared.alloc.Global.{Global}
 use Rattle.std.specs.declared.vec.Vec.{Vec}
 use Rattle.std.proofs.lemmas.Option.{same_Some}
@@ -12,8 +11,8 @@ use Rattle.dw_base.specs.declared.offsets.UnitSectionOffset.{UnitSectionOffset}
 use Rattle.dw_filter.specs.Dependencies.{known_of}
 
 pub lookup_plain : (entries : List (ℕ × Vec UnitSectionOffset Global)) (place : ℕ)
-    → lookup (is_at (nat_cmp place)) (known_of entries) ≡ option_map (λ (v : Vec UnitSectionOffset Global). v.items) (lookup (is_at (nat_cmp place)) entries)
-lookup_plain entries place = lookup-map_values (λ (v : Vec UnitSectionOffset Global). v.items) (is_at (nat_cmp place)) entries
+    → lookup (nat_eq place) (known_of entries) ≡ option_map (λ (v : Vec UnitSectionOffset Global). v.items) (lookup (nat_eq place) entries)
+lookup_plain entries place = lookup-map_values (λ (v : Vec UnitSectionOffset Global). v.items) (nat_eq place) entries
 
 -- a value that is written back with the same items changes none of them
 pub entries_same : (test : ℕ → Bool) (entries : List (ℕ × Vec UnitSectionOffset Global)) (v w : Vec UnitSectionOffset Global)

@@ -1,10 +1,8 @@
 -- The known entries of a file, where they lead, and those that are required.
-use Rattle.std.specs.Prelude.{◌≡◌, ℕ, List, Option, Some, IsSome, map}
+use Rattle.std.specs.Prelude.{◌≡◌, ℕ, List, Option, Some, IsSome, map, nat_eq}
 use Rattle.std.specs.Option.{option_map}
 use Rattle.std.specs.List.{Contains}
-use Rattle.std.specs.Ordering.{nat_cmp}
 use Rattle.std.specs.Map.{lookup}
-use Rattle.std.specs.BTreeMap.{is_at}
 use Rattle.std.specs.declared.alloc.Global.{Global}
 use Rattle.std.specs.declared.vec.Vec.{Vec}
 use Rattle.dw_base.specs.declared.offsets.UnitSectionOffset.{UnitSectionOffset}
@@ -14,13 +12,13 @@ use Rattle.dw_filter.specs.Kept.{IsKept, IsLeastClosed}
 abbrev pub Targets : Type 0
 Targets = ℕ → Option (List UnitSectionOffset)
 
--- the known entries in the order of their places, each with the entries that it leads to, and the required entries
+-- the known entries, each once, with the entries that it leads to, and the required entries
 pub record Dependencies : Type 0 where
   pub known : List (ℕ × List UnitSectionOffset)
   pub required : List UnitSectionOffset
 
 abbrev pub targets : Dependencies → Targets
-targets d place = lookup (is_at (nat_cmp place)) d.known
+targets d place = lookup (nat_eq place) d.known
 
 -- q is known
 abbrev pub Known : Targets → UnitSectionOffset → Type 0
@@ -53,8 +51,4 @@ known_of entries = map (λ e. (e.0, e.1.items)) entries
 
 -- where the entries of a map lead
 abbrev pub targets_at : List (ℕ × Vec UnitSectionOffset Global) → Targets
-targets_at entries place = option_map (λ v. v.items) (lookup (is_at (nat_cmp place)) entries)
-
--- the entries at these places
-abbrev pub offsets_at : List ℕ → List UnitSectionOffset
-offsets_at = map (λ n. record { 0 = n })
+targets_at entries place = option_map (λ v. v.items) (lookup (nat_eq place) entries)

@@ -2,17 +2,17 @@
 
 ghost use Rattle.std.specs.Prelude.{◌≡◌, ℕ, List, [], ◌∷◌, ◌++◌, map, ◌↔◌, None, Some};
 ghost use Rattle.std.specs.Prelude.{IfOk, IfErr, OnOk, OnErr, IsSome};
-ghost use Rattle.std.specs.Option.{is_some};
+ghost use Rattle.std.specs.Option.{is_some, option_map};
 ghost use Rattle.std.specs.List.{Contains};
 ghost use Rattle.std.specs.List.Sorted.{IsStrictlyIncreasing};
 ghost use Rattle.dw_sources.specs.declared.convert_error.ConvertError.TheVariants.{NoMemory};
 ghost use Rattle.dw_filter.specs.Dependencies.{targets, IsPut, Kept, IsLeastKept};
 
-use crate::reach::{offsets_of, reach};
+use crate::reach::reach;
 use dw_base::UnitSectionOffset;
 use dw_sources::ConvertResult;
 use std::alloc::Global;
-use std::collections::BTreeMap;
+use std::collections::HashMap;
 use std::marker::Model;
 
 /// The entries of a file that are known, the entries to which each of them leads, and the entries
@@ -28,7 +28,7 @@ use std::marker::Model;
 /// ```
 #[derive(Drop)]
 pub struct FilterDependencies {
-    edges: BTreeMap<usize, Vec<UnitSectionOffset>>,
+    edges: HashMap<usize, Vec<UnitSectionOffset>>,
     required: Vec<UnitSectionOffset>,
     alloc: Global,
 }
@@ -48,7 +48,7 @@ impl FilterDependencies {
         ensures required { result.required ≡ [] }
     {
         FilterDependencies {
-            edges: BTreeMap::new(alloc),
+            edges: HashMap::new(alloc),
             required: Vec::new(alloc),
             alloc,
         }
@@ -75,8 +75,26 @@ impl FilterDependencies {
         ensures err { IfErr result (λ e. e ≡ NoMemory) }
         ensures unchanged { OnErr result (self.new ≡ self.old) }
     {
-        self.edges.insert(entry.0, deps)?;
+        self.put_entry(entry, deps)?;
         Ok(())
+    }
+
+    /// Makes an entry known, which leads to these entries alone, and answers to which it led
+    /// before, where it was known.
+    #[tactic(auto, using(crate::proofs::Views::lookup_plain))]
+    pub(crate) fn put_entry(
+        &mut self,
+        entry: UnitSectionOffset,
+        deps: Vec<UnitSectionOffset>,
+    ) -> ConvertResult<Option<Vec<UnitSectionOffset>>>
+        ensures ok { OnOk result (IsPut self.old self.new entry.0 deps.items) }
+        ensures earlier { IfOk result
+            (λ v. targets self.old entry.0 ≡ option_map (λ v. v.items) v) }
+        ensures err { IfErr result (λ e. e ≡ NoMemory) }
+        ensures unchanged { OnErr result (self.new ≡ self.old) }
+    {
+        let earlier = self.edges.insert(entry.0, deps)?;
+        Ok(earlier)
     }
 
     /// Adds an edge to those of a known entry. The entry to which it leads need not be known.
@@ -116,8 +134,8 @@ impl FilterDependencies {
         ensures least { IfOk result (λ v. IsLeastKept self v.items) }
         ensures err { IfErr result (λ e. e ≡ NoMemory) }
     {
-        let reached = reach(self.alloc, self.edges, self.required)?;
-        let entries = offsets_of(self.alloc, &reached)?;
-        Ok(entries)
+        let mut reached = reach(self.alloc, self.edges, self.required)?;
+        reached.sort_unstable_by_key(|entry| entry.0);
+        Ok(reached)
     }
 }

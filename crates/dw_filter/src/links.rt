@@ -107,7 +107,8 @@ fn named_places<R: Reader>(
     entry
         .attrs
         .retain(|attribute| !is_left_out(attribute.name()));
-    let mut places = Vec::new(alloc);
+    // Room for a type and for the parent, which most entries lead to and no more.
+    let mut places = Vec::with_capacity(alloc, 2)?;
     add_entry_places(alloc, unit, &entry.attrs, &mut places)?;
     Ok(places)
 }
@@ -145,10 +146,10 @@ fn add_known(
         (λ q. place ≡ q) (λ p q. (p ≡ place) × Contains leads.items q)) }
     ensures err { IfErr result (λ e. e ≡ NoMemory) }
 {
-    if !dependencies.is_known(place) {
-        return dependencies.add_entry(place, leads);
+    match dependencies.put_entry(place, leads)? {
+        None => Ok(()),
+        Some(earlier) => add_edges(dependencies, place, &earlier),
     }
-    add_edges(dependencies, place, &leads)
 }
 
 /// Lets a known entry lead to others.
