@@ -1,5 +1,5 @@
 -- Strings of a section are read again, and those of a table differ.
-use Rattle.std.specs.Prelude.{◌≡◌, ◌≢◌, ℕ, zero, suc, ◌==◌, ◌<◌, Bool, true, false, ◌||◌, List, [], ◌∷◌, ◌++◌, length, take, Some, slice_get, refl}
+use Rattle.std.specs.Prelude.{◌≡◌, ◌≢◌, ℕ, zero, suc, ◌==◌, ◌<◌, Bool, true, false, ◌||◌, List, [], ◌∷◌, ◌++◌, length, take, Option, Some, None, slice_get, refl, if◌then◌else◌}
 use Rattle.std.specs.List.{All, IsDistinct, list_any}
 use Rattle.std.specs.Cmp.{unsigned_Decides}
 use Rattle.std.specs.Cmp.Lexicographic.{pointwise_decides}
@@ -11,7 +11,7 @@ use Rattle.dw_base.specs.Numbers.{◌>>=◌}
 use Rattle.dw_base.specs.Forms.{text_at}
 use Rattle.dw_base.specs.Spellable.{IsText}
 use Rattle.dw_base.proofs.NumberLaws.{bind_is}
-use Rattle.dw_strings.specs.Strings.{is_same_string, closed, string_bytes, string_place, string_at, AllDiffer}
+use Rattle.dw_strings.specs.Strings.{KeepStrings, is_same_string, closed, string_bytes, string_place, string_at, with_string, AllDiffer}
 
 pub text-again : (t rest : List ℕ) → IsText t → text_at (t ++ 0 ∷ rest) ≡ Some (t, rest)
 unfolding text_at
@@ -30,6 +30,24 @@ string_at-place (s ∷ ss) (suc i) texts below =
     ap (λ p. string_at p (string_bytes (s ∷ ss))) (length-append (closed s) (string_bytes (take i ss)))
     ∙ ap (λ bs. text_at bs >>= λ x. Some x.0) (drop-append-add (closed s) (string_bytes ss) (string_place ss i))
     ∙ string_at-place ss i (All-tail IsText s ss texts) (omega arith)
+
+-- strings stay where others are added behind them
+string_behind : (xs ys : List (List ℕ)) (i : ℕ) (s : List ℕ) → slice_get xs i ≡ Some s → (slice_get (xs ++ ys) i ≡ Some s) × (string_place (xs ++ ys) i ≡ string_place xs i)
+string_behind [] ys i s h = absurd (let k : ◌≡◌ {A = Option (List ℕ)} None (Some s) = h in cc)
+string_behind (x ∷ xs) ys zero s h = (h, refl)
+string_behind (x ∷ xs) ys (suc i) s h =
+    let rest = string_behind xs ys i s h in
+    (rest.0, omega (arith, rest.1, length-append (closed x) (string_bytes (take i (xs ++ ys))), length-append (closed x) (string_bytes (take i xs))))
+
+pub KeepStrings-same : (xs : List (List ℕ)) → KeepStrings xs xs
+KeepStrings-same xs i s h = (h, refl)
+
+pub KeepStrings-with : (xs : List (List ℕ)) (s : List ℕ) → KeepStrings xs (with_string xs s)
+KeepStrings-with xs s = by_test (list_any (is_same_string s) xs)
+  where
+    by_test : (b : Bool) → KeepStrings xs (if b then xs else xs ++ s ∷ [])
+    by_test true = KeepStrings-same xs
+    by_test false = string_behind xs (s ∷ [])
 
 -- the keys of an ordered set differ
 pub distinct_differ : (strings : List (List ℕ)) → IsDistinct is_same_string strings → AllDiffer strings

@@ -1,6 +1,6 @@
 -- The sections of strings: each string once, in the order in which they first came, closed by a zero
 -- (DWARF 5, 7.26, and 7.5.5 on strings).
-use Rattle.std.specs.Prelude.{◌≡◌, ◌≢◌, ℕ, ◌<◌, Bool, List, [], ◌∷◌, ◌++◌, length, take, drop, Option, Some, nat_eq, slice_index, AllPairs, if◌then◌else◌}
+use Rattle.std.specs.Prelude.{◌≡◌, ◌≢◌, ℕ, ◌<◌, Bool, List, [], ◌∷◌, ◌++◌, length, take, drop, Option, Some, nat_eq, slice_get, slice_index, AllPairs, if◌then◌else◌}
 use Rattle.std.specs.List.{All, flat_map, list_any, position_or_len}
 use Rattle.std.specs.Cmp.Lexicographic.{pointwise}
 use Rattle.dw_base.specs.Numbers.{◌>>=◌}
@@ -30,6 +30,10 @@ string_bytes strings = flat_map closed strings
 -- where a string of these begins in the section
 abbrev pub string_place : List (List ℕ) → ℕ → ℕ
 string_place strings i = length (string_bytes (take i strings))
+
+-- each string of a table keeps its number and its place once others were added
+abbrev pub KeepStrings : List (List ℕ) → List (List ℕ) → Type 0
+KeepStrings old new = (i : ℕ) (s : List ℕ) → slice_get old i ≡ Some s → (slice_get new i ≡ Some s) × (string_place new i ≡ string_place old i)
 
 -- the string at a place of a section, up to its first zero (DWARF 5, 7.5.5)
 abbrev pub string_at : ℕ → List ℕ → Option (List ℕ)

@@ -5,7 +5,7 @@ ghost use Rattle.dw_base.specs.Spellable.{IsText};
 ghost use Rattle.dw_base.specs.declared.error.Error.TheVariants.{NoMemory};
 ghost use Rattle.dw_writer.specs.Meaning.{IsSameWriter, Adds, AddsSome};
 ghost use Rattle.dw_writer.specs.Causes.{BytesRefused};
-ghost use Rattle.dw_strings.specs.Strings.{string_at, string_bytes, string_index, string_place, with_string, AllDiffer};
+ghost use Rattle.dw_strings.specs.Strings.{KeepStrings, string_at, string_bytes, string_index, string_place, with_string, AllDiffer};
 
 use crate::string_list::StringList;
 use dw_base::{DebugLineStrOffset, LineStringId, Result};
@@ -51,6 +51,8 @@ impl LineStringTable {
         ensures id { IfOk result (λ id. id.0 ≡ string_index self.old bytes.now) }
         ensures ok { OnOk result (self.new ≡ with_string self.old bytes.now) }
         ensures named { IfOk result (λ id. slice_get self.new id.0 ≡ Some bytes.now) }
+        // Those that were there keep their ids and their places.
+        ensures stay { KeepStrings self.old self.new }
         ensures err { IfErr result (λ e. e ≡ NoMemory) }
         ensures kept { OnErr result (self.new ≡ self.old) }
     {
