@@ -22,7 +22,8 @@ use Rattle.dw_unit.proofs.TableLaws.{info_kept, unwritten_keeps, to_write-unwrit
 use Rattle.dw_dwarf.specs.Valid.{AreUnwritten, IsValid, IsValidAt, SomeReferenceFails, DwarfFails, DwarfRefused, found_from, found_in, empty_ends, extra_fails, settled_units}
 use Rattle.dw_dwarf.specs.Written.{AreNewPlain, AreNew}
 use Rattle.dw_dwarf.specs.DwarfValue.{DwarfValue}
-use Rattle.dw_dwarf.proofs.Held.{WritesWhole, ends_are}
+use Rattle.dw_unit.proofs.FileCompleted.{Completes}
+use Rattle.dw_dwarf.proofs.Held.{ends_are}
 
 -- plain sections are some of any kind
 pub AreNew-from_plain : {W : Type 0} (meaning : W → Meaning) (s : Sections W) → AreNewPlain meaning s → AreNew meaning s
@@ -44,7 +45,7 @@ AreNew-from_plain meaning s empty = record {
 
 -- what was written was valid
 pub whole_valid : {W : Type 0} (meaning : W → Meaning) (old new : Sections W) (d : DwarfValue) → AreWritable (meaning old.debug_info.0).is_plain (found_in meaning old d) (meaning old.debug_abbrev.0).size d.units →
-    WritesWhole meaning old new (settled_units (ends_of meaning old) d) → NoCause (extra_fails (meaning old.debug_line.0).is_plain d) →
+    Completes meaning old new (settled_units (ends_of meaning old) d) → NoCause (extra_fails (meaning old.debug_line.0).is_plain d) →
     IsValidAt (meaning old.debug_info.0).is_plain (starts_of meaning old) (ends_of meaning old) d
 whole_valid meaning old new d units whole extra = record {
   units = units;

@@ -18,7 +18,8 @@ use Rattle.dw_dwarf.specs.Left.{units_of, IsLeft}
 use Rattle.dw_dwarf.specs.Valid.{AreUnwritten, settled_units}
 use Rattle.dw_dwarf.specs.Written.{dwarf_ranges, AddsLines, AddsStrings}
 use Rattle.dw_dwarf.proofs.TextsAlone.{behind_nothing, filled_alone}
-use Rattle.dw_dwarf.proofs.Held.{WritesWhole, added_lines, lines_as, units_from_begin, ranges_resolved, range_lists_resolved}
+use Rattle.dw_unit.proofs.FileCompleted.{Completes}
+use Rattle.dw_dwarf.proofs.Held.{added_lines, lines_as, units_from_begin, ranges_resolved, range_lists_resolved}
 
 some_is : {A : Type 0} (x y : A) → Some x ≡ Some y → x ≡ y
 some_is x y h = cc
@@ -41,9 +42,9 @@ module _ {W : Type 0} (meaning : W → Meaning) (big : Bool) (old new : Sections
   from_begin : settled_units (ends_of meaning old) d ≡ units_of d
   from_begin = units_from_begin (ends_of meaning old) d (empty.writers.debug_line.size, empty.writers.debug_ranges.size, empty.writers.debug_rnglists.size, empty.writers.debug_loc.size, empty.writers.debug_loclists.size)
 
-  whole_left : (us : List Numbered) → (whole : WritesWhole meaning old new us) → AreUnwritten d → AddsLines meaning old new d → AppendsAllRanges meaning old new d.units → AddsStrings meaning old new d.line_strings d.strings → us ≡ units_of d → IsLeft meaning big new d
+  whole_left : (us : List Numbered) → (whole : Completes meaning old new us) → AreUnwritten d → AddsLines meaning old new d → AppendsAllRanges meaning old new d.units → AddsStrings meaning old new d.line_strings d.strings → us ≡ units_of d → IsLeft meaning big new d
   whole_left us whole unwritten lines ranges strings same =
-      let w = subst (WritesWhole meaning old new) same whole in
+      let w = subst (Completes meaning old new) same whole in
       let ns = units_of d in
       let m = meaning old.debug_info.0 in
       let e = empty.writers in
@@ -76,10 +77,10 @@ module _ {W : Type 0} (meaning : W → Meaning) (big : Bool) (old new : Sections
         location_lists_tidy = w.adds.lists.location_lists.tidy (empty_tidy big (meaning old.debug_loclists.0) e.debug_loclists);
       }
     where
-      row : (w : WritesWhole meaning old new (units_of d)) → AreInRow at_begin (units_of d) w.kept
+      row : (w : Completes meaning old new (units_of d)) → AreInRow at_begin (units_of d) w.kept
       row w =
           subst (λ n. AreInRow (record { info = n; abbrevs = 0 }) (units_of d) w.kept) empty.writers.debug_info.size
           (subst (λ n. AreInRow (record { info = (meaning old.debug_info.0).size; abbrevs = n }) (units_of d) w.kept) empty.writers.debug_abbrev.size w.adds.units.in_row)
 
-  pub dwarf_left : WritesWhole meaning old new (settled_units (ends_of meaning old) d) → AreUnwritten d → AddsLines meaning old new d → AppendsAllRanges meaning old new d.units → AddsStrings meaning old new d.line_strings d.strings → IsLeft meaning big new d
+  pub dwarf_left : Completes meaning old new (settled_units (ends_of meaning old) d) → AreUnwritten d → AddsLines meaning old new d → AppendsAllRanges meaning old new d.units → AddsStrings meaning old new d.line_strings d.strings → IsLeft meaning big new d
   dwarf_left whole unwritten lines ranges strings = whole_left _ whole unwritten lines ranges strings from_begin

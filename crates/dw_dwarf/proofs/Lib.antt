@@ -4,6 +4,7 @@ pub mod ListsFound
 pub mod LocationsThere
 pub mod LocationsFound
 pub mod Held
+pub mod FileHeld
 pub mod Complete
 pub mod OneUnit
 pub mod RestSections

@@ -12,14 +12,11 @@ use Rattle.dw_lists.proofs.Numbered.{table_numbered}
 use Rattle.dw_lists.proofs.SameSize.{ranges-wide}
 use Rattle.dw_line.specs.Parts.{texts}
 use Rattle.dw_tree.specs.Built.{at_zero}
-use Rattle.dw_tree.specs.Elsewhere.{Elsewhere, AreFound, AreAllFound, has_base_address, ranges_at, range_draft, range_size, range_text, range_places_at, past_parts, past_elsewhere}
+use Rattle.dw_tree.specs.Elsewhere.{Elsewhere, AreFound, has_base_address, ranges_at, range_draft, range_size, range_text, range_places_at, past_parts}
 use Rattle.dw_tree.specs.Locations.{is_own_section}
 use Rattle.dw_tree.specs.UnitValue.{UnitValue}
-use Rattle.dw_tree.specs.Valid.{AreWritable}
-use Rattle.dw_tree.specs.Written.{past_table}
+use Rattle.dw_unit.specs.WrittenUnits.{AreListsSound}
 use Rattle.dw_dwarf.specs.Lists.{InOrder, FindsLists, FindAllLists}
-use Rattle.dw_dwarf.specs.Valid.{IsUnwritten}
-use Rattle.dw_dwarf.proofs.RangesThere.{ranges_sound}
 
 pub some_is : {A : Type 0} (x y : A) → Some x ≡ Some y → x ≡ y
 some_is x y h = cc
@@ -70,33 +67,31 @@ module _ (old new : InOrder) (found : Elsewhere) (u : UnitValue) (again : AreFou
       (again left_open section.is_big at_zero before xs rest told i x get (inr (all_at AreNumbered (ranges_in u.ranges) i x get numbered)))))
 
 -- all units' lists behind so many bytes of both sections
-pub all_found : (old new : InOrder) (found : Elsewhere) (plain : Bool) (at : ℕ) (before more behind others : List ℕ) (us : List UnitValue) →
-    found.ends.ranges.is_plain ≡ true → found.ends.range_lists.is_plain ≡ true → All IsUnwritten us → AreAllFound us → AreWritable plain found at us →
+pub all_found : (old new : InOrder) (found : Elsewhere) (before more behind others : List ℕ) (us : List UnitValue) → All AreFound us → All AreListsSound us →
     old.bytes ≡ before ++ more → length before ≡ found.ends.ranges.size → texts (range_text false) us old.is_big at_zero ≡ Some more →
     new.bytes ≡ behind ++ others → length behind ≡ found.ends.range_lists.size → texts (range_text true) us new.is_big at_zero ≡ Some others → FindAllLists old new found us
-all_found old new found plain at before more behind others [] p q unwritten again can old_is old_at old_told new_is new_at new_told = tt
-all_found old new found plain at before more behind others (u ∷ us) p q unwritten again can old_is old_at old_told new_is new_at new_told =
-    let unmarked = All-head IsUnwritten u us unwritten in
+all_found old new found before more behind others [] again sounds old_is old_at old_told new_is new_at new_told = tt
+all_found old new found before more behind others (u ∷ us) again sounds old_is old_at old_told new_is new_at new_told =
     let o = told_apart (range_text false u old.is_big at_zero) (texts (range_text false) us old.is_big at_zero) more old_told in
     let n = told_apart (range_text true u new.is_big at_zero) (texts (range_text true) us new.is_big at_zero) others new_told in
     let old_here : old.bytes ≡ before ++ (o.first ++ o.rest) = old_is ∙ ap (λ xs. before ++ xs) o.both in
     let new_here : new.bytes ≡ behind ++ (n.first ++ n.rest) = new_is ∙ ap (λ xs. behind ++ xs) n.both in
-    let sound = ranges_sound found plain p q at u us unmarked can.0 in
-    let numbered = table_numbered u.encoding None false (has_base_address u.entries) true (ranges_in u.ranges) sound refl in
-    let past : past_elsewhere found u ≡ past_parts found u = ap (λ (b : Bool). if b then found else past_parts found u) unmarked in (
+    let numbered = table_numbered u.encoding None false (has_base_address u.entries) true (ranges_in u.ranges) (All-head AreListsSound u us sounds).ranges refl in (
       by_version o n old_here new_here numbered (is_five u.encoding) refl,
-      all_found old new (past_parts found u) plain (past_table at u) (before ++ o.first) o.rest (behind ++ n.first) n.rest us p q (All-tail IsUnwritten u us unwritten)
-          (All-tail (λ v. v.is_written ≡ false → AreFound v) u us again) (subst (λ s. AreWritable plain s (past_table at u) us) past can.1)
+      all_found old new (past_parts found u) (before ++ o.first) o.rest (behind ++ n.first) n.rest us (All-tail AreFound u us again) (All-tail AreListsSound u us sounds)
           (old_here ∙ sym (append_assoc before o.first o.rest)) (omega (arith, length-append before o.first, old_at, part_size u old.is_big at_zero false o.first o.first_is)) o.rest_is
           (new_here ∙ sym (append_assoc behind n.first n.rest)) (omega (arith, length-append behind n.first, new_at, part_size u new.is_big at_zero true n.first n.first_is)) n.rest_is,
     )
   where
+    here : AreFound u
+    here = All-head AreFound u us again
+
     by_version : (o : AreTold (range_text false u old.is_big at_zero) (texts (range_text false) us old.is_big at_zero) more) →
         (n : AreTold (range_text true u new.is_big at_zero) (texts (range_text true) us new.is_big at_zero) others) →
         old.bytes ≡ before ++ (o.first ++ o.rest) → new.bytes ≡ behind ++ (n.first ++ n.rest) → All AreNumbered (ranges_in u.ranges) → (five : Bool) → is_five u.encoding ≡ five → FindsLists old new found u
     by_version o n old_here new_here numbered true is =
-        one_found old new found u (All-head (λ v. v.is_written ≡ false → AreFound v) u us again (All-head IsUnwritten u us unwritten)) numbered behind n.first n.rest new true is (ap (λ b. if b then new else old) is) new_here
+        one_found old new found u here numbered behind n.first n.rest new true is (ap (λ b. if b then new else old) is) new_here
         (new_at ∙ sym (ap (λ b. if b then found.ends.range_lists.size else found.ends.ranges.size) is)) (whole_text u new.is_big at_zero true is n.first n.first_is)
     by_version o n old_here new_here numbered false is =
-        one_found old new found u (All-head (λ v. v.is_written ≡ false → AreFound v) u us again (All-head IsUnwritten u us unwritten)) numbered before o.first o.rest old false is (ap (λ b. if b then new else old) is) old_here
+        one_found old new found u here numbered before o.first o.rest old false is (ap (λ b. if b then new else old) is) old_here
         (old_at ∙ sym (ap (λ b. if b then found.ends.range_lists.size else found.ends.ranges.size) is)) (whole_text u old.is_big at_zero false is o.first o.first_is)

@@ -1,5 +1,5 @@
 -- Location lists are found in the finished sections.
-use Rattle.std.specs.Prelude.{◌≡◌, ℕ, suc, Bool, true, false, not, List, [], ◌∷◌, ◌++◌, All, length, Some, refl, if◌then◌else◌}
+use Rattle.std.specs.Prelude.{◌≡◌, ℕ, Bool, true, false, not, List, [], ◌∷◌, ◌++◌, All, length, map, Some, refl, if◌then◌else◌}
 use Rattle.std.proofs.Common.{sym, ◌∙◌, ap, subst, inr, arith, append_assoc, length-append}
 use Rattle.std.proofs.lemmas.List.Elements.{All-head, All-tail}
 use Rattle.dw_writer.specs.Drafts.{Info, no_draft, IsDraft, then_draft}
@@ -8,18 +8,14 @@ use Rattle.dw_writer.specs.Texts.{Text}
 use Rattle.dw_lists.specs.Items.{is_five}
 use Rattle.dw_lists.specs.Tables.{IsFound, AreNumbered, offsets_from, locations_in}
 use Rattle.dw_lists.proofs.Numbered.{table_numbered}
-use Rattle.dw_tree.specs.Built.{Numbered, at_zero, settled_at, numbered_from}
-use Rattle.dw_tree.specs.Elsewhere.{Elsewhere, has_base_address, locations_at, location_size, past_parts, past_elsewhere}
-use Rattle.dw_tree.specs.Locations.{is_own_section, entry_places, location_draft, location_part, AreLocated}
-use Rattle.dw_tree.specs.Pending.{locations_draft}
+use Rattle.dw_tree.specs.Built.{at_zero}
+use Rattle.dw_tree.specs.Elsewhere.{Elsewhere, has_base_address, locations_at, location_size, past_parts}
+use Rattle.dw_tree.specs.Locations.{is_own_section, entry_places, location_draft, location_part, location_drafts, AreLocated}
 use Rattle.dw_tree.specs.UnitValue.{UnitValue}
-use Rattle.dw_tree.specs.Valid.{AreWritable}
 use Rattle.dw_tree.specs.Whole.{settled}
-use Rattle.dw_tree.specs.Written.{past_table}
+use Rattle.dw_unit.specs.WrittenUnits.{AreListsSound}
 use Rattle.dw_dwarf.specs.Lists.{InOrder, FindsLocations, FindAllLocations}
-use Rattle.dw_dwarf.specs.Valid.{IsUnwritten}
 use Rattle.dw_dwarf.proofs.ListsFound.{all_at, AreTold, told_apart, some_is}
-use Rattle.dw_dwarf.proofs.LocationsThere.{locations_sound}
 
 -- the bytes of a unit's lists in one of the sections are as many as they come to
 module _ (u : UnitValue) (is : IsDraft (location_draft (settled u))) (info : Info) (big : Bool) (l : Layout) where
@@ -46,26 +42,21 @@ module _ (old new : InOrder) (info : Info) (found : Elsewhere) (u : UnitValue) (
       (located.again info section.is_big at_zero before xs rest told i x get (inr (all_at AreNumbered (locations_in u.locations) i x get numbered)))))
 
 -- all units' lists behind so many bytes of both sections
-pub all_located : (old new : InOrder) (info : Info) (n : ℕ) (found : Elsewhere) (plain : Bool) (at : ℕ) (before more behind others : List ℕ) (us : List UnitValue) →
-    found.ends.locations.is_plain ≡ true → found.ends.location_lists.is_plain ≡ true → All IsUnwritten us → All (λ w. AreLocated w.unit) (numbered_from n found us) → AreWritable plain found at us →
-    old.bytes ≡ before ++ more → length before ≡ found.ends.locations.size → (locations_draft (numbered_from n found us) false).text info old.is_big at_zero ≡ Some more →
-    new.bytes ≡ behind ++ others → length behind ≡ found.ends.location_lists.size → (locations_draft (numbered_from n found us) true).text info new.is_big at_zero ≡ Some others → FindAllLocations old new info found us
+pub all_located : (old new : InOrder) (info : Info) (found : Elsewhere) (before more behind others : List ℕ) (us : List UnitValue) → All AreLocated (map settled us) → All AreListsSound us →
+    old.bytes ≡ before ++ more → length before ≡ found.ends.locations.size → (location_drafts false (map settled us)).text info old.is_big at_zero ≡ Some more →
+    new.bytes ≡ behind ++ others → length behind ≡ found.ends.location_lists.size → (location_drafts true (map settled us)).text info new.is_big at_zero ≡ Some others → FindAllLocations old new info found us
 unfolding then_draft
-all_located old new info n found plain at before more behind others [] p q unwritten located can old_is old_at old_told new_is new_at new_told = tt
-all_located old new info n found plain at before more behind others (u ∷ us) p q unwritten located can old_is old_at old_told new_is new_at new_told =
-    let unmarked = All-head IsUnwritten u us unwritten in
-    let own = All-head (λ (w : Numbered). AreLocated w.unit) (settled_at n found u) (numbered_from (suc n) (past_parts found u) us) located in
-    let rest = locations_draft (numbered_from (suc n) (past_parts found u) us) in
+all_located old new info found before more behind others [] located sounds old_is old_at old_told new_is new_at new_told = tt
+all_located old new info found before more behind others (u ∷ us) located sounds old_is old_at old_told new_is new_at new_told =
+    let own = All-head AreLocated (settled u) (map settled us) located in
+    let rest = λ (five : Bool). location_drafts five (map settled us) in
     let o = told_apart ((location_part false (settled u)).text info old.is_big at_zero) ((rest false).text info old.is_big at_zero) more old_told in
     let w = told_apart ((location_part true (settled u)).text info new.is_big at_zero) ((rest true).text info new.is_big at_zero) others new_told in
     let old_here : old.bytes ≡ before ++ (o.first ++ o.rest) = old_is ∙ ap (λ xs. before ++ xs) o.both in
     let new_here : new.bytes ≡ behind ++ (w.first ++ w.rest) = new_is ∙ ap (λ xs. behind ++ xs) w.both in
-    let sound = locations_sound found plain p q at u unmarked can.0 in
-    let numbered = table_numbered u.encoding (Some (entry_places (settled u))) true (has_base_address u.entries) true (locations_in u.locations) sound refl in
-    let past : past_elsewhere found u ≡ past_parts found u = ap (λ (b : Bool). if b then found else past_parts found u) unmarked in (
+    let numbered = table_numbered u.encoding (Some (entry_places (settled u))) true (has_base_address u.entries) true (locations_in u.locations) (All-head AreListsSound u us sounds).locations refl in (
       by_version own o w old_here new_here numbered (is_five u.encoding) refl,
-      all_located old new info (suc n) (past_parts found u) plain (past_table at u) (before ++ o.first) o.rest (behind ++ w.first) w.rest us p q (All-tail IsUnwritten u us unwritten)
-          (All-tail (λ (w : Numbered). AreLocated w.unit) (settled_at n found u) (numbered_from (suc n) (past_parts found u) us) located) (subst (λ s. AreWritable plain s (past_table at u) us) past can.1)
+      all_located old new info (past_parts found u) (before ++ o.first) o.rest (behind ++ w.first) w.rest us (All-tail AreLocated (settled u) (map settled us) located) (All-tail AreListsSound u us sounds)
           (old_here ∙ sym (append_assoc before o.first o.rest)) (omega (arith, length-append before o.first, old_at, part_size u own.draft info old.is_big at_zero false o.first o.first_is)) o.rest_is
           (new_here ∙ sym (append_assoc behind w.first w.rest)) (omega (arith, length-append behind w.first, new_at, part_size u own.draft info new.is_big at_zero true w.first w.first_is)) w.rest_is,
     )

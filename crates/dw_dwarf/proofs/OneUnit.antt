@@ -24,11 +24,11 @@ use Rattle.dw_unit.proofs.ValidLaws.{unit_unfailing}
 use Rattle.dw_dwarf.specs.DwarfValue.{dwarf_of}
 use Rattle.dw_dwarf.specs.Valid.{programs_fail, settled_units}
 use Rattle.dw_dwarf.specs.Written.{AddsPrograms, AddsLines}
-use Rattle.dw_dwarf.proofs.Held.{WritesWhole}
+use Rattle.dw_unit.proofs.FileCompleted.{Completes}
 
 -- a unit that was added alone is a whole Dwarf
 pub alone_whole : {W : Type 0} (meaning : W → Meaning) (old new : Sections W) (line_strings strings : List (List ℕ)) (u : UnitValue) (offsets : Option OffsetsValue) → AppendsAlone meaning old new (settled u) (unit_tables (elsewhere meaning old line_strings strings) u) offsets →
-    WritesWhole meaning old new (settled_units (ends_of meaning old) (dwarf_of line_strings strings u))
+    Completes meaning old new (settled_units (ends_of meaning old) (dwarf_of line_strings strings u))
 alone_whole meaning old new line_strings strings u offsets p =
     let us = only_unit (unit_tables (elsewhere meaning old line_strings strings) u) (settled u) in
     let ks = p.kept ∷ [] in

@@ -2,6 +2,7 @@ pub mod DwarfValue
 pub mod Valid
 pub mod Lists
 pub mod Written
+pub mod WrittenFile
 pub mod LineNames
 pub mod Left
 pub mod Placed

@@ -1,5 +1,5 @@
 -- What sections hold once a Dwarf was written into them.
-use Rattle.std.specs.Prelude.{◌≡◌, ◌⊎◌, ℕ, ◌+◌, Bool, true, List, [], ◌∷◌, Some, false}
+use Rattle.std.specs.Prelude.{◌≡◌, ◌⊎◌, ℕ, ◌+◌, Bool, true, List, [], ◌∷◌, Some, false, take, length}
 use Rattle.dw_base.specs.declared.section_id.SectionId.TheVariants.{DebugAbbrev, DebugInfo}
 use Rattle.dw_writer.specs.Causes.{HasRisen}
 use Rattle.dw_writer.specs.Contents.{Meaning}
@@ -13,9 +13,11 @@ use Rattle.dw_writer.specs.Sections.{EachWriter, NoFixups}
 use Rattle.dw_writer.specs.declared.sections.Sections.{Sections}
 use Rattle.dw_line.specs.LinePrograms.{LineProgramValue, line_program_size, line_program_text}
 use Rattle.dw_line.specs.Parts.{sizes, texts}
-use Rattle.dw_tree.specs.Built.{Built, at_begin, at_zero, whole_file}
+use Rattle.dw_tree.specs.Built.{Numbered, Built, at_begin, at_zero}
 use Rattle.dw_tree.specs.Pending.{Kept, AreInRow, info_of, locations_draft}
-use Rattle.dw_tree.specs.Elsewhere.{line_size, line_text, range_text, new_size, new_text, AppendsBehind}
+use Rattle.dw_tree.specs.Elsewhere.{Elsewhere, line_size, line_text, range_text, new_size, new_text, AppendsBehind}
+use Rattle.dw_tree.specs.UnitValue.{UnitValue}
+use Rattle.dw_unit.specs.WrittenUnits.{AreKeptRead}
 use Rattle.dw_strings.specs.Strings.{string_bytes}
 use Rattle.dw_dwarf.specs.Valid.{found_from, empty_ends, settled_units}
 use Rattle.dw_dwarf.specs.DwarfValue.{DwarfValue}
@@ -88,31 +90,36 @@ orders_of meaning s = record {
 abbrev pub one_order : Bool → Orders
 one_order big = record { info = big; lines = big; ranges = big; range_lists = big; locations = big; location_lists = big }
 
--- The location lists of a Dwarf in both sections, to their last byte. Each reference from them to an entry by its place in
--- .debug_info has the place where the entry stands there, and each list is found where attributes of its unit lead to, and read
--- there as it was built.
-pub record HoldLocations (o : Orders) (d : DwarfValue) (t : SectionTexts) : Type 0 where
+-- Location lists of units in both sections, to their last byte. Each reference from them to an entry by its place in .debug_info
+-- has the place where the entry stands there, and each list is found where attributes of its unit lead to, and read there as it
+-- was built. The units are told as they stand, and as they were handed in.
+pub record HoldListsOf (o : Orders) (us : List Numbered) (vs : List UnitValue) (at : Elsewhere) (t : SectionTexts) : Type 0 where
   pub kept : List Kept
-  pub in_row : AreInRow at_begin (settled_units (empty_ends true) d) kept
-  pub locations : filled_text (info_of (settled_units (empty_ends true) d) kept) (locations_draft (settled_units (empty_ends true) d) false) o.locations at_zero ≡ Some t.debug_loc
-  pub location_lists : filled_text (info_of (settled_units (empty_ends true) d) kept) (locations_draft (settled_units (empty_ends true) d) true) o.location_lists at_zero ≡ Some t.debug_loclists
-  pub found : FindAllLocations (record { is_big = o.locations; bytes = t.debug_loc }) (record { is_big = o.location_lists; bytes = t.debug_loclists })
-      (started (start_of at_zero DebugInfo) (info_of (settled_units (empty_ends true) d) kept)) (found_from (empty_ends true) d) d.units
+  pub in_row : AreInRow at_begin us kept
+  pub locations : filled_text (info_of us kept) (locations_draft us false) o.locations at_zero ≡ Some t.debug_loc
+  pub location_lists : filled_text (info_of us kept) (locations_draft us true) o.location_lists at_zero ≡ Some t.debug_loclists
+  pub found : FindAllLocations (record { is_big = o.locations; bytes = t.debug_loc }) (record { is_big = o.location_lists; bytes = t.debug_loclists }) (started (start_of at_zero DebugInfo) (info_of us kept)) at vs
 
--- These are the texts of a Dwarf: .debug_info and .debug_abbrev are read, to their last byte, as exactly its units, each of which
--- names the places of its line program and of its lists, its line programs, its range lists, its location lists and its strings
--- stand in their sections, and there is nothing else. Where an attribute of a unit leads to, the list is found that was built.
-pub record AreTextsOf (o : Orders) (d : DwarfValue) (t : SectionTexts) : Type 0 where
-  pub units : Built (whole_file (found_from (empty_ends true) d) d.units ∷ []) o.info t.debug_info t.debug_abbrev
+-- These are the texts of units with the strings and further line programs of a Dwarf: .debug_info and .debug_abbrev are read, to
+-- their last byte, as exactly the units, each of which names the places of its line program and of its lists, these line
+-- programs, their range lists, their location lists and the strings stand in their sections, and there is nothing else. Where an
+-- attribute of a unit leads to, the list is found that was built, and the places of entries in it are those where they are read.
+pub record AreTextsFor (o : Orders) (us : List Numbered) (vs : List UnitValue) (programs : Model) (d : DwarfValue) (t : SectionTexts) : Type 0 where
+  pub units : Built (record { units = us; layout = at_zero } ∷ []) o.info t.debug_info t.debug_abbrev
   pub strings : t.debug_str ≡ string_bytes d.strings
   pub line_strings : t.debug_line_str ≡ string_bytes d.line_strings
-  pub lines : dwarf_lines d o.lines at_zero ≡ Some t.debug_line
-  pub ranges : dwarf_ranges false d o.ranges at_zero ≡ Some t.debug_ranges
-  pub range_lists : dwarf_ranges true d o.range_lists at_zero ≡ Some t.debug_rnglists
-  pub lists : FindAllLists (record { is_big = o.ranges; bytes = t.debug_ranges }) (record { is_big = o.range_lists; bytes = t.debug_rnglists }) (found_from (empty_ends true) d) d.units
-  pub locations : HoldLocations o d t
+  pub lines : programs o.lines at_zero ≡ Some t.debug_line
+  pub ranges : texts (range_text false) vs o.ranges at_zero ≡ Some t.debug_ranges
+  pub range_lists : texts (range_text true) vs o.range_lists at_zero ≡ Some t.debug_rnglists
+  pub lists : FindAllLists (record { is_big = o.ranges; bytes = t.debug_ranges }) (record { is_big = o.range_lists; bytes = t.debug_rnglists }) (found_from (empty_ends true) d) vs
+  pub locations : HoldListsOf o us vs (found_from (empty_ends true) d) t
+  pub places : AreKeptRead 0 us locations.kept (take (length us) units.read)
   pub frames : t.debug_frame ≡ []
   pub eh_frames : t.eh_frame ≡ []
+
+-- of a Dwarf, whose units are written one after another
+abbrev pub AreTextsOf : Orders → DwarfValue → SectionTexts → Type 0
+AreTextsOf o d t = AreTextsFor o (settled_units (empty_ends true) d) d.units (dwarf_lines d) d t
 
 -- the writers tell these bytes
 pub record TellTexts {W : Type 0} (meaning : W → Meaning) (s : Sections W) (t : SectionTexts) : Type 0 where

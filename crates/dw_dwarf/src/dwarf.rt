@@ -21,6 +21,7 @@ ghost use Rattle.dw_dwarf.specs.Left.{IsLeft};
 ghost use Rattle.dw_dwarf.specs.LineNames.{IsThere, bytes_of};
 ghost use Rattle.dw_dwarf.specs.UnitSections.{BeginsUnits};
 ghost use Rattle.dw_dwarf.specs.Valid.{AreUnwritten, IsValid, IsValidAt, DwarfRefused, extra_fails, found_in};
+ghost use Rattle.dw_dwarf.specs.WrittenFile.{HoldsWhole};
 ghost use Rattle.dw_dwarf.specs.Written.{AreNewPlain, AreNew, HoldsDwarf, ResolvesTo, AddsLines, AddsStrings, KeepsOthers};
 
 use crate::convert::{ConvertUnitSection, FoundUnits, convert_units};
@@ -116,6 +117,10 @@ impl Dwarf {
         ensures left { OnOk result
             ((big : Bool) → IsNew W.meaning big sections.old → AreUnwritten (dwarf_in self.old) →
             IsLeft W.meaning big sections.new (dwarf_in self.old)) }
+        // Over sections that were new and plain before other units of the file were written there,
+        // which may be given up since: they hold these units, and behind them its own.
+        ensures whole { OnOk result
+            (HoldsWhole W.meaning sections.old sections.new (dwarf_in self.old)) }
         // Over sections of any kind, behind whatever units are pending there: units that weren't
         // written before are added, and every reference that is open is filled in.
         ensures completes { OnOk result

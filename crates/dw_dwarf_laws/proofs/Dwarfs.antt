@@ -1,6 +1,6 @@
 -- A Dwarf whose symbols have values is written as one without symbols, and where that is valid behind what sections hold, all texts
 -- are there.
-use Rattle.std.specs.Prelude.{◌≡◌, ℕ, suc, ◌+◌, Bool, true, false, List, [], ◌∷◌, map, length, refl, IsTrue, IsFalse}
+use Rattle.std.specs.Prelude.{◌≡◌, ℕ, suc, ◌+◌, Bool, true, false, List, [], ◌∷◌, All, map, length, refl, IsTrue, IsFalse}
 use Rattle.std.specs.List.{list_all}
 use Rattle.std.proofs.Common.{sym, ◌∙◌, ap, ap₂, subst, arith}
 use Rattle.std.proofs.lemmas.Bool.{and_parts, or_parts}
@@ -27,8 +27,10 @@ use Rattle.dw_dwarf.specs.DwarfValue.{DwarfValue}
 use Rattle.dw_dwarf.specs.Left.{units_of}
 use Rattle.dw_dwarf.specs.Valid.{IsUnwritten, AreUnwritten, found_from, empty_ends, settled_units}
 use Rattle.dw_dwarf.specs.Written.{dwarf_lines, dwarf_ranges}
-use Rattle.dw_dwarf.proofs.LocationsThere.{placed_is, locations_all_there}
-use Rattle.dw_dwarf.proofs.RangesThere.{ranges_all_there}
+use Rattle.dw_dwarf.proofs.LocationsThere.{placed_is, locations_all_there, numbered_units}
+use Rattle.dw_dwarf.proofs.RangesThere.{all_sound, ranges_all_there}
+use Rattle.dw_unit.specs.WrittenUnits.{AreListsSound}
+use Rattle.dw_expr.proofs.ExpressionsThere.{ArePlaced}
 use Rattle.dw_dwarf_laws.specs.Dwarfs.{numbered_dwarf}
 use Rattle.dw_dwarf_laws.specs.Joined.{IsValidBehind, starts_in, ends_in, unit_strings_fit}
 use Rattle.dw_dwarf_laws.specs.LineStrings.{line_program_fits}
@@ -81,11 +83,6 @@ row_numbered symbols at (u ∷ us) (k ∷ ks) h =
     let past : past_kept at u k ≡ past_kept at (numbered_one symbols u) k =
     ap₂ with (unit_same l u.unit.encoding u.unit.entries u.tables k).size (ap length (sym (tree_table_same symbols u.unit.encoding u.unit.entries))) in
     (h.0, placement_kept symbols u.unit.encoding u.unit.entries k.places h.1, subst (λ s. IsPlacedRow s (map (numbered_one symbols) us) ks) past (row_numbered symbols (past_kept at u k) us ks h.2))
-
--- settled units are the same, wherever their parts stand
-settled_anywhere : (n : ℕ) (s t : Elsewhere) (us : List UnitValue) → map (λ (u : Numbered). u.unit) (numbered_from n s us) ≡ map (λ (u : Numbered). u.unit) (numbered_from n t us)
-settled_anywhere n s t [] = refl
-settled_anywhere n s t (u ∷ us) = ap (λ ws. settled u ∷ ws) (settled_anywhere (suc n) (past_parts s u) (past_parts t u) us)
 
 -- the texts of units with their parts of other sections are there in a layout
 pub record AllThere (d : DwarfValue) (kept : List Kept) (big : Bool) (l : Layout) : Type 0 where
@@ -160,6 +157,9 @@ module _ (starts : SectionId → ℕ) (d : DwarfValue) (valid : IsValidBehind st
   names : IsTrue named × IsTrue (list_all (line_program_fits starts d.strings d.line_strings) d.line_programs)
   names = and_parts named (list_all (line_program_fits starts d.strings d.line_strings) d.line_programs) valid.strings
 
+  sounds : All AreListsSound d.units
+  sounds = all_sound joined true (record { ranges = refl; range_lists = refl; locations = refl; location_lists = refl }) (starts DebugAbbrev) d.units unwritten valid.valid.units
+
   pub all_there : AllThere d kept big l
   all_there = record {
     info =
@@ -168,10 +168,11 @@ module _ (starts : SectionId → ℕ) (d : DwarfValue) (valid : IsValidBehind st
         followed_there (texts (line_text d.line_strings d.strings) d.units big l) (texts (line_program_text d.strings d.line_strings) d.line_programs big l)
         (lines_there starts d.strings d.line_strings big l at (ends_in starts) refl (starts DebugAbbrev) d.units unwritten valid.valid.units names.0)
         (programs_there starts d.strings d.line_strings big l at d.line_programs valid.valid.extra names.1);
-    ranges = λ five. ranges_all_there five joined true refl refl (starts DebugAbbrev) d.units unwritten valid.valid.units big l;
+    ranges = λ five. ranges_all_there five d.units sounds big l;
     locations = λ five.
-        let there = locations_all_there info big l five 0 joined true refl refl (starts DebugAbbrev) d.units unwritten valid.valid.units (placed_is info (locations_draft behind five).holes (lists_lead five)) in
-        (there.0, ap (λ ws. (location_drafts five ws).text info big l) (settled_anywhere 0 own joined d.units) ∙ there.1);
+        let placed = subst (λ ws. ArePlaced info (location_drafts five ws).holes) (numbered_units 0 joined d.units) (placed_is info (locations_draft behind five).holes (lists_lead five)) in
+        let there = locations_all_there info big l five d.units sounds placed in
+        (there.0, ap (λ ws. (location_drafts five ws).text info big l) (numbered_units 0 own d.units) ∙ there.1);
   }
 
 -- So has one whose symbols have values, where it is valid with these.

@@ -16,14 +16,16 @@ use Rattle.dw_strings.specs.Strings.{string_bytes}
 use Rattle.dw_line.specs.LinePrograms.{line_program_size}
 use Rattle.dw_line.specs.Parts.{sizes}
 use Rattle.dw_tree.specs.Elsewhere.{AppendsAllRanges, ends_of, line_size, range_size, range_text, new_size}
-use Rattle.dw_tree.specs.Pending.{AddsFilled, info_of, units_draft, tables_of, locations_draft}
+use Rattle.dw_tree.specs.Built.{at_begin}
+use Rattle.dw_tree.specs.Pending.{AddsFilled, AreInRow, info_of, units_draft, tables_of, locations_draft}
 use Rattle.dw_tree.specs.UnitValue.{UnitValue}
 use Rattle.dw_tree.specs.Written.{CompletesAny}
 use Rattle.dw_dwarf.specs.DwarfValue.{DwarfValue}
 use Rattle.dw_dwarf.specs.Left.{units_of}
 use Rattle.dw_dwarf.specs.Valid.{IsUnwritten, AreUnwritten, found_in, settled_units}
 use Rattle.dw_dwarf.specs.Written.{AddsLines, AddsStrings, KeepsOthers}
-use Rattle.dw_dwarf.proofs.Held.{WritesWhole, writes_whole, texts_as, lines_as, units_from_begin, row_from_begin}
+use Rattle.dw_unit.proofs.FileCompleted.{Completes}
+use Rattle.dw_dwarf.proofs.Held.{writes_whole, texts_as, lines_as, units_from_begin}
 use Rattle.dw_dwarf.proofs.TextsAlone.{followed_by}
 use Rattle.dw_link.specs.Sets.{parts_of}
 use Rattle.dw_program.specs.SetParts.{Part, Placed, fixed, part_of, IsHeld, HoldsPart, IsSet}
@@ -99,7 +101,7 @@ module _ {W : Type 0} (meaning : W → Meaning) (big : Bool) (old new : Sections
   from_begin =
       units_from_begin (ends_of meaning old) d (sized begun.debug_line, sized begun.debug_ranges, sized begun.debug_rnglists, sized begun.debug_loc, sized begun.debug_loclists)
 
-  module _ (w : WritesWhole meaning old new (units_of d)) (lines : AddsLines meaning old new d) (ranges : AppendsAllRanges meaning old new d.units) (strings : AddsStrings meaning old new d.line_strings d.strings) (others : KeepsOthers old new) where
+  module _ (w : Completes meaning old new (units_of d)) (lines : AddsLines meaning old new d) (ranges : AppendsAllRanges meaning old new d.units) (strings : AddsStrings meaning old new d.line_strings d.strings) (others : KeepsOthers old new) where
     placed : Placed
     placed = record { dwarf = d; kept = w.kept }
 
@@ -130,13 +132,19 @@ module _ {W : Type 0} (meaning : W → Meaning) (big : Bool) (old new : Sections
     whole_parts DebugMacro = tt
     whole_parts DebugAranges = tt
 
+  -- units over empty sections stand in a row from the begin
+  row_from_begin : (w : Completes meaning old new (units_of d)) → (meaning old.debug_info.0).size ≡ 0 → (meaning old.debug_abbrev.0).size ≡ 0 → AreInRow at_begin (units_of d) w.kept
+  row_from_begin w info abbrevs =
+      subst (λ n. AreInRow (record { info = n; abbrevs = 0 }) (units_of d) w.kept) info
+      (subst (λ n. AreInRow (record { info = (meaning old.debug_info.0).size; abbrevs = n }) (units_of d) w.kept) abbrevs w.adds.units.in_row)
+
   pub set_written : NoFixups old → (vs : List UnitValue) → CompletesAny meaning old new d.units vs (found_in meaning old d) → AddsLines meaning old new d → AppendsAllRanges meaning old new d.units → AddsStrings meaning old new d.line_strings d.strings → KeepsOthers old new →
       IsSet big (parts_of meaning new) d
   unfolding placed
   set_written fixups vs completes lines ranges strings others =
-      let w = subst (WritesWhole meaning old new) from_begin (writes_whole meaning old new d vs fixups unwritten completes) in
+      let w = subst (Completes meaning old new) from_begin (writes_whole meaning old new d vs fixups unwritten completes) in
       record {
         kept = w.kept;
-        in_row = row_from_begin meaning old new d w (sized begun.debug_info) (sized begun.debug_abbrev);
+        in_row = row_from_begin w (sized begun.debug_info) (sized begun.debug_abbrev);
         parts = whole_parts w lines ranges strings others;
       }

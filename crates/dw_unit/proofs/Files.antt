@@ -16,7 +16,8 @@ use Rattle.dw_writer.proofs.Steps.{followed_texts-wide}
 use Rattle.dw_tree.specs.Built.{Numbered, File, Starts, AreBuilt, AreFilesBuilt, Built, past_units, at_begin, at_end, at_zero}
 use Rattle.dw_tree.specs.Pending.{Kept, draft_at, units_draft, tables_of, past_kept, info_of, AreInRow, AddsUnits}
 use Rattle.dw_unit.proofs.ReadUnits.{parted, AreReadAs, units-again}
-use Rattle.dw_unit.proofs.UnitsBuilt.{past_is, units_built}
+use Rattle.dw_unit.specs.WrittenUnits.{AreKeptRead}
+use Rattle.dw_unit.proofs.UnitsBuilt.{kept_read, past_is, units_built}
 
 -- A file that was written, with the places that its units keep, and where it stands among the joined ones.
 pub record WrittenFile : Type 0 where
@@ -52,6 +53,11 @@ joined_tables (f ∷ fs) = tables_of f.units ++ joined_tables fs
 
 abbrev pub file_of : WrittenFile → File
 file_of f = record { units = f.units; layout = f.layout }
+
+-- the units of each file are read where they are kept
+abbrev pub AreFilesKept : List WrittenFile → List ReadUnit → Type 0
+AreFilesKept [] rs = Unit {0}
+AreFilesKept (f ∷ fs) rs = AreKeptRead (start_of f.layout DebugInfo) f.units f.kept (take (length f.units) rs) × AreFilesKept fs (drop (length f.units) rs)
 
 abbrev count : List WrittenFile → ℕ
 count [] = 0
@@ -112,12 +118,13 @@ record AreFilesRead (big : Bool) (at end : Starts) (fs : List WrittenFile) (xss 
   reads : List ReadUnit
   reads_are : units_at n big at.info at.abbrevs (joined xss) (joined_tables fs) ≡ Some reads
   built : AreFilesBuilt big at end (map file_of fs) reads
+  kept : AreFilesKept fs reads
 
 files-again : (big : Bool) (at end : Starts) (fs : List WrittenFile) (xss : List (List ℕ)) (n fuel : ℕ) → n ≡ count fs + fuel → AreWritten big at fs xss →
     end.info ≡ at.info + length (joined xss) → end.abbrevs ≡ at.abbrevs + length (joined_tables fs) → AreFilesRead big at end fs xss n
 unfolding units_at
 files-again big at end [] [] n fuel e h here tables_here =
-    record { reads = []; reads_are = refl; built = (refl, starts_are at end (omega (arith, here)) (omega (arith, tables_here))) }
+    record { reads = []; reads_are = refl; built = (refl, starts_are at end (omega (arith, here)) (omega (arith, tables_here))); kept = tt }
 files-again big at end [] (xs ∷ xss) n fuel e h here tables_here = absurd h
 files-again big at end (f ∷ fs) [] n fuel e h here tables_here = absurd h
 files-again big at end (f ∷ fs) (xs ∷ xss) n fuel e h here tables_here =
@@ -144,15 +151,23 @@ files-again big at end (f ∷ fs) (xs ∷ xss) n fuel e h here tables_here =
         subst (λ rs. AreFilesBuilt big (past_units at us rs) end (map file_of fs) (drop (length us) (own.reads ++ more.reads))) first
             (subst (AreFilesBuilt big (past_units at us own.reads) end (map file_of fs)) (sym (drop_first own.reads more.reads (length us) long)) rest),
       );
+      kept = (
+        subst (AreKeptRead (start_of f.layout DebugInfo) us ks) first (kept_read big f.layout info at_begin us ks own.reads w.in_row own.as_kept),
+        subst (AreFilesKept fs) (sym (drop_first own.reads more.reads (length us) long)) more.kept,
+      );
     }
 
--- Files that stand one behind another are read as exactly their units, each reference leading to its entry in its own file.
-pub files_built : (big : Bool) (fs : List WrittenFile) (xss : List (List ℕ)) → AreWritten big at_begin fs xss → Built (map file_of fs) big (joined xss) (joined_tables fs)
+-- Files that stand one behind another are read as exactly their units, each reference leading to its entry in its own file, and
+-- each unit where it is kept.
+pub files_read : (big : Bool) (fs : List WrittenFile) (xss : List (List ℕ)) → AreWritten big at_begin fs xss → (b : Built (map file_of fs) big (joined xss) (joined_tables fs)) × AreFilesKept fs b.read
 unfolding read_info
-files_built big fs xss h =
+files_read big fs xss h =
     let n = length (joined xss) in
     let r = files-again big at_begin (at_end (joined xss) (joined_tables fs)) fs xss n (n - count fs) (omega (arith, count_long big at_begin fs xss h)) h (sym (zero-add n)) (sym (zero-add (length (joined_tables fs)))) in
-    record { read = r.reads; reads = r.reads_are; units_are = r.built }
+    (record { read = r.reads; reads = r.reads_are; units_are = r.built }, r.kept)
+
+pub files_built : (big : Bool) (fs : List WrittenFile) (xss : List (List ℕ)) → AreWritten big at_begin fs xss → Built (map file_of fs) big (joined xss) (joined_tables fs)
+files_built big fs xss h = (files_read big fs xss h).0
 
 -- What one writer holds
 
@@ -188,16 +203,25 @@ file_written big old new tables us ks l xs empty p first h =
       text = parts.rest_is ∙ ap Some (ap (λ ys. ys ++ parts.rest) (sym none) ∙ parts.all);
     }
 
+-- units of one file are read where they are kept
+abbrev pub IsFileRead : File → List Kept → Bool → List ℕ → List ℕ → Type 0
+IsFileRead f ks big info abbrevs = (b : Built (f ∷ []) big info abbrevs) × AreKeptRead (start_of f.layout DebugInfo) f.units ks (take (length f.units) b.read)
+
 -- Over any writer that was empty, units are read as one file from its resolved bytes, in a layout where the two sections
 -- start at 0.
+units_read : (big : Bool) (old new : Meaning) (tables : ℕ) (us : List Numbered) (ks : List Kept) (l : Layout) → IsEmptyWriter old big → tables ≡ 0 → AddsUnits old new tables (info_of us ks) us ks →
+    start_of l DebugInfo ≡ 0 → start_of l DebugAbbrev ≡ 0 → (xs : List ℕ) → resolved l new ≡ Some xs →
+    IsFileRead (record { units = us; layout = l }) ks old.is_big xs (tables_of us)
+units_read big old new tables us ks l empty first p info abbrevs xs h =
+    let f : WrittenFile = record { units = us; kept = ks; layout = l } in
+    let all = files_read old.is_big (f ∷ []) (xs ∷ []) (file_written big old new tables us ks l xs empty p first h, info, abbrevs, tt) in
+    subst (IsFileRead (file_of f) ks old.is_big xs) (append-nil (tables_of us))
+    (subst (λ ys. IsFileRead (file_of f) ks old.is_big ys (tables_of us ++ [])) (append-nil xs) (all.0, all.1.0))
+
 pub units_resolved : (big : Bool) (old new : Meaning) (tables : ℕ) (us : List Numbered) (ks : List Kept) (l : Layout) → IsEmptyWriter old big → tables ≡ 0 → AddsUnits old new tables (info_of us ks) us ks →
     start_of l DebugInfo ≡ 0 → start_of l DebugAbbrev ≡ 0 → (xs : List ℕ) → resolved l new ≡ Some xs →
     Built (record { units = us; layout = l } ∷ []) old.is_big xs (tables_of us)
-units_resolved big old new tables us ks l empty first p info abbrevs xs h =
-    let f : WrittenFile = record { units = us; kept = ks; layout = l } in
-    let built = files_built old.is_big (f ∷ []) (xs ∷ []) (file_written big old new tables us ks l xs empty p first h, info, abbrevs, tt) in
-    subst (λ ys. Built (file_of f ∷ []) old.is_big xs ys) (append-nil (tables_of us))
-    (subst (λ ys. Built (file_of f ∷ []) old.is_big ys (tables_of us ++ [])) (append-nil xs) built)
+units_resolved big old new tables us ks l empty first p info abbrevs xs h = (units_read big old new tables us ks l empty first p info abbrevs xs h).0
 
 -- a plain writer's bytes are its resolved bytes
 pub resolved-plain : (m : Meaning) → m.is_plain ≡ true → m.records ≡ [] → resolved at_zero m ≡ m.bytes
@@ -223,12 +247,12 @@ told_there big old new tables us ks empty none p =
     ∙ p.resolves (empty_tidy big old (plain_empty big old empty)) at_zero
     ∙ ap (λ t. followed t (filled_text (info_of us ks) (units_draft us ks) old.is_big at_zero)) (resolved-plain old empty.plain empty.records ∙ empty.bytes)
 
--- What units leave in an empty plain writer is told, and is read as exactly these units.
+-- What units leave in an empty plain writer is told, and is read as exactly these units, where they are kept.
 pub units_held : (big : Bool) (old new : Meaning) (tables : ℕ) (us : List Numbered) (ks : List Kept) → IsEmptyPlainWriter old big → new.records ≡ [] → tables ≡ 0 → AddsUnits old new tables (info_of us ks) us ks →
-    (xs : List ℕ) × ((new.bytes ≡ Some xs) × Built (record { units = us; layout = at_zero } ∷ []) big xs (tables_of us))
+    (xs : List ℕ) × ((new.bytes ≡ Some xs) × IsFileRead (record { units = us; layout = at_zero }) ks big xs (tables_of us))
 units_held big old new tables us ks empty none first p =
     let there = p.there empty.plain old.is_big in
     let told : new.bytes ≡ Some there.0 = told_there big old new tables us ks empty none p ∙ ap (followed (Some [])) there.1 ∙ followed-somes [] there.0 in
     let resolves = resolved-plain new (p.same.kind ∙ empty.plain) none ∙ told in
-    let built = units_resolved big old new tables us ks at_zero (plain_empty big old empty) first p refl refl there.0 resolves in
-    (there.0, (told, subst (λ b. Built (record { units = us; layout = at_zero } ∷ []) b there.0 (tables_of us)) empty.order built))
+    let all = units_read big old new tables us ks at_zero (plain_empty big old empty) first p refl refl there.0 resolves in
+    (there.0, (told, subst (λ b. IsFileRead (record { units = us; layout = at_zero }) ks b there.0 (tables_of us)) empty.order all))

@@ -47,7 +47,7 @@ behind-then p q = record { text_is = Appends-then p.text_is q.text_is; front = �
 pub behind-as : {a b : Meaning} {m n : ℕ} {t u : Model} → AppendsBehind a b m t → m ≡ n → ((big : Bool) (l : Layout) → t big l ≡ u big l) → AppendsBehind a b n u
 behind-as p e f = record { text_is = Appends-as p.text_is e f; front = p.front }
 
-nothing-followed : (t : Text) → followed (Some []) t ≡ t
+pub nothing-followed : (t : Text) → followed (Some []) t ≡ t
 unfolding followed
 nothing-followed None = refl
 nothing-followed (Some xs) = refl

@@ -18,6 +18,7 @@ use Rattle.dw_tree.specs.Places.{Offsets, found, targets_of, in_info}
 use Rattle.dw_tree.specs.Read.{read_tree}
 use Rattle.dw_tree.specs.Whole.{tree_size, tree_table}
 use Rattle.dw_tree.proofs.ReadMarks.{tree_draft-size}
+use Rattle.dw_unit.specs.WrittenUnits.{AreKeptRead}
 use Rattle.dw_unit.proofs.ReadPlaces.{marks-rows_of, placement-read}
 use Rattle.dw_unit.proofs.ReadUnits.{IsReadAs, AreReadAs}
 
@@ -47,6 +48,15 @@ module _ (big : Bool) (l : Layout) (info : Info) where
       ap (λ p. option_map (λ n. r.from + n) (found p.place i)) (sym (unit_places at u k r s h))
       ∙ ap (λ q. option_map (λ n. q.from + n) (found k.places.place i)) h.is
       ∙ moved_place k.starts.info start (found k.places.place i)
+
+  -- units are read where they are kept
+  pub kept_read : (at : Starts) (us : List Numbered) (ks : List Kept) (rs : List ReadUnit) → AreInRow at us ks → AreReadAs big l info us ks rs → AreKeptRead (start_of l DebugInfo) us ks rs
+  kept_read at [] [] [] row h = tt
+  kept_read at [] [] (r ∷ rs) row h = absurd h
+  kept_read at [] (k ∷ ks) rs row h = absurd row
+  kept_read at (u ∷ us) [] rs row h = absurd row
+  kept_read at (u ∷ us) (k ∷ ks) [] row h = absurd h
+  kept_read at (u ∷ us) (k ∷ ks) (r ∷ rs) row h = (ap (λ q. q.from) h.0.is, unit_places at u k r row.0 h.0, kept_read (past_kept at u k) us ks rs row.1 h.1)
 
   by_number : (b : Bool) (x y : Offsets) (more others : Option Offsets) (start i : ℕ) → in_info x i ≡ option_map (λ n. n + start) (in_info y i) →
       (more >>= λ o. in_info o i) ≡ option_map (λ n. n + start) (others >>= λ o. in_info o i) →

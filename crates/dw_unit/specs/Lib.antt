@@ -3,3 +3,4 @@ pub mod UnitIds
 pub mod Filled
 pub mod Alone
 pub mod TableLends
+pub mod WrittenUnits

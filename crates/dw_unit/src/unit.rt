@@ -281,6 +281,7 @@ impl Unit {
     ghost use Rattle.std.specs.Prelude.{◌⊎◌, ◌≤◌, [], IsFalse};
     ghost use Rattle.dw_writer.specs.Sections.{SomeHasRisen, fault_sum};
     ghost use Rattle.dw_unit.specs.Alone.{has_info_reference, AppendsAlone, AloneRefused};
+    ghost use Rattle.dw_unit.specs.WrittenUnits.{ExtendsFile};
     ghost use Rattle.dw_tree.specs.Whole.{lines_in_use, settled, marked_written};
     ghost use Rattle.dw_tree.specs.Valid.{IsWritableAt};
     ghost use Rattle.dw_tree.specs.Pending.{PendsUnit, ExtendsPending};
@@ -336,6 +337,11 @@ impl Unit {
         ensures pending { OnOk result
             (ExtendsPending W.meaning sections.old sections.new (settled self.old)
             (unit_tables (elsewhere W.meaning sections.old line_strings.now strings.now) self.old)
+            self.new.offsets) }
+        // The same of all that it leaves in the sections of its file: whatever units were written
+        // there, it stands behind them.
+        ensures file { OnOk result
+            (ExtendsFile W.meaning sections.old sections.new line_strings.now strings.now self.old
             self.new.offsets) }
         // Its line program, where it is in use, stands behind what `.debug_line` held, and its
         // range lists behind what the section of its version held.

@@ -44,6 +44,7 @@ impl Model for UnitTable {
 impl UnitTable {
     ghost use Rattle.dw_unit.specs.UnitIds.{with_ids};
     ghost use Rattle.dw_unit.specs.TableLends.{LendsUnit};
+    ghost use Rattle.dw_unit.specs.WrittenUnits.{HoldsAllUnits};
 
     /// No units.
     pub fn new(alloc: Global) -> UnitTable
@@ -126,6 +127,12 @@ impl UnitTable {
         ensures completes { OnOk result
             (CompletesAny W.meaning sections.old sections.new self.old self.new
             (elsewhere W.meaning sections.old line_strings.now strings.now)) }
+        // Over sections that were empty and plain before other units of the file were written
+        // there, which may be given up since: they are read as these units, and behind them its
+        // own.
+        ensures built { OnOk result
+            (HoldsAllUnits W.meaning sections.old sections.new line_strings.now strings.now
+            self.old) }
         ensures writable { OnOk result
             (AreWritable (W.meaning sections.old.debug_info.0).is_plain
             (elsewhere W.meaning sections.old line_strings.now strings.now)

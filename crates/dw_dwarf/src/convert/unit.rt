@@ -42,7 +42,8 @@ pub(crate) fn convert_unit<'r, R: Reader, C: ConvertDebugInfoRef, F: Fn(u64) -> 
         (F.post convert_address.now) (C.entries refs.now) (C.infos refs.now) read.entry
         unit.old (tables strings.old line_strings.old)
         unit.new (tables strings.new line_strings.new) files.new.items) }
-    ensures err { IfErr result (λ e. (e ≡ NoMemory) ⊎ RefusesUnit skeleton.entry (keep_of kept.now) R.reading
+    ensures err { IfErr result (λ e. (e ≡ NoMemory)
+        ⊎ RefusesUnit skeleton.entry (keep_of kept.now) R.reading
         (F.post convert_address.now) (C.entries refs.now) (C.infos refs.now) read.entry
         unit.old (tables strings.old line_strings.old) e) }
 {

@@ -12,6 +12,7 @@ use Rattle.dw_unit.proofs.TableSteps.{stopped_after}
 use Rattle.dw_dwarf.specs.DwarfValue.{dwarf_in}
 use Rattle.dw_dwarf.specs.Valid.{DwarfFails, extra_fails, found_in}
 use Rattle.dw_dwarf.proofs.Left.{dwarf_left}
+use Rattle.dw_dwarf.proofs.FileHeld.{file_held}
 use Rattle.dw_dwarf.proofs.Held.{writes_whole, dwarf_held, dwarf_resolved}
 use Rattle.dw_dwarf.proofs.Complete.{whole_valid, whole_refused, dwarf_complete}
 use Rattle.dw_dwarf.proofs.RestSections.{completes_after, lines_after, ranges_after, strings_after, rest_because, rest_memory, refuses_any, others_after, fixups_after, starts_after}
@@ -60,6 +61,22 @@ returns-clause-built g c =
     dwarf_held meaning old new d (writes_whole meaning old new d c.write.new.self empty.fixups unwritten any) g.met.W.Writer.plain_records_nothing empty unwritten
     (lines_after meaning old mid new d c.in_ok-write.ensures.lines lines) (ranges_after meaning old mid new d.units same c.in_ok-write.ensures.ranges) c.in_ok-write.ensures.writable
     (strings_after meaning old mid new d.line_strings d.strings (ap (λ s. s.debug_line_str) others) (ap (λ s. s.debug_str) others) strings) (others_after meaning old mid new others same))
+
+pub returns-clause-whole : goal.returns-clause-whole
+returns-clause-whole g c =
+    let meaning = g.W.Writer.meaning in
+    let old = c.args.sections.now in
+    let mid = c.write.new.sections in
+    let new = c.write_rest.new.sections in
+    let d = dwarf_in c.args.self.now in
+    let others = c.in_ok-write.ensures.others in
+    let same = c.write_rest.ensures.others in
+    let any = completes_after meaning old mid new d.units c.write.new.self (found_in meaning old d) same c.in_ok-write.ensures.completes in
+    let programs = rw c.as_slice.ensures.value at c.write_rest.ensures.lines in
+    OnOk-both c.write_rest.result programs c.write_rest.ensures.strings
+    (λ lines strings.
+    file_held meaning g.met.W.Writer.plain_records_nothing old new d c.write.new.self any (lines_after meaning old mid new d c.in_ok-write.ensures.lines lines) (ranges_after meaning old mid new d.units same c.in_ok-write.ensures.ranges)
+    c.in_ok-write.ensures.writable (strings_after meaning old mid new d.line_strings d.strings (ap (λ s. s.debug_line_str) others) (ap (λ s. s.debug_str) others) strings) (others_after meaning old mid new others same))
 
 pub returns-clause-resolves : goal.returns-clause-resolves
 returns-clause-resolves g c =
@@ -238,3 +255,6 @@ returns-in_err-write-clause-marked g c = rw (err_from_is_err_and c.from_residual
 
 pub returns-in_err-write-clause-valid : goal.returns-in_err-write-clause-valid
 returns-in_err-write-clause-valid g c = rw (err_from_is_err_and c.from_residual.result c.from_residual.ensures.1).1 tt
+
+pub returns-in_err-write-clause-whole : goal.returns-in_err-write-clause-whole
+returns-in_err-write-clause-whole g c = rw (err_from_is_err_and c.from_residual.result c.from_residual.ensures.1).1 tt

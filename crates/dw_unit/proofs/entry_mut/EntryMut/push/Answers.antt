@@ -1,5 +1,4 @@
 use Rattle.std.proofs.Common.{◌∙◌, ap, length, arith}
-use Rattle.dw_entries.specs.Entries.{value_of}
 use Rattle.dw_entries.proofs.Named.{past_sibling}
 use Rattle.dw_unit.proofs.entry_mut.EntryMut.push.Goals as goal
 

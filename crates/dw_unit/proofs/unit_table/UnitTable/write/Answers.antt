@@ -9,6 +9,7 @@ use Rattle.dw_unit.specs.Filled.{FillsAll, AreAllFillable, open_fail}
 use Rattle.dw_tree.specs.Pending.{info_at, starts_of}
 use Rattle.dw_tree.specs.Elsewhere.{AppendsLines, AppendsAllRanges, elsewhere}
 use Rattle.dw_unit.proofs.Complete.{units_complete}
+use Rattle.dw_unit.proofs.FileCompleted.{all_units_held}
 use Rattle.dw_unit.proofs.TableSteps.{stopped_after}
 use Rattle.dw_unit.proofs.TableWritten.{units_refused, all_completed, all_refused}
 use Rattle.dw_unit.proofs.unit_table.UnitTable.write.Goals as goal
@@ -46,6 +47,10 @@ returns-clause-completes g c before us ks none first =
     let fills = subst (λ t. FillsAll meaning now new (info_at t)) is c.in_ok-fill_all.ensures.ok in
     let sound = subst (λ t. (err : Error) → IsFalse (open_fail meaning now (info_at t) err)) is c.in_ok-fill_all.ensures.sound in
     all_completed meaning before c.args.sections.now now (elsewhere meaning c.args.sections.now c.args.line_strings.now c.args.strings.now) c.args.self.now table us ks none first c.in_ok-write_units.ensures.pending _ (record { units = fills.units; locations = fills.locations; location_lists = fills.location_lists }) (ap (λ s. meaning s.debug_abbrev.0) c.in_ok-fill_all.ensures.others) sound
+
+pub returns-clause-built : goal.returns-clause-built
+returns-clause-built g c =
+    all_units_held g.W.Writer.meaning g.met.W.Writer.plain_records_nothing c.args.sections.now _ c.args.line_strings.now c.args.strings.now c.args.self.now c.write_units.new.self (returns-clause-completes g c)
 
 pub returns-in_err-write_units-clause-complete : goal.returns-in_err-write_units-clause-complete
 returns-in_err-write_units-clause-complete g c can calm =
