@@ -21,6 +21,7 @@ mod unit_section;
 mod unit_values;
 mod units;
 mod whole_unit;
+mod written_unit;
 
 pub use convert_unit::ConvertUnit;
 pub use entries::convert_entries;
