@@ -65,7 +65,7 @@ const TWO_BEHIND: File = File {
 
 /// The program of a unit of version 5, with a directory and a file by their places among the line
 /// strings (DWARF 5, 6.2.4), which the root's `DW_AT_decl_file` names.
-const ONE_PROGRAM: File = File {
+pub(crate) const ONE_PROGRAM: File = File {
     abbrev: b"\x01\x11\x00\x3a\x0f\x10\x17\x00\x00\x00",
     line_strings: b"/tmp\x00a.c\x00",
     line: b"\x2d\x00\x00\x00\x05\x00\x08\x00\x25\x00\x00\x00\x01\x01\x01\xfb\x0e\x0d\
@@ -267,7 +267,12 @@ fn convert_by_section(read: &ReadDwarf<Slice>, dwarf: &mut Dwarf, way: Way) -> C
 }
 
 /// Converts a file in a way.
-fn convert(alloc: Global, way: Way, file: &'static File, dwarf: &mut Dwarf) -> ConvertResult<()> {
+pub(crate) fn convert(
+    alloc: Global,
+    way: Way,
+    file: &'static File,
+    dwarf: &mut Dwarf,
+) -> ConvertResult<()> {
     let read = sections_of(file, RunTimeEndian::Little);
     match way {
         Way::AtOnce => convert_units(

@@ -15,6 +15,8 @@ mod converting;
 #[cfg(test)]
 mod entry_tests;
 #[cfg(test)]
+mod failing;
+#[cfg(test)]
 mod filling;
 #[cfg(test)]
 mod filtered_files;
@@ -22,6 +24,8 @@ mod filtered_files;
 mod filtering;
 #[cfg(test)]
 mod finding;
+#[cfg(test)]
+mod freeing;
 #[cfg(test)]
 mod line_programs;
 #[cfg(test)]

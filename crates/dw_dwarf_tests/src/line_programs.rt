@@ -11,11 +11,11 @@ use dw_read_lines::IncompleteLineProgram;
 use dw_read_units::Dwarf as ReadDwarf;
 
 /// The strings that the program names: its working directory at 0, its file at 5.
-const READ_STRINGS: &[u8] = b"/tmp\x00a.c\x00";
+pub(crate) const READ_STRINGS: &[u8] = b"/tmp\x00a.c\x00";
 
 /// Version 5: a directory and a file by their places, and two rows at 0x1000 and 0x1004 of a
 /// sequence that ends at 0x1010 (DWARF 5, 6.2.4, 6.2.5 and 7.22).
-const READ: &[u8] = &[
+pub(crate) const READ: &[u8] = &[
     0x4b, 0, 0, 0, 5, 0, 8, 0, 0x25, 0, 0, 0, 1, 1, 1, 0xfb, 0x0e, 0x0d, 0, 1, 1, 1, 1, 0, 0, 0, 1,
     0, 0, 1, 1, 1, 0x1f, 1, 0, 0, 0, 0, 2, 1, 0x1f, 2, 0x0f, 1, 5, 0, 0, 0, 0, 0, 9, 2, 0, 0x10, 0,
     0, 0, 0, 0, 0, 4, 0, 5, 5, 3, 2, 1, 5, 0, 3, 1, 2, 4, 1, 2, 0x0c, 0, 1, 1,

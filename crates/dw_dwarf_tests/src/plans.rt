@@ -103,7 +103,7 @@ fn is_as_planned(unit: &Unit, plan: &Plan) -> bool {
 }
 
 /// Tells whether these are the units of the plans, as these want them.
-fn are_as_planned(units: &UnitTable, plans: &[Plan]) -> bool {
+pub(crate) fn are_as_planned(units: &UnitTable, plans: &[Plan]) -> bool {
     for (id, unit) in units.iter() {
         match plans.get(id.index()) {
             Some(plan) if is_as_planned(unit, plan) => {}
@@ -146,14 +146,4 @@ pub(crate) fn write_plans<W: Writer>(
     let told = write_twice(alloc, &mut dwarf, plans, sections);
     drop(dwarf);
     told
-}
-
-/// Adds a root to a `Dwarf`, and writes it once.
-pub(crate) fn write_root<W: Writer>(
-    alloc: Global,
-    dwarf: &mut Dwarf,
-    sections: &mut Sections<W>,
-) -> Result<Told> {
-    add_units(alloc, &mut dwarf.units, ONE_ROOT)?;
-    Ok(write(dwarf, ONE_ROOT, sections))
 }

@@ -3,7 +3,7 @@
 use crate::filtering::Way;
 use crate::table_files::{FILES, endian};
 use crate::writing::{Job, write};
-use crate::{alone, converting, filtering, line_programs, splitting, units};
+use crate::{alone, converting, filtering, freeing, line_programs, splitting, units};
 use dw_dwarf::{Error, RunTimeEndian};
 use std::alloc::Global;
 
@@ -42,6 +42,14 @@ fn fills_in_what_a_unit_leaves_open(rt: HostRuntime) {
 fn writes_what_it_converts(rt: HostRuntime) {
     for (name, row) in converting::rows() {
         let is_so = is_answered(rt.alloc(), LITTLE, Job::Conversion(*row), None);
+        assert!(rt; is_so, "{name}");
+    }
+}
+
+#[test]
+fn writes_units_as_it_converts_them(rt: HostRuntime) {
+    for (name, row, refusal) in freeing::rows() {
+        let is_so = is_answered(rt.alloc(), LITTLE, Job::Freeing(row), *refusal);
         assert!(rt; is_so, "{name}");
     }
 }
@@ -115,34 +123,53 @@ fn reads_and_converts_back(rt: HostRuntime) {
     }
 }
 
-/// Whether a root is written where the calls of these numbers fail, or else a fault is told and the
-/// unit isn't written.
-fn is_root_written(alloc: Global, failing: Vec<u64>) -> Option<bool> {
-    match write(alloc, LITTLE, failing, Job::Root) {
+/// Jobs that are tried with each call failing in turn, and what is told of them beside the fault:
+/// of the file that its units are left as they may be then, of units that are written as soon as
+/// they are converted that not all is as it is to be.
+const FAULTY: [(&str, Job, bool); 2] = [
+    ("a file", Job::Failing, true),
+    (
+        "units that are converted",
+        Job::Freeing(freeing::EACH_WRITTEN),
+        false,
+    ),
+];
+
+/// Whether a job writes all where the calls of these numbers fail, or else a fault is told, and this
+/// beside it.
+fn is_written(alloc: Global, failing: Vec<u64>, job: Job, at_fault: bool) -> Option<bool> {
+    match write(alloc, LITTLE, failing, job) {
         Ok((None, true)) => Some(true),
-        Ok((Some(Error::WriteFault), false)) => Some(false),
+        Ok((Some(Error::WriteFault), told)) if told == at_fault => Some(false),
         _ => None,
     }
 }
 
 /// The same where one call fails.
-fn is_root_written_in_spite(alloc: Global, call: u64) -> Option<bool> {
+fn is_written_in_spite(alloc: Global, call: u64, job: Job, at_fault: bool) -> Option<bool> {
     match vec![in alloc; call] {
-        Ok(failing) => is_root_written(alloc, failing),
+        Ok(failing) => is_written(alloc, failing, job, at_fault),
         Err(_) => None,
     }
 }
 
-/// Each fault is told, and the unit isn't written then, until there is none.
+/// The first call without which a job writes all, or the first one that is answered otherwise.
+fn first_unneeded(alloc: Global, job: Job, at_fault: bool) -> Result<u64, u64> {
+    for call in 0..200 {
+        match is_written_in_spite(alloc, call, job, at_fault) {
+            Some(true) => return Ok(call),
+            Some(false) => {}
+            None => return Err(call),
+        }
+    }
+    Err(200)
+}
+
+/// Each fault is told, until there is none.
 #[test]
 fn answers_each_fault(rt: HostRuntime) {
-    let mut failed = false;
-    let mut written = false;
-    for call in 0..20 {
-        let is_written = is_root_written_in_spite(rt.alloc(), call);
-        assert!(rt; is_written.is_some(), "{call}");
-        failed |= is_written == Some(false);
-        written |= is_written == Some(true);
+    for (name, job, at_fault) in FAULTY {
+        let unneeded = first_unneeded(rt.alloc(), job, at_fault);
+        assert!(rt; unneeded.is_ok_and(|call| call > 0), "{name}: {unneeded:?}");
     }
-    assert!(rt; failed && written);
 }

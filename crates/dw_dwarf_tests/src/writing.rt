@@ -4,10 +4,12 @@ ghost use Rattle.dw_writer.specs.Sections.{NoFixups};
 
 use crate::alone::{Alone, write_alone};
 use crate::converting::{Conversion, write_converted};
+use crate::failing::write_failing;
 use crate::filling::fill_in;
 use crate::filtering::{Filtering, Way, write_filtered};
+use crate::freeing::{Freeing, write_freed};
 use crate::line_programs::{Program, write_program};
-use crate::plans::{Told, write_root};
+use crate::plans::Told;
 use crate::splitting::{Splitting, write_split};
 use crate::table_files::write_file;
 use crate::units::{Units, write_units};
@@ -21,18 +23,19 @@ pub(crate) type Written = Sections<FaultVec<RunTimeEndian>>;
 /// What is written.
 #[derive(Clone, Copy)]
 pub(crate) enum Job {
-    /// A root alone, once.
-    Root,
     Units(&'static Units),
     Alone(Alone),
     Program(Program),
     Conversion(Conversion),
     Filtering(RunTimeEndian, Way, Filtering),
     Splitting(RunTimeEndian, Splitting),
+    Freeing(&'static Freeing),
     /// The file of a number of `table_files`.
     File(usize),
     /// What `filling` writes step by step.
     Filling,
+    /// The file of `failing`.
+    Failing,
 }
 
 /// Drops a value. What owns much is handed on to be dropped, so that its owner's proof doesn't go
@@ -49,15 +52,16 @@ fn write_into(alloc: Global, job: Job, dwarf: &mut Dwarf, sections: &mut Written
     requires { NoFixups sections.old }
 {
     match job {
-        Job::Root => write_root(alloc, dwarf, sections),
         Job::Units(units) => write_units(alloc, units, sections),
         Job::Alone(alone) => write_alone(alloc, alone, sections),
         Job::Program(program) => write_program(program, dwarf, sections),
         Job::Conversion(conversion) => write_converted(alloc, conversion, dwarf, sections),
         Job::Filtering(endian, way, row) => write_filtered(alloc, endian, way, row, sections),
         Job::Splitting(endian, row) => write_split(alloc, endian, row, dwarf, sections),
+        Job::Freeing(job) => write_freed(job, dwarf, sections),
         Job::File(file) => write_file(alloc, file, dwarf, sections),
         Job::Filling => fill_in(alloc, dwarf, sections),
+        Job::Failing => write_failing(alloc, dwarf, sections),
     }
 }
 
