@@ -135,8 +135,8 @@ const FAULTY: [(&str, Job, bool); 2] = [
     ),
 ];
 
-/// Whether a job writes all where the calls of these numbers fail, or else a fault is told, and this
-/// beside it.
+/// Whether a job writes all where the calls of these numbers fail, or else a fault is told, and
+/// this beside it.
 fn is_written(alloc: Global, failing: Vec<u64>, job: Job, at_fault: bool) -> Option<bool> {
     match write(alloc, LITTLE, failing, job) {
         Ok((None, true)) => Some(true),

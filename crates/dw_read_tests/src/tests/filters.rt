@@ -163,7 +163,7 @@ fn files() -> &'static [File] {
     FILES
 }
 
-/// Reads a unit's next entry and requires the one at an offset, and tells whether an entry was read.
+/// Reads a unit's next entry, requires the one at an offset, and tells whether an entry was read.
 fn read_and_require(
     unit: &mut FilterUnit<'_, Slice<'_>>,
     offset: UnitOffset,
@@ -176,7 +176,7 @@ fn read_and_require(
     unit.read_entry(&mut entry)
 }
 
-/// Hands out the next unit, and does this. It answers the low address and whether an entry was read.
+/// Hands out the next unit, and does this. Answers the low address and whether an entry was read.
 fn pass(
     section: &mut FilterUnitSection<'_, Slice<'_>>,
     offset: UnitOffset,
